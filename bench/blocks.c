@@ -1,4 +1,4 @@
-// The plain C that crates/bench_blocks is measured against: rows of 600 words of __int128 for a chain of 4,000
+// The plain C that `blocks` of crates/bench is measured against: rows of 600 words of __int128 for a chain of 4,000
 // nodes, each copied from the row before it and compared with it word by word.
 #include <stdio.h>
 #include <stdlib.h>

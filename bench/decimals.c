@@ -1,4 +1,4 @@
-// The plain C that crates/bench_decimals is measured against: the same inputs, the same sums, __int128.
+// The plain C that `decimals` of crates/bench is measured against: the same inputs, the same sums, __int128.
 #include <stdint.h>
 #include <stdio.h>
 #include <stdlib.h>

@@ -1,4 +1,4 @@
-// The plain C that crates/bench_matrices is measured against: the algorithm of Floyd and Warshall on __int128,
+// The plain C that `matrices` of crates/bench is measured against: the algorithm of Floyd and Warshall on __int128,
 // which cuts each sum at once, on the same matrices.
 #include <stdint.h>
 #include <stdio.h>

@@ -1,5 +1,6 @@
 """Calls of libraries: the text of a source, its tokens, what items hold, and decimals, answered by the program
-case_driver; and certificates, read and printed again by bench_certificate. Files without `by_rule` in their name hold
+case_driver; and certificates, read and printed again by bench, with what its other
+measures show of small inputs. Files without `by_rule` in their name hold
 reference cases."""
 
 import itertools
@@ -8,7 +9,7 @@ import subprocess
 from tests.built import Case, program
 from tests.reference import CERTIFICATE, cases_of
 
-PROGRAMS = ("case_driver", "bench_certificate")
+PROGRAMS = ("case_driver", "bench")
 
 
 def hexadecimal(text):
@@ -110,11 +111,19 @@ def certificates():
 
 
 def of_certificates():
-    path = program("bench_certificate")
+    path = program("bench")
     for name, text, refused in certificates():
-        case = Case(name, ["C"], {"C": text}, 0, f"{refused}\n" if refused else text)
+        case = Case(name, ["certificate", "C"], {"C": text}, 0, f"{refused}\n" if refused else text)
+        yield lambda case=case: case.tried(path)
+
+
+def of_measures():
+    """What a measure shows beside its times."""
+    path = program("bench")
+    for name, case in cases_of("measures_by_rule.jsonl"):
+        case = Case(name, case["words"], case["files"], 0, case["out"])
         yield lambda case=case: case.tried(path)
 
 
 def checks():
-    return itertools.chain(of_the_driver(), of_certificates())
+    return itertools.chain(of_the_driver(), of_certificates(), of_measures())

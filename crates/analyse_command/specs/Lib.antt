@@ -1,6 +1,8 @@
 pub mod Analysis
 pub mod Endings
 pub mod Steps
+pub mod TrialEndings
+pub mod TrialSteps
 pub use Rattle.check_command.specs.Answers
 pub use Rattle.check_command.specs.Shared
 pub use Rattle.check_command.specs.Types

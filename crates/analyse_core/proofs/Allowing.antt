@@ -10,7 +10,7 @@ use Rattle.cell_rows.specs.Elements.{Element, CellsFit, ElementFits}
 use Rattle.cell_rows.proofs.AllCells.{fits_length}
 use Rattle.cert_text.specs.Allowed.{bounds_fit, claim_fits, claims_fit, no_key, place_fits, places_all_fit}
 use Rattle.claimed_rows.specs.Gaps.{IsSmall}
-use Rattle.row_bounds.specs.Bounds.{row_bounds}
+use Rattle.claimed_rows.specs.Bounds.{row_bounds}
 use Rattle.analyse_core.specs.Certificates.{claim, claims_from, place_for}
 
 module _ (cells : ℕ) where

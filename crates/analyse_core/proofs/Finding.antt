@@ -19,14 +19,14 @@ use Rattle.cell_steps.specs.Homes.{owns}
 use Rattle.cell_laws.specs.Layer.{cell_flow, clears_at, statement_at}
 use Rattle.cert_text.specs.View.{Certificate}
 use Rattle.cert_text.specs.Allowed.{IsAllowed}
-use Rattle.claimed_matrices.specs.Claims as matrices
+use Rattle.claimed_rows.specs.MatrixClaims as matrices
 use Rattle.pack_rows.specs.Rows.{matrices_in, packs_lattice}
 use Rattle.pack_laws.specs.Layer.{clears_at2, sizes_of}
 use Rattle.pack_laws.specs.Laws.{AreBelow}
 use Rattle.pack_laws.proofs.Clears.{cleared_stays}
 use Rattle.pack_laws.proofs.Flow.{posts_fall}
 use Rattle.pack_choice.specs.Choice.{packs_of}
-use Rattle.row_bounds.proofs.Fitting.{bounds_are_fit}
+use Rattle.claimed_rows.proofs.Fitting.{bounds_are_fit}
 use Rattle.cert_check.specs.OpenPairs.{all_kinds, if_open, is_cleared_by, node_clears_by, open_at}
 use Rattle.cert_check.specs.Claims.{bounds_at, cell_leaks, cells_clear, claims_at, claims_clear, clears_with, is_cleared, leaks, open_of, open_pairs, opens_of, pack_leaks, row_at}
 use Rattle.cert_check.specs.Checking.{Accepts}

@@ -22,8 +22,8 @@ use Rattle.cell_laws.specs.Entry.{entry_cells}
 use Rattle.cell_laws.specs.Layer.{cell_flow, post_at}
 use Rattle.cert_text.specs.View.{Certificate, Place}
 use Rattle.claimed_rows.specs.Claims.{place_at}
-use Rattle.claimed_matrices.specs.Claims as matrices
-use Rattle.claimed_matrices.proofs.Standing.{rows_are_least}
+use Rattle.claimed_rows.specs.MatrixClaims as matrices
+use Rattle.claimed_rows.proofs.Standing.{rows_are_least}
 use Rattle.diff_steps.specs.Packs.{Pack}
 use Rattle.diff_steps.specs.Edges.{bottoms}
 use Rattle.pack_rows.specs.Rows.{matrices_in, row_of, packs_lattice}
@@ -36,7 +36,7 @@ use Rattle.pack_laws.proofs.Flow.{packs_flow}
 use Rattle.pack_laws.proofs.Packed.{HasDistinctHomes}
 use Rattle.pack_choice.specs.Choice.{packs_of}
 use Rattle.pack_choice.specs.PackThresholds.{thresholds_of_pack}
-use Rattle.row_bounds.proofs.Meaning.{bounds_mean}
+use Rattle.claimed_rows.proofs.Meaning.{bounds_mean}
 use Rattle.cert_check.specs.Claims.{bounds_row, row_at}
 use Rattle.cert_check.proofs.BoundsKept.{sizes_are}
 use Rattle.cert_check.proofs.LayerLaws.{LayerLaws, layer_laws}

@@ -16,8 +16,8 @@ use Rattle.decimal_interval.specs.declared.bounds.Interval.{Interval}
 use Rattle.cell_steps.specs.Homes.{owns}
 use Rattle.cert_text.specs.Allowed.{packs_fit}
 use Rattle.claimed_rows.specs.Gaps.{IsSmall}
-use Rattle.claimed_matrices.specs.Claims.{cells_in, sizes_of}
-use Rattle.claimed_matrices.proofs.Allowing.{claims_fit_there}
+use Rattle.claimed_rows.specs.MatrixClaims.{cells_in, sizes_of}
+use Rattle.claimed_rows.proofs.Allowing.{claims_fit_there}
 use Rattle.diff_bounds.specs.declared.Pack as declared
 use Rattle.diff_bounds.specs.Widening.{AreThresholds}
 use Rattle.pack_laws.specs.Packs.{ArePacksOfCells}

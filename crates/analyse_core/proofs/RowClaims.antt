@@ -15,7 +15,7 @@ use Rattle.cell_steps.specs.Homes.{owns}
 use Rattle.cell_laws.specs.Layer.{cell_flow}
 use Rattle.cert_text.specs.View.{Certificate}
 use Rattle.claimed_rows.specs.Claims.{claimed_row, place_at}
-use Rattle.claimed_matrices.specs.Claims.{sizes_of}
+use Rattle.claimed_rows.specs.MatrixClaims.{sizes_of}
 use Rattle.cert_check.specs.Claims.{cell_leaks, claims_at, row_at}
 use Rattle.cert_check.specs.Checking.{HasShape}
 use Rattle.cert_check.proofs.Accepting.{claimed, claimed_back}

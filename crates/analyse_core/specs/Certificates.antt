@@ -9,8 +9,8 @@ use Rattle.cell_rows.specs.Rows.{IsSaid, element_of}
 use Rattle.cert_text.specs.declared.cert.Claim.{Claim}
 use Rattle.cert_text.specs.View.{Place, NotReached, Holds, Certificate}
 use Rattle.claimed_rows.specs.Gaps.{AreSmall}
-use Rattle.claimed_matrices.specs.Claims.{sizes_of}
-use Rattle.row_bounds.specs.Bounds.{row_bounds}
+use Rattle.claimed_rows.specs.MatrixClaims.{sizes_of}
+use Rattle.claimed_rows.specs.Bounds.{row_bounds}
 
 abbrev pub claim : ℕ → Interval → Claim
 claim cell i = record { cell = cell; low = i.low; high = i.high }

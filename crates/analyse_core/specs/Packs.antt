@@ -15,7 +15,7 @@ use Rattle.diff_steps.specs.Packs.{Pack}
 use Rattle.pack_laws.specs.Packs.{pack_in}
 use Rattle.pack_laws.specs.Layer.{Facts, diff_lattice, diff_flow}
 use Rattle.pack_rows.specs.Rows.{lists_of}
-use Rattle.claimed_matrices.specs.Claims.{cells_in}
+use Rattle.claimed_rows.specs.MatrixClaims.{cells_in}
 use Rattle.pack_choice.specs.Choice.{packs_of}
 use Rattle.pack_choice.specs.PackThresholds.{thresholds_of_pack}
 use Rattle.analyse_core.specs.Thresholds.{thresholds_of}

@@ -4,7 +4,7 @@ ghost use Rattle.std.specs.List.{AllByRecursion};
 ghost use Rattle.cell_rows.specs.Rows.{IsReached, cells_of, element_of};
 ghost use Rattle.cert_text.specs.View.{place_of, view};
 ghost use Rattle.claimed_rows.specs.Gaps.{AreSmall, IsSmall};
-ghost use Rattle.claimed_matrices.specs.Claims.{cells_in, sizes_of};
+ghost use Rattle.claimed_rows.specs.MatrixClaims.{cells_in, sizes_of};
 ghost use Rattle.pack_rows.specs.Rows.{width_of};
 ghost use Rattle.analyse_core.specs.Certificates.{
   CanBeClaimed,
@@ -17,10 +17,10 @@ ghost use Rattle.analyse_core.specs.Certificates.{
 
 use cell_rows::{is_reached, known_at};
 use cert_text::{Cert, Claim, Element};
+use claimed_rows::bounds_of;
 use decimal_interval::Interval;
 use diff_bounds::Pack;
 use dom_laws::Rows;
-use row_bounds::bounds_of;
 use std::alloc::{AllocError, Global};
 
 // An end has at most 18 digits.

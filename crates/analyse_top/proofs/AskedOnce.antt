@@ -14,7 +14,7 @@ use Rattle.analyse_command.specs.Shared.Answer.{Answer, Usage, Absent, Refused, 
 use Rattle.analyse_command.proofs.Shared.Found.{held_bytes}
 use Rattle.analyse_command.proofs.Shared.Sources.{no_cause}
 use Rattle.trial_source.specs.Trial.{trial_text}
-use Rattle.trial_command.specs.Endings.{AnswersTrial}
+use Rattle.analyse_command.specs.TrialEndings.{AnswersTrial}
 use Rattle.run_command.specs.Runs.{Task, HoldsTask, AsksFor}
 use Rattle.run_command.proofs.Asked.{answer_or_task, one_held_task}
 use Rattle.analyse_top.specs.Answers.{Answers, AnswersCommand}

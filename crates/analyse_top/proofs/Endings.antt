@@ -18,7 +18,7 @@ use Rattle.analyse_command.specs.Shared.Showing.{Gains, GainsFront, ShowsRefusal
 use Rattle.analyse_command.specs.Shared.Call.{Call}
 use Rattle.analyse_command.specs.Shared.Steps.{Reads, stopped_by_fault, ShowsAnswer, ShowsFound}
 use Rattle.analyse_command.specs.Shared.View.{plain_answer, plain_result}
-use Rattle.trial_command.specs.Endings.{AnswersTrial}
+use Rattle.analyse_command.specs.TrialEndings.{AnswersTrial}
 use Rattle.analyse_top.specs.Answers.{Answers, AnswersCommand, IfKnown}
 use Rattle.analyse_top.specs.Conclusion.{EndsBy, EndsByAnswer, MayBeShown}
 

@@ -8,7 +8,7 @@ use Rattle.analyse_command.specs.Shared.Answer.{Answer, Usage, Absent, Refused, 
 use Rattle.analyse_command.proofs.Shared.Sources.{Ending, EndsIn, read, refused}
 use Rattle.analyse_command.proofs.OneCheck.{TextsAreApart, one_for_check}
 use Rattle.trial_source.specs.Trial.{trial_text}
-use Rattle.trial_command.specs.Endings.{AnswersTrial}
+use Rattle.analyse_command.specs.TrialEndings.{AnswersTrial}
 use Rattle.run_command.specs.Runs.{AnswersRun}
 use Rattle.analyse_top.specs.Answers.{Answers, AnswersCommand}
 

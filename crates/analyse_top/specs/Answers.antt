@@ -5,7 +5,7 @@ use Rattle.command_words.specs.Commands.{Command, IsCommand}
 use Rattle.command_words.specs.Commands as command
 use Rattle.analyse_command.specs.Shared.Answer.{Answer, Usage, AnswersSource, is_usage}
 use Rattle.analyse_command.specs.Answers.{AnswersCheck}
-use Rattle.trial_command.specs.Endings.{AnswersTrial}
+use Rattle.analyse_command.specs.TrialEndings.{AnswersTrial}
 use Rattle.run_command.specs.Runs.{AnswersRun, BlamesIfUsage}
 
 -- ---- the words

@@ -36,7 +36,7 @@ use Rattle.analyse_command.specs.Answers.{HoldsCertificate, certificate_limit}
 use Rattle.analyse_command.specs.Analysis.{Analysis, CanBeClean, IsAnalysisOf, pairs_of, report_of, text_of}
 use Rattle.analyse_command.specs.Endings.{IsTooLong, EndsByAnalysis}
 use Rattle.trial_source.specs.Trial.{trial_text}
-use Rattle.trial_command.specs.Endings.{EndsByTrial, IsTrialOf, nodes_line, trial_name}
+use Rattle.analyse_command.specs.TrialEndings.{EndsByTrial, IsTrialOf, nodes_line, trial_name}
 use Rattle.run_command.specs.Runs.{Task, HoldsTask, AsksFor, RunsTo}
 use Rattle.analyse_top.specs.Answers.{Answers}
 

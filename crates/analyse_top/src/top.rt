@@ -10,7 +10,7 @@ ghost use Rattle.analyse_top.specs.Answers.{first_word};
 ghost use Rattle.analyse_top.specs.Conclusion.{Concludes, IsExact, AcceptsExactly, AnalysesAreAccepted, CleanIsSafe, CleanRunsMeetNoFault, FindsClean, LongTextsAreOfLargePrograms, ReportsAreComplete, TrialsAreAccepted};
 
 use analyse_command::answers::{Answer, Stop, accepted_claims_cover_runs, show_found};
-use analyse_command::{check, findings_for, tell};
+use analyse_command::{TRIAL_NAME, check, findings_for, tell, trial_findings};
 use batch_io::{Files, Sink};
 use cert_text::{no_bad_line, one_place, one_spelling, texts_of_certificates_are_short};
 use cob_front::one_answer;
@@ -20,7 +20,6 @@ use command_words::{Command, RunWords, command_of, one_reading};
 use run_command::{run, task_for};
 use source_facts::sources_have_source_graphs;
 use std::alloc::Global;
-use trial_command::{TRIAL_NAME, trial_findings};
 
 /// Runs the command that the words name, without the program's own name. It shows its report, the text that a run
 /// shows, or the one line of a refusal, in `out`, and gives the process's status.

@@ -17,10 +17,10 @@ use Rattle.cell_steps.specs.Homes.{homes_of, owns}
 use Rattle.cert_text.specs.View.{Certificate}
 use Rattle.claimed_rows.specs.declared.gap.Gap.{Gap}
 use Rattle.claimed_rows.specs.Claims.{claimed_row, place_at}
-use Rattle.claimed_matrices.specs.Claims.{cells_in}
-use Rattle.claimed_matrices.specs.Claims as matrices
-use Rattle.claimed_matrices.specs.Gaps as of_matrices
-use Rattle.claimed_matrices.proofs.Allowing.{claims_fit_there}
+use Rattle.claimed_rows.specs.MatrixClaims.{cells_in}
+use Rattle.claimed_rows.specs.MatrixClaims as matrices
+use Rattle.claimed_rows.specs.MatrixGaps as of_matrices
+use Rattle.claimed_rows.proofs.Allowing.{claims_fit_there}
 use Rattle.diff_bounds.specs.declared.Pack as declared
 use Rattle.diff_steps.specs.Packs.{Pack}
 use Rattle.pack_rows.specs.Rows.{width_of, lists_of}

@@ -23,13 +23,13 @@ use Rattle.claimed_rows.specs.Claims.{place_at}
 use Rattle.claimed_rows.specs.declared.gap.Gap.{Gap}
 use Rattle.diff_bounds.specs.Lattice.{matrix_of, bottom_word}
 use Rattle.pack_rows.specs.Rows.{words_of, matrices_in, row_of, packs_lattice}
-use Rattle.claimed_matrices.specs.Claims.{claimed_matrix, claimed_matrices, claimed_word, least_matrices, matrices_from}
-use Rattle.claimed_matrices.specs.Claims as matrices
-use Rattle.claimed_matrices.specs.Gaps as of_matrices
-use Rattle.claimed_matrices.proofs.Filling.{matrix_width}
-use Rattle.claimed_matrices.proofs.Standing.{rows_are_elements}
-use Rattle.claimed_matrices.proofs.Telling.{gaps_tell}
-use Rattle.claimed_matrices.proofs.Allowing.{claims_fit_there}
+use Rattle.claimed_rows.specs.MatrixClaims.{claimed_matrix, claimed_matrices, claimed_word, least_matrices, matrices_from}
+use Rattle.claimed_rows.specs.MatrixClaims as matrices
+use Rattle.claimed_rows.specs.MatrixGaps as of_matrices
+use Rattle.claimed_rows.proofs.MatrixFilling.{matrix_width}
+use Rattle.claimed_rows.proofs.Standing.{rows_are_elements}
+use Rattle.claimed_rows.proofs.MatrixTelling.{gaps_tell}
+use Rattle.claimed_rows.proofs.Allowing.{claims_fit_there}
 use Rattle.diff_steps.specs.Packs.{Pack, size_of}
 use Rattle.pack_laws.specs.Layer.{AreFacts, ArePacks, sizes_of, diff_lattice, diff_flow, diff_meaning, clears_at2, packs_post}
 use Rattle.pack_laws.specs.Packs.{home_at, pack_in}

@@ -10,8 +10,8 @@ use Rattle.cell_rows.specs.Elements.{Element}
 use Rattle.claimed_rows.specs.declared.gap.Gap.{Gap}
 use Rattle.claimed_rows.specs.Claims.{claimed_element, claimed_row, place_at}
 use Rattle.claimed_rows.specs.Gaps.{gaps}
-use Rattle.claimed_matrices.specs.Claims as matrices
-use Rattle.claimed_matrices.specs.Gaps as matrices_gaps
+use Rattle.claimed_rows.specs.MatrixClaims as matrices
+use Rattle.claimed_rows.specs.MatrixGaps as matrices_gaps
 use Rattle.graph_runs.specs.Places.{edge_at}
 use Rattle.cell_steps.specs.Homes.{homes_of, owns}
 use Rattle.cell_laws.specs.Entry.{entry_cells}

@@ -3,7 +3,7 @@ ghost use Rattle.std.specs.Prelude.{◌≡◌, ◌≢◌, ◌≤◌, [], length,
 ghost use Rattle.cob_program.specs.ActView.{plain_program};
 ghost use Rattle.dom_laws.specs.Lattice.{IsElement};
 ghost use Rattle.cert_text.specs.View.{view};
-ghost use Rattle.claimed_matrices.specs.Claims.{cells_in};
+ghost use Rattle.claimed_rows.specs.MatrixClaims.{cells_in};
 ghost use Rattle.pack_rows.specs.Rows.{lists_of};
 ghost use Rattle.pack_laws.specs.Layer.{diff_lattice, diff_flow};
 ghost use Rattle.cert_check.specs.Along.{arrives};
@@ -17,8 +17,7 @@ use crate::ends::CheckEnd;
 use crate::nodes::open_pairs;
 use crate::rows::ClaimedRows;
 use cert_text::Cert;
-use claimed_matrices::first_gap;
-use claimed_rows::Gap;
+use claimed_rows::{Gap, first_matrix_gap};
 use cob_graph::Graph;
 use cob_program::Program;
 use cob_tree::Open;
@@ -54,7 +53,7 @@ fn gap_at(layer: &DiffLayer<ClaimedRows>, rows: &ClaimedBounds, edge: u32, out: 
     ensures { let p = plain_program layer.now.program.now in let g = layer.now.graph.now in
         slice_get (pack_gaps p g (view layer.now.facts.now.cert.now) edge) 0 ≡ Some result }
 {
-    match first_gap(layer.packs, out, rows.row(led_to(layer, edge))) {
+    match first_matrix_gap(layer.packs, out, rows.row(led_to(layer, edge))) {
         Some(gap) => gap,
         None => unreachable!(),
     }

@@ -20,8 +20,8 @@ use Rattle.diff_steps.specs.Steps.{all_closed}
 use Rattle.diff_steps.specs.Edges.{bottoms, or_bottoms, no_bounds, entry_packs}
 use Rattle.pack_rows.specs.Rows.{width_of, matrices_in, row_of, matrices_beside}
 use Rattle.pack_laws.specs.Agreeing.{AreMatrices}
-use Rattle.pack_walk.specs.declared.plans.PackPlan.{PackPlan}
-use Rattle.pack_walk.specs.Plans.{plain_plan, plain_plans, IsPlanOf, ArePlansOf, matrices_for, IsRowFor}
+use Rattle.diff_layer.specs.declared.plans.PackPlan.{PackPlan}
+use Rattle.diff_layer.specs.Plans.{plain_plan, plain_plans, IsPlanOf, ArePlansOf, matrices_for, IsRowFor}
 use Rattle.pack_laws.specs.Layer.{sizes_of}
 use Rattle.pack_laws.proofs.Pieces.{matrices_back}
 use Rattle.pack_laws.proofs.Entry.{unbounded_packs, unbounded_are}

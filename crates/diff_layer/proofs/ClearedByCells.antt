@@ -23,7 +23,7 @@ use Rattle.diff_steps.specs.Steps.{all_closed, changed, step2}
 use Rattle.diff_steps.specs.Edges.{beginning2}
 use Rattle.diff_steps.specs.Clearing.{clears_edge2, clears_part2, clears_parts2}
 use Rattle.pack_laws.specs.Layer.{edge_clears2}
-use Rattle.pack_walk.proofs.Cleared.{cleared_too}
+use Rattle.diff_layer.proofs.Cleared.{cleared_too}
 
 module _ (p : Program) (packs : List Pack) (fault : Kind) where
   module _ (a : Act) (x : Action) where

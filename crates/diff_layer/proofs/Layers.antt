@@ -25,12 +25,12 @@ use Rattle.diff_steps.specs.Packs.{Pack, size_of}
 use Rattle.diff_steps.specs.Edges.{bottoms}
 use Rattle.pack_rows.specs.Rows.{width_of, matrices_in, row_of, matrices_beside, lists_of}
 use Rattle.pack_laws.specs.Agreeing.{AreMatrices, IsPackOf, ArePacksOf}
-use Rattle.pack_walk.specs.declared.plans.PackPlan.{PackPlan}
-use Rattle.pack_walk.specs.Plans.{plain_plan, plain_plans, IsShortHome, ArePlansOf, matrices_for, IsRowFor}
+use Rattle.diff_layer.specs.declared.plans.PackPlan.{PackPlan}
+use Rattle.diff_layer.specs.Plans.{plain_plan, plain_plans, IsShortHome, ArePlansOf, matrices_for, IsRowFor}
 use Rattle.pack_laws.specs.Packs.{packs_of, ArePacksOfCells}
 use Rattle.pack_laws.specs.Layer.{Facts, AreFacts, ArePacks, sizes_of, diff_lattice, packs_post, diff_post, diff_flow}
 use Rattle.pack_laws.proofs.Pieces.{are_matrices}
-use Rattle.diff_layer.specs.Plans.{HasUnit, HaveUnits}
+use Rattle.diff_layer.specs.Planning.{HasUnit, HaveUnits}
 use Rattle.diff_layer.specs.Edges.{packs_walked}
 use Rattle.diff_layer.specs.LayerLaws.{source_of, cells_for_homes, its_packs, facts_of, flows_by}
 use Rattle.diff_layer.proofs.Rows.{row_back, width_is, least_is, few_words, small_sizes, post_passed, post_stopped}

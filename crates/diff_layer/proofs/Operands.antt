@@ -26,8 +26,8 @@ use Rattle.cell_layer.specs.Statements.{IsNumbered}
 use Rattle.cell_layer.specs.Held.{IsHeld, IsLeft}
 use Rattle.cell_layer.proofs.Finding.{is_left_some}
 use Rattle.cell_laws.proofs.PremiseParts.{every}
-use Rattle.pack_walk.specs.Parts.{IsOfEdge}
-use Rattle.pack_walk.proofs.SourceOperands.{operands_of_sources}
+use Rattle.diff_layer.specs.Parts.{IsOfEdge}
+use Rattle.diff_layer.proofs.SourceOperands.{operands_of_sources}
 
 -- ---- what has one proof at most
 

@@ -20,7 +20,7 @@ use Rattle.diff_steps.specs.Edges.{bottoms, or_bottoms, walked_packs, post_packs
 use Rattle.pack_rows.specs.Rows.{words_of, width_of, matrices_in, row_of, matrices_beside}
 use Rattle.pack_laws.specs.Layer.{sizes_of, diff_lattice, edge_packs, packs_post}
 use Rattle.pack_laws.specs.Packs.{home_at, pack_in, packs_in, packs_of}
-use Rattle.diff_layer.specs.Plans.{sizes_in}
+use Rattle.diff_layer.specs.Planning.{sizes_in}
 use Rattle.diff_layer.specs.Edges.{edge_walked, packs_walked}
 
 no_words : (row : List ℤ) → length row ≡ 0 → [] ≡ row

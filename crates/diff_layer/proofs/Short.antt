@@ -17,7 +17,7 @@ use Rattle.cob_runs.specs.Contents.{item_at, form_at, scale_of}
 use Rattle.cob_items.specs.WellFormed.{IsWellFormedForm, IsWellFormedItem, HasWellFormedItems}
 use Rattle.decimal_interval.specs.declared.bounds.Interval.{Interval}
 use Rattle.cell_steps.specs.Homes.{Home, of_item, of_count, if_named, home_of, item_homes, turns_homes, act_homes, count_homes, homes_of, picture_range, form_range}
-use Rattle.pack_walk.specs.Plans.{IsShortHome}
+use Rattle.diff_layer.specs.Plans.{IsShortHome}
 
 -- ---- pictures
 

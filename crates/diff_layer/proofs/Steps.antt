@@ -12,10 +12,10 @@ use Rattle.cell_steps.specs.Homes.{Home, of_item, of_count, if_named, home_of, i
 use Rattle.diff_bounds.specs.declared.Pack as declared
 use Rattle.pack_forms.specs.declared.cells.PackCell.{PackCell}
 use Rattle.pack_forms.specs.Cells.{plain_cell, plain_cells}
-use Rattle.pack_walk.specs.declared.plans.PackPlan.{PackPlan}
-use Rattle.pack_walk.specs.Plans.{plain_plan, plain_plans}
+use Rattle.diff_layer.specs.declared.plans.PackPlan.{PackPlan}
+use Rattle.diff_layer.specs.Plans.{plain_plan, plain_plans}
 use Rattle.pack_laws.specs.Packs.{home_at, pack_in}
-use Rattle.diff_layer.specs.Plans.{cell_of, cells_of, HasUnit, HaveUnits, IsPlanFor, ArePlansFor, sizes_in}
+use Rattle.diff_layer.specs.Planning.{cell_of, cells_of, HasUnit, HaveUnits, IsPlanFor, ArePlansFor, sizes_in}
 
 pub items_step : (xs : List Item) (i place next : ℕ) (x : Item) → i < length xs → x ≡ get_or xs i x → next ≡ place + 1 →
     cells_of (item_homes place (drop i xs)) ≡ cells_of (if_named x.name (home_of place x.form)) ++ cells_of (item_homes next (drop (i + 1) xs))

@@ -1,74 +1,72 @@
--- What edges make of matrices, and what they clear, by the statements that they leave.
-use Rattle.std.proofs.Common.{◌≡◌, true, List, ℤ, Option, Some, None, sym, ap, ◌∙◌}
-use Rattle.std.specs.Prelude.{Contains}
-use Rattle.std.specs.Borrow.{Bor}
-use Rattle.std.specs.List.{All}
+-- The parts of an edge, one after another.
+use Rattle.std.proofs.Common.{◌≡◌, ◌≤◌, ℕ, zero, suc, ◌<◌, Bool, true, false, ◌&&◌, List, [], ◌∷◌, drop, length, Option, Some, None, refl, ap, ◌∙◌, arith}
+use Rattle.std.specs.Prelude.{slice_get}
 use Rattle.std.specs.Option.{option_map_or}
-use Rattle.std.proofs.Props.{props}
-use Rattle.std.proofs.Math.Logic.{∥∥₁_elim}
 use Rattle.cob_tree.specs.declared.fault.Kind.{Kind}
-use Rattle.cob_program.specs.declared.act.Stmt as declared_stmt
-use Rattle.cob_program.specs.ActView.{plain_stmt}
-use Rattle.cob_program.specs.Act.{Stmt, MkStmt, Act, Program}
-use Rattle.cob_graph.specs.declared.graph.Edge.{Edge}
-use Rattle.cob_graph.specs.declared.graph.Graph.{Graph}
-use Rattle.cell_rows.specs.Known.{Known}
-use Rattle.cell_laws.specs.Layer.{left}
-use Rattle.cell_walk.specs.Statements.{act_in, number_in}
-use Rattle.cell_layer.specs.Statements.{IsNumbered}
-use Rattle.cell_layer.specs.Held.{IsHeld, IsLeft}
-use Rattle.cell_layer.proofs.Finding.{is_left_some, is_left_none}
+use Rattle.cob_program.specs.Values.{◌>>=◌}
+use Rattle.cob_program.specs.Act.{Act, Program}
+use Rattle.cob_runs.specs.declared.action.Action.{Action}
+use Rattle.cob_edge_parts.specs.Parts.{Part}
+use Rattle.cell_steps.specs.Seen.{Seen}
 use Rattle.diff_steps.specs.Packs.{Pack}
-use Rattle.diff_steps.specs.Edges.{walked_packs}
-use Rattle.diff_steps.specs.Clearing.{clears_edge2}
-use Rattle.pack_walk.specs.Walks.{statement_walked, statement_clears2}
-use Rattle.pack_laws.specs.Layer.{edge_clears2}
-use Rattle.diff_layer.specs.Edges.{edge_walked}
+use Rattle.diff_steps.specs.Moments.{Seen2}
+use Rattle.diff_steps.specs.Clearing.{clears_part2}
+use Rattle.diff_layer.specs.Walks.{step2_small, steps2_small, clears_all2}
 
-module _ (p : Program) (g : Graph) (packs : List Pack) (x : Edge) (cells : List Known) (ms : List (List ℤ)) where
-  same_walk : (y : Stmt) → number_in y ≡ left g x →
-      walked_packs p packs (left g x) (act_in y) x.action (Some cells) ms ≡ statement_walked p packs y x.action cells ms
-  same_walk (MkStmt n line a) is = ap (λ m. walked_packs p packs m a x.action (Some cells) ms) (sym is)
+module _ (p : Program) (packs : List Pack) (a : Act) (x : Action) where
+  abbrev pub step_of : List Part → ℕ → Seen → Seen2 → Option (Seen × Seen2)
+  step_of ps k s r = slice_get ps k >>= λ y. step2_small p packs a x y s r
 
-  same_clears : (y : Stmt) (fault : Kind) → number_in y ≡ left g x →
-      clears_edge2 p packs (left g x) (act_in y) x.action cells ms fault ≡ statement_clears2 p packs y x.action cells ms fault
-  same_clears (MkStmt n line a) fault is = ap (λ m. clears_edge2 p packs m a x.action cells ms fault) (sym is)
+  abbrev pub clears_of : List Part → ℕ → Seen → Seen2 → Kind → Bool
+  clears_of ps k s r fault = option_map_or (λ y. clears_part2 p packs a x y s r fault) (slice_get ps k) true
 
-  walked_by : (y : Stmt) → IsLeft p g x (Some y) → edge_walked p g packs x ms cells ≡ statement_walked p packs y x.action cells ms
-  walked_by y is =
-      ap (λ (o : Option Act). option_map_or (λ a. walked_packs p packs (left g x) a x.action (Some cells) ms) o (Some ms)) is.act
-      ∙ same_walk y is.number
+  -- ---- one part is passed, or none
 
-  walked_by_none : IsLeft p g x None → edge_walked p g packs x ms cells ≡ Some ms
-  walked_by_none is =
-      ap (λ (o : Option Act). option_map_or (λ a. walked_packs p packs (left g x) a x.action (Some cells) ms) o (Some ms)) is.act
+  pub passed : (ps : List Part) (k : ℕ) (s t : Seen) (r q : Seen2) → k < length ps → step_of ps k s r ≡ Some (t, q) →
+      steps2_small p packs a x (drop k ps) s r ≡ steps2_small p packs a x (drop (suc k) ps) t q
+  passed [] k s t r q within e = absurd (omega (arith, within))
+  passed (y ∷ ps) zero s t r q within e = ap (λ (o : Option (Seen × Seen2)). o >>= λ u. steps2_small p packs a x ps u.0 u.1) e
+  passed (y ∷ ps) (suc k) s t r q within e = passed ps k s t r q (omega (arith, within)) e
 
-  clears_by : (y : Stmt) (fault : Kind) → IsLeft p g x (Some y) → edge_clears2 p g packs fault cells ms x ≡ statement_clears2 p packs y x.action cells ms fault
-  clears_by y fault is =
-      ap (λ (o : Option Act). option_map_or (λ a. clears_edge2 p packs (left g x) a x.action cells ms fault) o true) is.act
-      ∙ same_clears y fault is.number
+  pub stopped : (ps : List Part) (k : ℕ) (s : Seen) (r : Seen2) → k < length ps → step_of ps k s r ≡ None → steps2_small p packs a x (drop k ps) s r ≡ None
+  stopped [] k s r within e = absurd (omega (arith, within))
+  stopped (y ∷ ps) zero s r within e = ap (λ (o : Option (Seen × Seen2)). o >>= λ u. steps2_small p packs a x ps u.0 u.1) e
+  stopped (y ∷ ps) (suc k) s r within e = stopped ps k s r (omega (arith, within)) e
 
-  clears_by_none : (fault : Kind) → IsLeft p g x None → edge_clears2 p g packs fault cells ms x ≡ true
-  clears_by_none fault is =
-      ap (λ (o : Option Act). option_map_or (λ a. clears_edge2 p packs (left g x) a x.action cells ms fault) o true) is.act
+  pub none_left : (ps : List Part) (k : ℕ) (s : Seen) (r : Seen2) → length ps ≤ k → steps2_small p packs a x (drop k ps) s r ≡ Some (s, r)
+  none_left [] zero s r e = refl
+  none_left [] (suc k) s r e = refl
+  none_left (y ∷ ps) zero s r e = absurd (omega (arith, e))
+  none_left (y ∷ ps) (suc k) s r e = none_left ps k s r (omega (arith, e))
 
-  module _ (ss : List (Bor declared_stmt.Stmt)) (held : ∥ IsHeld p g ss ∥₁) where
-    module _ (s : Bor declared_stmt.Stmt) (numbered : IsNumbered ss (left g x) s) where
-      its : IsHeld p g ss → IsLeft p g x (Some (plain_stmt s.now))
-      its h = is_left_some p g x ss h.source.whole h.listed s numbered
+  -- ---- what is cleared
 
-      pub walks_it : edge_walked p g packs x ms cells ≡ statement_walked p packs (plain_stmt s.now) x.action cells ms
-      walks_it = ∥∥₁_elim held (hlevel props) (λ h. walked_by (plain_stmt s.now) (its h))
+  both : (b : Bool) (o o2 : Option (Seen × Seen2)) (f : Seen × Seen2 → Bool) → b ≡ true → o ≡ o2 → (b && option_map_or f o true) ≡ option_map_or f o2 true
+  both b o o2 f e g = ap (λ c. c && option_map_or f o true) e ∙ ap (λ r. option_map_or f r true) g
 
-      pub clears_it : (fault : Kind) → statement_clears2 p packs (plain_stmt s.now) x.action cells ms fault ≡ edge_clears2 p g packs fault cells ms x
-      clears_it fault = ∥∥₁_elim held (hlevel props) (λ h. sym (clears_by (plain_stmt s.now) fault (its h)))
+  pub cleared_passed : (ps : List Part) (k : ℕ) (s t : Seen) (r q : Seen2) (fault : Kind) → k < length ps → clears_of ps k s r fault ≡ true →
+      step_of ps k s r ≡ Some (t, q) → clears_all2 p packs a x (drop k ps) s r fault ≡ clears_all2 p packs a x (drop (suc k) ps) t q fault
+  cleared_passed [] k s t r q fault within c e = absurd (omega (arith, within))
+  cleared_passed (y ∷ ps) zero s t r q fault within c e =
+      both (clears_part2 p packs a x y s r fault) (step2_small p packs a x y s r) (Some (t, q)) (λ u. clears_all2 p packs a x ps u.0 u.1 fault) c e
+  cleared_passed (y ∷ ps) (suc k) s t r q fault within c e = cleared_passed ps k s t r q fault (omega (arith, within)) c e
 
-    module _ (none : All (λ s. ¬ number_in (plain_stmt s.now) ≡ left g x) ss) where
-      its_none : IsHeld p g ss → IsLeft p g x None
-      its_none h = is_left_none p g x ss h.source.whole h.listed none
+  pub cleared_stopped : (ps : List Part) (k : ℕ) (s : Seen) (r : Seen2) (fault : Kind) → k < length ps → clears_of ps k s r fault ≡ true →
+      step_of ps k s r ≡ None → clears_all2 p packs a x (drop k ps) s r fault ≡ true
+  cleared_stopped [] k s r fault within c e = absurd (omega (arith, within))
+  cleared_stopped (y ∷ ps) zero s r fault within c e =
+      both (clears_part2 p packs a x y s r fault) (step2_small p packs a x y s r) None (λ u. clears_all2 p packs a x ps u.0 u.1 fault) c e
+  cleared_stopped (y ∷ ps) (suc k) s r fault within c e = cleared_stopped ps k s r fault (omega (arith, within)) c e
 
-      pub walks_none : edge_walked p g packs x ms cells ≡ Some ms
-      walks_none = ∥∥₁_elim held (hlevel props) (λ h. walked_by_none (its_none h))
+  pub not_cleared : (ps : List Part) (k : ℕ) (s : Seen) (r : Seen2) (fault : Kind) → k < length ps → clears_of ps k s r fault ≡ false →
+      clears_all2 p packs a x (drop k ps) s r fault ≡ false
+  not_cleared [] k s r fault within c = absurd (omega (arith, within))
+  not_cleared (y ∷ ps) zero s r fault within c =
+      ap (λ b. b && option_map_or (λ u. clears_all2 p packs a x ps u.0 u.1 fault) (step2_small p packs a x y s r) true) c
+  not_cleared (y ∷ ps) (suc k) s r fault within c = not_cleared ps k s r fault (omega (arith, within)) c
 
-      pub clears_none : (fault : Kind) → true ≡ edge_clears2 p g packs fault cells ms x
-      clears_none fault = ∥∥₁_elim held (hlevel props) (λ h. sym (clears_by_none fault (its_none h)))
+  pub all_cleared : (ps : List Part) (k : ℕ) (s : Seen) (r : Seen2) (fault : Kind) → length ps ≤ k → clears_all2 p packs a x (drop k ps) s r fault ≡ true
+  all_cleared [] zero s r fault e = refl
+  all_cleared [] (suc k) s r fault e = refl
+  all_cleared (y ∷ ps) zero s r fault e = absurd (omega (arith, e))
+  all_cleared (y ∷ ps) (suc k) s r fault e = all_cleared ps k s r fault (omega (arith, e))

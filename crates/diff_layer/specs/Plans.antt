@@ -1,39 +1,42 @@
--- Packs of a program's cells as they are walked with.
-use Rattle.std.specs.Prelude.{◌≡◌, ℕ, List, map, length}
+-- Packs as the code has them.
+use Rattle.std.specs.Prelude.{◌≡◌, ◌≤◌, ◌^◌, List, map, length, ℤ, pos, neg_ℤ, ◌≤ℤ◌}
 use Rattle.std.specs.List.{AllByRecursion}
 use Rattle.cob_data.specs.declared.layout.Layout.{Layout}
-use Rattle.cell_steps.specs.Homes.{Home, of_item, of_count}
-use Rattle.diff_bounds.specs.declared.Pack as declared
-use Rattle.diff_steps.specs.Packs.{pack_decimals}
-use Rattle.pack_forms.specs.declared.cells.PackCell.{PackCell}
-use Rattle.pack_forms.specs.declared.cells.PackCell.TheVariants.{Item, Count}
-use Rattle.pack_walk.specs.declared.plans.PackPlan.{PackPlan}
-use Rattle.pack_walk.specs.Plans.{plain_plan, plain_plans}
-use Rattle.pack_laws.specs.Packs.{pack_in, packs_in}
+use Rattle.cob_program.specs.Act.{Program}
+use Rattle.cell_steps.specs.Homes.{Home, home_range}
+use Rattle.diff_steps.specs.Packs.{Pack, size_of, decimals_of, pack_decimals}
+use Rattle.pack_rows.specs.Rows.{width_of, matrices_in}
+use Rattle.pack_laws.specs.Agreeing.{AreMatrices, IsPackOf}
+use Rattle.pack_forms.specs.Cells.{plain_cells}
+use Rattle.diff_layer.specs.declared.plans.PackPlan.{PackPlan}
 
-abbrev pub cell_of : Home → PackCell
-cell_of (of_item place) = Item place
-cell_of (of_count statement) = Count statement
+abbrev pub plain_plan : PackPlan → Pack
+plain_plan plan = plain_cells plan.cells.items
 
-abbrev pub cells_of : List Home → List PackCell
-cells_of homes = map cell_of homes
+abbrev pub plain_plans : List PackPlan → List Pack
+plain_plans plans = map plain_plan plans
 
--- ---- plans
+-- A cell whose own numbers have at most 18 digits, as many decimals among them.
+pub record IsShortHome (l : Layout) (h : Home) : Type 0 where
+  pub low : neg_ℤ (pos (10 ^ 18)) ≤ℤ (home_range l h).low
+  pub high : (home_range l h).high ≤ℤ pos (10 ^ 18)
+  pub decimals : decimals_of l h ≤ 18
 
-abbrev pub HasUnit : Layout → PackPlan → Type 0
-HasUnit l plan = plan.decimals ≡ pack_decimals l (plain_plan plan)
+-- A pack of a program, with its unit.
+pub record IsPlanOf (p : Program) (plan : PackPlan) : Type 0 where
+  pub few : size_of (plain_plan plan) ≤ 8
+  pub short : AllByRecursion (IsShortHome p.layout) (plain_plan plan)
+  pub unit : plan.decimals ≡ pack_decimals p.layout (plain_plan plan)
+  pub pack : IsPackOf p (plain_plan plan)
 
-abbrev pub HaveUnits : Layout → List PackPlan → Type 0
-HaveUnits l plans = AllByRecursion (HasUnit l) plans
+abbrev pub ArePlansOf : Program → List PackPlan → Type 0
+ArePlansOf p plans = AllByRecursion (IsPlanOf p) plans
 
--- the pack's cells, and its unit
-pub record IsPlanFor (l : Layout) (homes : List Home) (pack : declared.Pack) (plan : PackPlan) : Type 0 where
-  pub cells : plain_plan plan ≡ pack_in homes pack.cells.items
-  pub unit : HasUnit l plan
+-- the matrices in a row of words
+abbrev pub matrices_for : List PackPlan → List ℤ → List (List ℤ)
+matrices_for plans row = matrices_in (map size_of (plain_plans plans)) row
 
-pub record ArePlansFor (l : Layout) (homes : List Home) (all : List declared.Pack) (plans : List PackPlan) : Type 0 where
-  pub packs : plain_plans plans ≡ packs_in homes all
-  pub units : HaveUnits l plans
-
-abbrev pub sizes_in : List declared.Pack → List ℕ
-sizes_in packs = map (λ pack. length pack.cells.items) packs
+-- the row has a matrix for each pack, and no other words
+pub record IsRowFor (plans : List PackPlan) (row : List ℤ) : Type 0 where
+  pub width : length row ≡ width_of (map size_of (plain_plans plans))
+  pub matrices : AreMatrices (plain_plans plans) (matrices_for plans row)

@@ -1,84 +1,639 @@
-//! Rows of matrices as what is known of storages, and the faults that they clear.
-ghost use Rattle.std.specs.Prelude.{◌≡◌, ◌≤◌, length};
-ghost use Rattle.std.specs.List.{list_all};
-ghost use Rattle.cob_program.specs.ActView.{plain_program};
+//! The faults that what is known of cells and of differences before a part shows not to be met there.
+ghost use Rattle.std.specs.Prelude.{◌≡◌, ◌≤◌, ◌<◌, true, length, List, neg_ℤ, int_le, IfSome};
+ghost use Rattle.std.specs.List.{AllByRecursion};
+ghost use Rattle.dec_num.specs.declared.types.Mode.TheVariants.{Trunc};
+ghost use Rattle.cob_program.specs.ActView.{plain_act, plain_stmt, plain_program};
+ghost use Rattle.cob_program.specs.Bounds.{is_small, is_small_atom};
+ghost use Rattle.cob_calc.specs.Contents.{bound_at};
+ghost use Rattle.borrowed_parts.specs.PartView.{edge_parts, plain_part, plain_amount, plain_divisor};
+ghost use Rattle.diff_bounds.specs.Matrix.{IsMatrix};
+ghost use Rattle.cell_laws.specs.Sizes.{IsSmallPart, IsSmallStore};
+ghost use Rattle.sum_ranges.specs.Sizes.{IsSmallRange};
+ghost use Rattle.result_ranges.specs.Receivers.{counter};
+ghost use Rattle.result_ranges.specs.ResultRanges.{near_range, most};
+ghost use Rattle.result_ranges.specs.Sizes.{IsReceiver, IsSmallAmount};
+ghost use Rattle.cell_amounts.specs.Small.{has_small_sum};
+ghost use Rattle.cell_amounts.specs.Working.{CanWork, amount_from as found_amount};
 ghost use Rattle.cell_rows.specs.Elements.{CellsFit};
-ghost use Rattle.cell_rows.specs.Rows.{IsReached, cells_of};
+ghost use Rattle.cell_rows.specs.Rows.{cells_of};
 ghost use Rattle.cell_steps.specs.Homes.{owns};
-ghost use Rattle.cell_layer.specs.Held.{IsHeld};
-ghost use Rattle.pack_rows.specs.Rows.{lists_of};
-ghost use Rattle.pack_walk.specs.Plans.{plain_plans, ArePlansOf, matrices_for, IsRowFor};
-ghost use Rattle.pack_laws.specs.Layer.{leaves_clear2, diff_meaning};
-ghost use Rattle.pack_laws.specs.Packs.{packs_of};
-ghost use Rattle.diff_layer.specs.LayerLaws.{means_by};
+ghost use Rattle.cell_steps.specs.Stores.{range_at};
+ghost use Rattle.cell_walk.specs.Kept.{seen};
+ghost use Rattle.cell_walk.specs.ProgramRows.{IsRowOf};
+ghost use Rattle.cell_walk.specs.Statements.{act_in};
+ghost use Rattle.cell_walk.specs.Walks.{CanStep};
+ghost use Rattle.cell_layer.specs.Edges.{CanWalk};
+ghost use Rattle.diff_steps.specs.Clearing.{some_pack};
+ghost use Rattle.diff_steps.specs.Moments.{Bytes};
+ghost use Rattle.diff_steps.specs.Packs.{size_of};
+ghost use Rattle.pack_forms.specs.Writing.{amount_items, are_written};
+ghost use Rattle.diff_layer.specs.Clears.{divisor_apart, both_shown, range_shown, amount_shown, store_shown, count_shown, taken_shown, store_cleared, set_cleared, down_cleared, part_cleared, IsSetCount};
+ghost use Rattle.diff_layer.specs.Parts.{CanChange, IsOfEdge, IsStoreOf, IsWrittenTo};
+ghost use Rattle.diff_layer.specs.Plans.{plain_plan, plain_plans, IsPlanOf, ArePlansOf, matrices_for, IsRowFor};
+ghost use Rattle.diff_layer.specs.Walks.{seen2, clears2_at, statement_clears2};
+ghost use Rattle.diff_layer.specs.Writing.{edge_items};
 
-use crate::edges::clears_edge;
-use crate::layer::DiffLayer;
-use cell_layer::{edge_at, edges_before, leaves};
-use cell_rows::is_reached;
-use cob_graph::Graph;
-use cob_program::{Program, Stmt};
+use crate::closing::close_all;
+use crate::ends::{end_is_shown, high_end_fits, low_end_fits};
+use crate::plans::{PackPlan, view_of, words_for};
+use crate::walking::step;
+use borrowed_parts::{Amount, Divisor, EdgePart, part_at, part_count};
+use cell_amounts::{amount_from, is_remainder, receiver_at};
+use cell_walk::{Kept, KnownItems, clears_part, count_units, item_range, with_operands};
+use cob_program::{Act, Program, Stmt};
+use cob_runs::{Action, Cell};
 use cob_tree::Kind;
-use dom_laws::{Layer, Rows};
-use pack_walk::PackPlan;
+use dec_num::Mode;
+use decimal_interval::Interval;
+use pack_forms::{divisor_form, has_operands, is_apart};
+use result_ranges::{AmountRange, Receiver, Taken, lowered};
+use sum_ranges::Ranged;
 
-// whether each edge that leaves a node clears the fault
-fn clears_node(
+// the greatest number of a counter
+const LARGEST: i128 = 999_999_999_999_999_999;
+
+// ---- divisors
+
+// whether the matrix of a pack shows that a divisor isn't 0
+fn is_apart_in(
     program: &Program,
-    graph: &Graph,
-    statements: &[&Stmt],
-    plans: &[PackPlan],
-    node: u32,
-    fact: &[i128],
+    cells: &[Cell],
     row: &[i128],
+    plan: &PackPlan,
+    m: &[i128],
+    divisor: Divisor,
+) -> bool
+    requires row { IsRowOf (plain_program program.now) cells.now row.now }
+    requires fits { CellsFit (owns (plain_program program.now)) (cells_of row.now) }
+    requires plan { IsPlanOf (plain_program program.now) plan.now }
+    requires small { is_small_atom (bound_at program.now.layout) (plain_divisor divisor) ≡ true }
+    requires matrix { IsMatrix (size_of (plain_plan plan.now)) m.now }
+    ensures { result ≡ divisor_apart (plain_program program.now) (cells_of row.now) (plain_divisor divisor.entry) (plain_plan plan.now) m.now }
+{
+    let items = KnownItems {
+        program,
+        cells,
+        row,
+    };
+    let pack = view_of(plan);
+    is_apart(pack.cells.len(), m, divisor_form(&items, &pack, divisor))
+}
+
+fn is_apart_in_some(
+    program: &Program,
+    cells: &[Cell],
+    row: &[i128],
+    plans: &[PackPlan],
+    out: &[i128],
+    divisor: Divisor,
+) -> bool
+    requires row { IsRowOf (plain_program program.now) cells.now row.now }
+    requires fits { CellsFit (owns (plain_program program.now)) (cells_of row.now) }
+    requires plans { ArePlansOf (plain_program program.now) plans.now }
+    requires small { is_small_atom (bound_at program.now.layout) (plain_divisor divisor) ≡ true }
+    requires matrices { IsRowFor plans.now out.now }
+    ensures { result ≡ some_pack (divisor_apart (plain_program program.now) (cells_of row.now) (plain_divisor divisor.entry))
+        (plain_plans plans.now) (matrices_for plans.now out.now) }
+{
+    match plans {
+        [] => false,
+        [plan, plans @ ..] => {
+            let (first, rest) = out.split_at(words_for(plan));
+            is_apart_in(program, cells, row, plan, first, divisor)
+                || is_apart_in_some(program, cells, row, plans, rest, divisor)
+        }
+    }
+}
+
+// ---- ends
+
+// whether both ends fit, each by the range or by a matrix
+fn ends_fit(
+    program: &Program,
+    cells: &[Cell],
+    row: &[i128],
+    plans: &[PackPlan],
+    out: &[i128],
+    part: EdgePart,
+    kept: &Kept,
+    written: bool,
+    mode: Mode,
+    receiver: Receiver,
+    high: bool,
+    low: bool,
+) -> bool
+    requires row { IsRowOf (plain_program program.now) cells.now row.now }
+    requires fits { CellsFit (owns (plain_program program.now)) (cells_of row.now) }
+    requires plans { ArePlansOf (plain_program program.now) plans.now }
+    requires can { CanChange (plain_program program.now) (cells_of row.now) kept.now.common (plain_part part) }
+    requires matrices { IsRowFor plans.now out.now }
+    requires digits { receiver.digits ≤ 18 }
+    requires scale { receiver.scale ≤ 18 }
+    ensures { (wrote : List Bytes) → IsWrittenTo program.now.layout wrote written (plain_part part.entry)
+        → result ≡ both_shown (plain_program program.now) (cells_of row.now) kept.now.common wrote (plain_part part.entry) mode receiver high low
+        (plain_plans plans.now) (matrices_for plans.now out.now) }
+{
+    (high
+        || end_is_shown(
+            program, cells, row, plans, out, part, kept, written, mode, receiver, false,
+        ))
+        && (low
+            || end_is_shown(
+                program, cells, row, plans, out, part, kept, written, mode, receiver, true,
+            ))
+}
+
+// ---- stores
+
+// whether a decimal of a range fits
+fn decimal_fits(
+    program: &Program,
+    cells: &[Cell],
+    row: &[i128],
+    plans: &[PackPlan],
+    out: &[i128],
+    part: EdgePart,
+    kept: &Kept,
+    written: bool,
+    mode: Mode,
+    receiver: Receiver,
+    range: Ranged,
+) -> bool
+    requires row { IsRowOf (plain_program program.now) cells.now row.now }
+    requires fits { CellsFit (owns (plain_program program.now)) (cells_of row.now) }
+    requires plans { ArePlansOf (plain_program program.now) plans.now }
+    requires can { CanChange (plain_program program.now) (cells_of row.now) kept.now.common (plain_part part) }
+    requires matrices { IsRowFor plans.now out.now }
+    requires receiver { IsReceiver receiver }
+    requires range { IsSmallRange range }
+    ensures { (wrote : List Bytes) → IsWrittenTo program.now.layout wrote written (plain_part part.entry)
+        → result ≡ range_shown (plain_program program.now) (cells_of row.now) kept.now.common wrote (plain_part part.entry) mode receiver
+        (plain_plans plans.now) (matrices_for plans.now out.now) (near_range mode receiver.scale range) }
+{
+    let high = high_end_fits(mode, receiver, range);
+    let low = low_end_fits(mode, receiver, range);
+    ends_fit(
+        program, cells, row, plans, out, part, kept, written, mode, receiver, high, low,
+    )
+}
+
+// whether a result fits that the first layer doesn't show to fit: a quotient has no form
+fn amount_fits(
+    program: &Program,
+    cells: &[Cell],
+    row: &[i128],
+    plans: &[PackPlan],
+    out: &[i128],
+    part: EdgePart,
+    kept: &Kept,
+    written: bool,
+    mode: Mode,
+    receiver: Receiver,
+    amount: Option<AmountRange>,
+) -> bool
+    requires row { IsRowOf (plain_program program.now) cells.now row.now }
+    requires fits { CellsFit (owns (plain_program program.now)) (cells_of row.now) }
+    requires plans { ArePlansOf (plain_program program.now) plans.now }
+    requires can { CanChange (plain_program program.now) (cells_of row.now) kept.now.common (plain_part part) }
+    requires matrices { IsRowFor plans.now out.now }
+    requires receiver { IsReceiver receiver }
+    requires small { IfSome amount IsSmallAmount }
+    ensures { (wrote : List Bytes) → IsWrittenTo program.now.layout wrote written (plain_part part.entry)
+        → result ≡ amount_shown (plain_program program.now) (cells_of row.now) kept.now.common wrote (plain_part part.entry) mode receiver
+        (plain_plans plans.now) (matrices_for plans.now out.now) amount }
+{
+    match amount {
+        None => true,
+        Some(AmountRange::Decimal(range)) => decimal_fits(
+            program, cells, row, plans, out, part, kept, written, mode, receiver, range,
+        ),
+        Some(AmountRange::Quotient { .. } | AmountRange::Remainder { .. }) => false,
+    }
+}
+
+// what a receiver is to get
+fn amount_for(
+    program: &Program,
+    cells: &[Cell],
+    row: &[i128],
+    place: u32,
+    amount: Amount,
+    common: Option<Taken>,
+) -> Option<AmountRange>
+    requires row { IsRowOf (plain_program program.now) cells.now row.now }
+    requires own { is_small (bound_at program.now.layout place) ≡ true }
+    requires can { IfSome common (CanWork (plain_amount amount) (range_at (plain_program program.now) (cells_of row.now) place)) }
+    ensures { result ≡ found_amount common (plain_amount amount.entry) (range_at (plain_program program.now) (cells_of row.now) place) }
+{
+    let own = item_range(program, cells, row, place);
+    amount_from(amount, own, common)
+}
+
+// whether a store fits that the first layer doesn't show to fit; no run comes to one whose operands have no range
+fn store_fits(
+    program: &Program,
+    cells: &[Cell],
+    row: &[i128],
+    act: &Act,
+    action: Action,
+    plans: &[PackPlan],
+    out: &[i128],
+    place: u32,
+    mode: Mode,
+    amount: Amount,
+    kept: &Kept,
+    written: bool,
+) -> bool
+    requires row { IsRowOf (plain_program program.now) cells.now row.now }
+    requires small { IsSmallStore (plain_program program.now) (plain_act act.now) action place (plain_amount amount) }
+    requires of_edge { IsStoreOf (plain_program program.now) (plain_act act.now) action (plain_amount amount) }
+    requires can { CanStep (plain_program program.now) (plain_act act.now) action (seen row.now kept.now) }
+    requires taken { kept.now.written ≡ true }
+    requires plans { ArePlansOf (plain_program program.now) plans.now }
+    requires matrices { IsRowFor plans.now out.now }
+    ensures { (wrote : List Bytes) → written ≡ are_written program.now.layout wrote (amount_items (plain_amount amount.entry))
+        → result ≡ store_shown (plain_program program.now) (cells_of row.now) kept.now.common wrote place mode (plain_amount amount.entry)
+        (plain_plans plans.now) (matrices_for plans.now out.now) }
+{
+    let items = KnownItems {
+        program,
+        cells,
+        row,
+    };
+    if !has_operands(&items, amount, written) {
+        return true;
+    }
+    let found = amount_for(program, cells, row, place, amount, kept.common);
+    let part = EdgePart::Store {
+        item: place,
+        mode,
+        amount,
+    };
+    let receiver = receiver_at(&program.layout, place);
+    amount_fits(
+        program, cells, row, plans, out, part, kept, written, mode, receiver, found,
+    )
+}
+
+// ---- counters
+
+fn counter() -> Receiver
+    ensures { result ≡ counter }
+{
+    Receiver {
+        digits: 18,
+        scale: 0,
+        signed: true,
+    }
+}
+
+fn is_not_above(units: Interval) -> bool
+    ensures { result ≡ int_le units.high (most 18) }
+{
+    units.high <= LARGEST
+}
+
+fn is_not_below(units: Interval) -> bool
+    ensures { result ≡ int_le (neg_ℤ (most 18)) units.low }
+{
+    -LARGEST <= units.low
+}
+
+// whether a number of an interval fits a counter
+fn counter_fits(
+    program: &Program,
+    cells: &[Cell],
+    row: &[i128],
+    plans: &[PackPlan],
+    out: &[i128],
+    part: EdgePart,
+    kept: &Kept,
+    written: bool,
+    units: Interval,
+) -> bool
+    requires row { IsRowOf (plain_program program.now) cells.now row.now }
+    requires fits { CellsFit (owns (plain_program program.now)) (cells_of row.now) }
+    requires plans { ArePlansOf (plain_program program.now) plans.now }
+    requires can { CanChange (plain_program program.now) (cells_of row.now) kept.now.common (plain_part part) }
+    requires matrices { IsRowFor plans.now out.now }
+    ensures { (wrote : List Bytes) → IsWrittenTo program.now.layout wrote written (plain_part part.entry)
+        → result ≡ range_shown (plain_program program.now) (cells_of row.now) kept.now.common wrote (plain_part part.entry) Trunc counter
+        (plain_plans plans.now) (matrices_for plans.now out.now) units }
+{
+    let receiver = counter();
+    let high = is_not_above(units);
+    let low = is_not_below(units);
+    ends_fit(
+        program,
+        cells,
+        row,
+        plans,
+        out,
+        part,
+        kept,
+        written,
+        Mode::Trunc,
+        receiver,
+        high,
+        low,
+    )
+}
+
+// whether what a counter is set to fits
+fn set_fits(
+    program: &Program,
+    cells: &[Cell],
+    row: &[i128],
+    plans: &[PackPlan],
+    out: &[i128],
+    part: EdgePart,
+    kept: &Kept,
+    written: bool,
+) -> bool
+    requires row { IsRowOf (plain_program program.now) cells.now row.now }
+    requires fits { CellsFit (owns (plain_program program.now)) (cells_of row.now) }
+    requires plans { ArePlansOf (plain_program program.now) plans.now }
+    requires can { CanChange (plain_program program.now) (cells_of row.now) kept.now.common (plain_part part) }
+    requires matrices { IsRowFor plans.now out.now }
+    ensures { (wrote : List Bytes) → IsWrittenTo program.now.layout wrote written (plain_part part.entry)
+        → result ≡ count_shown (plain_program program.now) (cells_of row.now) kept.now.common wrote (plain_part part.entry)
+        (plain_plans plans.now) (matrices_for plans.now out.now) }
+{
+    match kept.common {
+        None => true,
+        Some(taken) => counter_fits(
+            program,
+            cells,
+            row,
+            plans,
+            out,
+            part,
+            kept,
+            written,
+            taken.top.units,
+        ),
+    }
+}
+
+// whether a store fits, where its operands are taken
+fn taken_fits(
+    program: &Program,
+    cells: &[Cell],
+    row: &[i128],
+    act: &Act,
+    action: Action,
+    plans: &[PackPlan],
+    out: &[i128],
+    place: u32,
+    mode: Mode,
+    amount: Amount,
+    kept: &Kept,
+    written: bool,
+) -> bool
+    requires row { IsRowOf (plain_program program.now) cells.now row.now }
+    requires small { IsSmallStore (plain_program program.now) (plain_act act.now) action place (plain_amount amount) }
+    requires of_edge { IsStoreOf (plain_program program.now) (plain_act act.now) action (plain_amount amount) }
+    requires can { CanStep (plain_program program.now) (plain_act act.now) action (seen row.now kept.now) }
+    requires plans { ArePlansOf (plain_program program.now) plans.now }
+    requires matrices { IsRowFor plans.now out.now }
+    ensures { (wrote : List Bytes) → written ≡ are_written program.now.layout wrote (amount_items (plain_amount amount.entry))
+        → result ≡ taken_shown (plain_program program.now) (plain_plans plans.now) (plain_act act.now) action place mode (plain_amount amount.entry)
+        (seen row.now kept.now) (seen2 wrote (matrices_for plans.now out.now)) }
+{
+    let moment = with_operands(program, cells, row, act, action, kept);
+    store_fits(
+        program, cells, row, act, action, plans, out, place, mode, amount, &moment, written,
+    )
+}
+
+// whether a store's fault is not met, where the first layer doesn't show it
+fn store_clears(
+    program: &Program,
+    cells: &[Cell],
+    row: &[i128],
+    act: &Act,
+    action: Action,
+    plans: &[PackPlan],
+    out: &[i128],
+    place: u32,
+    mode: Mode,
+    amount: Amount,
+    kept: &Kept,
+    written: bool,
+) -> bool
+    requires row { IsRowOf (plain_program program.now) cells.now row.now }
+    requires small { IsSmallStore (plain_program program.now) (plain_act act.now) action place (plain_amount amount) }
+    requires of_edge { IsStoreOf (plain_program program.now) (plain_act act.now) action (plain_amount amount) }
+    requires can { CanStep (plain_program program.now) (plain_act act.now) action (seen row.now kept.now) }
+    requires plans { ArePlansOf (plain_program program.now) plans.now }
+    requires matrices { IsRowFor plans.now out.now }
+    ensures { (wrote : List Bytes) → written ≡ are_written program.now.layout wrote (amount_items (plain_amount amount.entry))
+        → result ≡ store_cleared (plain_program program.now) (plain_plans plans.now) (plain_act act.now) action place mode (plain_amount amount.entry)
+        (seen row.now kept.now) (seen2 wrote (matrices_for plans.now out.now)) }
+{
+    if is_remainder(amount) {
+        return false;
+    }
+    taken_fits(
+        program, cells, row, act, action, plans, out, place, mode, amount, kept, written,
+    )
+}
+
+// ---- parts
+
+fn set_clears(
+    program: &Program,
+    cells: &[Cell],
+    row: &[i128],
+    act: &Act,
+    action: Action,
+    part: EdgePart,
+    plans: &[PackPlan],
+    out: &[i128],
+    kept: &Kept,
+    written: bool,
+) -> bool
+    requires row { IsRowOf (plain_program program.now) cells.now row.now }
+    requires sum { has_small_sum (bound_at program.now.layout) (plain_act act.now) ≡ true }
+    requires can { CanStep (plain_program program.now) (plain_act act.now) action (seen row.now kept.now) }
+    requires sets { IsSetCount (plain_part part) }
+    requires plans { ArePlansOf (plain_program program.now) plans.now }
+    requires matrices { IsRowFor plans.now out.now }
+    ensures { (wrote : List Bytes) → IsWrittenTo program.now.layout wrote written (plain_part part.entry)
+        → result ≡ set_cleared (plain_program program.now) (plain_plans plans.now) (plain_act act.now) action (plain_part part.entry)
+        (seen row.now kept.now) (seen2 wrote (matrices_for plans.now out.now)) }
+{
+    let moment = with_operands(program, cells, row, act, action, kept);
+    set_fits(program, cells, row, plans, out, part, &moment, written)
+}
+
+fn down_clears(
+    program: &Program,
+    cells: &[Cell],
+    row: &[i128],
+    number: u32,
+    plans: &[PackPlan],
+    out: &[i128],
+    kept: &Kept,
+    written: bool,
+) -> bool
+    requires row { IsRowOf (plain_program program.now) cells.now row.now }
+    requires fits { CellsFit (owns (plain_program program.now)) (cells_of row.now) }
+    requires plans { ArePlansOf (plain_program program.now) plans.now }
+    requires matrices { IsRowFor plans.now out.now }
+    ensures { (wrote : List Bytes) → result ≡ down_cleared (plain_program program.now) (plain_plans plans.now) number
+        (seen row.now kept.now) (seen2 wrote (matrices_for plans.now out.now)) }
+{
+    let units = lowered(count_units(program, cells, row, number));
+    let part = EdgePart::CountDown(number);
+    counter_fits(program, cells, row, plans, out, part, kept, written, units)
+}
+
+// whether the fault of a part is not met, where the first layer doesn't show it
+fn is_shown(
+    program: &Program,
+    cells: &[Cell],
+    row: &[i128],
+    act: &Act,
+    action: Action,
+    part: EdgePart,
+    plans: &[PackPlan],
+    out: &[i128],
+    kept: &Kept,
+    written: bool,
     fault: Kind,
 ) -> bool
-    requires held { ∥ IsHeld (plain_program program.now) graph.now statements.now ∥₁ }
+    requires row { IsRowOf (plain_program program.now) cells.now row.now }
+    requires small { IsSmallPart (plain_program program.now) (plain_act act.now) action (plain_part part) }
+    requires of_edge { IsOfEdge (plain_program program.now) (plain_act act.now) action (plain_part part) }
+    requires can { CanStep (plain_program program.now) (plain_act act.now) action (seen row.now kept.now) }
     requires plans { ArePlansOf (plain_program program.now) plans.now }
-    requires packs { length plans.now ≤ 32 }
-    requires reached { IsReached fact.now }
-    requires fits { CellsFit (owns (plain_program program.now)) (cells_of fact.now) }
-    requires words { length fact.now ≤ 1025 }
-    requires few { length row.now ≤ 2592 }
-    requires matrices { IsRowFor plans.now row.now }
-    ensures { result ≡ list_all (leaves_clear2 (plain_program program.now) graph.now (plain_plans plans.now) node fault (cells_of fact.now)
-        (matrices_for plans.now row.now)) graph.now.edges }
+    requires matrices { IsRowFor plans.now out.now }
+    ensures { (wrote : List Bytes) → IsWrittenTo program.now.layout wrote written (plain_part part.entry)
+        → result ≡ part_cleared (plain_program program.now) (plain_plans plans.now) (plain_act act.now) action (plain_part part.entry)
+        (seen row.now kept.now) (seen2 wrote (matrices_for plans.now out.now)) fault }
 {
-    let edges = graph.edges.get();
-    let first = edges_before(edges, node);
-    for at in first..edges.len() {
-        let edge = edge_at(edges, at);
-        if !leaves(edge, node) {
-            return true;
-        }
-        if !clears_edge(program, graph, statements, plans, edge, fact, row, fault) {
+    match part {
+        EdgePart::Divide(divisor) => match fault {
+            Kind::Zero => is_apart_in_some(program, cells, row, plans, out, divisor),
+            Kind::Size | Kind::Class | Kind::Truncation => false,
+        },
+        EdgePart::Store { item, mode, amount } => store_clears(
+            program, cells, row, act, action, plans, out, item, mode, amount, kept, written,
+        ),
+        EdgePart::SetCount { .. } => match fault {
+            Kind::Size => set_clears(
+                program, cells, row, act, action, part, plans, out, kept, written,
+            ),
+            Kind::Zero | Kind::Class | Kind::Truncation => false,
+        },
+        EdgePart::CountDown(number) => match fault {
+            Kind::Size => down_clears(program, cells, row, number, plans, out, kept, written),
+            Kind::Zero | Kind::Class | Kind::Truncation => false,
+        },
+        EdgePart::Read(_)
+        | EdgePart::Unread
+        | EdgePart::Bytes { .. }
+        | EdgePart::Guard { .. }
+        | EdgePart::ReadCount(_)
+        | EdgePart::GuardCount { .. } => false,
+    }
+}
+
+// whether the fault of the part with a number is not met
+fn clears(
+    program: &Program,
+    cells: &[Cell],
+    statement: &Stmt,
+    action: Action,
+    number: u32,
+    plans: &[PackPlan],
+    row: &[i128],
+    kept: &Kept,
+    written: bool,
+    out: &[i128],
+    fault: Kind,
+) -> bool
+    requires row { IsRowOf (plain_program program.now) cells.now row.now }
+    requires small { AllByRecursion (IsSmallPart (plain_program program.now) (act_in (plain_stmt statement.now)) action)
+        (edge_parts (plain_program program.now) (plain_stmt statement.now) action) }
+    requires of_edge { AllByRecursion (IsOfEdge (plain_program program.now) (act_in (plain_stmt statement.now)) action)
+        (edge_parts (plain_program program.now) (plain_stmt statement.now) action) }
+    requires can { CanStep (plain_program program.now) (act_in (plain_stmt statement.now)) action (seen row.now kept.now) }
+    requires within { number < length (edge_parts (plain_program program.now) (plain_stmt statement.now) action) }
+    requires plans { ArePlansOf (plain_program program.now) plans.now }
+    requires matrices { IsRowFor plans.now out.now }
+    ensures { (wrote : List Bytes) → written ≡ are_written program.now.layout wrote (edge_items (act_in (plain_stmt statement.now)) action)
+        → result ≡ clears2_at (plain_program program.now) (plain_plans plans.now) (plain_stmt statement.now) action number
+        (seen row.now kept.now) (seen2 wrote (matrices_for plans.now out.now)) fault }
+{
+    if clears_part(program, cells, statement, action, number, row, kept, fault) {
+        return true;
+    }
+    match part_at(program, statement, action, number) {
+        None => true,
+        Some(part) => is_shown(
+            program,
+            cells,
+            row,
+            &statement.act,
+            action,
+            part,
+            plans,
+            out,
+            kept,
+            written,
+            fault,
+        ),
+    }
+}
+
+/// Whether both layers show that no part of an edge of a statement meets such a fault. What it makes of the words on the
+/// way isn't told.
+pub fn packs_clear(
+    program: &Program,
+    cells: &[Cell],
+    statement: &Stmt,
+    action: Action,
+    plans: &[PackPlan],
+    row: &mut [i128],
+    out: &mut [i128],
+    fault: Kind,
+) -> bool
+    requires can { CanWalk (plain_program program.now) cells.now (plain_stmt statement.now) action row.old }
+    requires of_edge { AllByRecursion (IsOfEdge (plain_program program.now) (act_in (plain_stmt statement.now)) action)
+        (edge_parts (plain_program program.now) (plain_stmt statement.now) action) }
+    requires words { length row.old ≤ 1025 }
+    requires plans { ArePlansOf (plain_program program.now) plans.now }
+    requires matrices { IsRowFor plans.now out.old }
+    ensures { result ≡ statement_clears2 (plain_program program.now) (plain_plans plans.now) (plain_stmt statement.now) action
+        (cells_of row.old) (matrices_for plans.now out.old) fault }
+{
+    if !close_all(program, cells, plans, row, out) {
+        return true;
+    }
+    let mut kept = Kept::new();
+    let mut written = false;
+    for number in 0..part_count(program, statement, action) {
+        if !clears(
+            program, cells, statement, action, number, plans, row, &kept, written, out, fault,
+        ) {
             return false;
+        }
+        if !step(
+            program,
+            cells,
+            statement,
+            action,
+            number,
+            plans,
+            row,
+            &mut kept,
+            &mut written,
+            out,
+        ) {
+            return true;
         }
     }
     true
-}
-
-impl<'a, R: Rows> Layer for DiffLayer<'a, R> {
-    ghost meaning = { λ s. diff_meaning (plain_program s.program.now) s.graph.now (packs_of (plain_program s.program.now) s.packs.now)
-        (R.row_at s.facts.now) };
-
-    fn clears(&self, node: u32, row: &[i128], kind: Kind) -> bool {
-        let fact = self.facts.row(node);
-        if !is_reached(fact) {
-            return true;
-        }
-        clears_node(
-            self.program,
-            self.graph,
-            self.statements.as_slice(),
-            self.plans.as_slice(),
-            node,
-            fact,
-            row,
-            kind,
-        )
-    }
-
-    ghost means = { λ s. means_by (plain_program s.program.now) s.graph.now s.statements.items s.held s.packs.now s.cells
-        s.thresholds.now s.listed (R.row_at s.facts.now) s.known };
 }

@@ -5,16 +5,18 @@ ghost use Rattle.cell_rows.specs.Rows.{IsReached, IsRow, cells_of, element_of};
 ghost use Rattle.cell_rows.specs.Elements.{CellsFit};
 ghost use Rattle.cell_steps.specs.Homes.{owns};
 ghost use Rattle.cell_layer.specs.Held.{IsHeld};
-ghost use Rattle.pack_walk.specs.Plans.{plain_plans, ArePlansOf, matrices_for, IsRowFor};
+ghost use Rattle.diff_layer.specs.Plans.{plain_plans, ArePlansOf, matrices_for, IsRowFor};
 ghost use Rattle.pack_laws.specs.Layer.{edge_clears2};
 ghost use Rattle.diff_layer.specs.Edges.{edge_walked, packs_walked};
 
+use crate::clearing::packs_clear;
+use crate::plans::PackPlan;
+use crate::walking::walk_packs;
 use cell_layer::left;
 use cell_rows::is_reached;
 use cob_graph::{Edge, Graph};
 use cob_program::{Program, Stmt};
 use cob_tree::Kind;
-use pack_walk::{PackPlan, packs_clear, walk_packs};
 
 /// Makes of matrices what an edge makes of them, beside a row of what is known of cells at its source, which changes.
 /// Answers false where no run passes the edge; the words then aren't told.

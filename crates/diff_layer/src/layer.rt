@@ -9,19 +9,19 @@ ghost use Rattle.cell_layer.specs.Held.{IsHeld};
 ghost use Rattle.diff_bounds.specs.Widening.{AreThresholds};
 ghost use Rattle.diff_steps.specs.Edges.{entry_packs};
 ghost use Rattle.pack_rows.specs.Rows.{row_of, lists_of};
-ghost use Rattle.pack_walk.specs.Plans.{plain_plans};
+ghost use Rattle.diff_layer.specs.Plans.{plain_plans};
 ghost use Rattle.pack_laws.specs.Layer.{AreFacts, sizes_of};
 ghost use Rattle.pack_laws.specs.Packs.{packs_of, ArePacksOfCells};
-ghost use Rattle.diff_layer.specs.Plans.{HaveUnits};
+ghost use Rattle.diff_layer.specs.Planning.{HaveUnits};
 
 use crate::entry::entry_words;
 use crate::planning::{plans_of, sizes_of};
+use crate::plans::PackPlan;
 use cell_layer::{has_few_parts, heads_of};
 use cob_graph::Graph;
 use cob_program::{Program, Stmt};
 use diff_bounds::Pack;
 use dom_laws::Rows;
-use pack_walk::PackPlan;
 use std::alloc::{AllocError, Global};
 
 /// What is known of differences of a program's cells along its graph, in packs, each with a list of thresholds, beside the

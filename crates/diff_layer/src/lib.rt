@@ -1,15 +1,33 @@
 //! The second layer of the analysis: what is known of differences of cells along the graph of a program, beside what the
 //! first layer knows of the cells at each node (Miné 2001). Rows of matrices flow along the graph's edges, stand for the
 //! storages that runs bring to its nodes, and show with the first layer's rows which faults are not met there.
+//!
+//! Along an edge the matrices of several packs are changed in one row of words and in place; no call there takes memory.
 #![tactic(auto)]
 
+mod changing;
 mod clearing;
+mod closing;
+mod counters;
 mod domain;
 mod edges;
+mod ends;
 mod entry;
 mod flowing;
+mod gone;
+mod guards;
 mod homes;
 mod layer;
+mod node_clearing;
+mod passing;
 mod planning;
+mod plans;
+mod stores;
+mod walking;
+mod writing;
 
+pub use clearing::packs_clear;
+pub use closing::close_all;
 pub use layer::DiffLayer;
+pub use plans::PackPlan;
+pub use walking::walk_packs;

@@ -4,16 +4,16 @@ ghost use Rattle.cob_program.specs.ActView.{plain_program};
 ghost use Rattle.cob_program.specs.Statements.{plain_references, program_statements};
 ghost use Rattle.cell_steps.specs.Homes.{homes_of};
 ghost use Rattle.pack_forms.specs.Cells.{plain_cell, plain_cells};
-ghost use Rattle.pack_walk.specs.Plans.{plain_plans};
+ghost use Rattle.diff_layer.specs.Plans.{plain_plans};
 ghost use Rattle.pack_laws.specs.Packs.{home_at, pack_in, packs_in, AreRisingNumbers, ArePacksOfCells};
-ghost use Rattle.diff_layer.specs.Plans.{IsPlanFor, ArePlansFor, sizes_in};
+ghost use Rattle.diff_layer.specs.Planning.{IsPlanFor, ArePlansFor, sizes_in};
 
 use crate::homes::homes_of;
+use crate::plans::PackPlan;
 use cob_data::Layout;
 use cob_program::{Program, Stmt};
 use diff_bounds::Pack;
 use pack_forms::{PackCell, pack_decimals};
-use pack_walk::PackPlan;
 use std::alloc::{AllocError, Global};
 
 // what the cell with a number is of, which counts from 1

@@ -8,8 +8,8 @@ use Rattle.diff_bounds.specs.Lattice.{matrix_of, bottom_word}
 use Rattle.closed_matrices.specs.Closed.{closed}
 use Rattle.form_bounds.specs.Numbers.{word_of}
 use Rattle.form_bounds.specs.Upper.{coef_at}
-use Rattle.form_images.specs.Assigned.{upper_less, less_upper}
-use Rattle.form_images.specs.Demanded.{lowered}
+use Rattle.form_bounds.specs.Assigned.{upper_less, less_upper}
+use Rattle.form_bounds.specs.Demanded.{lowered}
 use Rattle.cell_rows.specs.Known.{Known}
 use Rattle.cell_steps.specs.Homes.{Home}
 use Rattle.cell_steps.specs.Storages.{known_of}

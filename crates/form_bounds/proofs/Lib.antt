@@ -5,3 +5,11 @@ pub mod Values
 pub mod Bounded
 pub mod Signs
 pub mod Forms
+pub mod Assigned
+pub mod Demanded
+pub mod Same
+pub mod Changes
+pub mod Puts
+pub mod Matrices
+pub mod Lowered
+pub mod Forgotten

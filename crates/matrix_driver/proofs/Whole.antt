@@ -2,7 +2,7 @@
 use Rattle.std.proofs.Common.{◌≢◌, ℕ, ◌+◌, ◌<◌, ℤ, arith}
 use Rattle.linear_form.specs.declared.form.Lin.{Lin}
 use Rattle.form_bounds.specs.Values.{IsOver}
-use Rattle.form_images.specs.Assigned.{AreAssigned}
+use Rattle.form_bounds.specs.Assigned.{AreAssigned}
 use Rattle.closed_matrices.specs.Settled.{IsTightBut}
 use Rattle.closed_matrices.proofs.Tight.{tight_beside}
 

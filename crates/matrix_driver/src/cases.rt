@@ -5,8 +5,7 @@ use crate::inputs::{Input, form_of, matrix_of, place_of};
 use crate::rows::{reclose_case, row_case};
 use crate::shown::Answer;
 use diff_bounds::close;
-use form_bounds::upper;
-use form_images::{assign, demand};
+use form_bounds::{assign, demand, upper};
 use linear_form::{Lin, lin_add, lin_scale};
 
 fn close_case(numbers: &[i128]) -> Option<Answer> {

@@ -7,7 +7,7 @@ use crate::inputs::{Input, bound_of};
 use crate::shown::Answer;
 use closed_matrices::{close_row, closed_words_are_tight, settled};
 use diff_bounds::{add_bound, close};
-use form_images::assign;
+use form_bounds::assign;
 
 // lowers a word of one row or of its column
 #[tactic(auto, using(closed_matrices::proofs::Tight::tight_but_one))]

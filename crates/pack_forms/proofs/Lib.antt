@@ -1,3 +1,13 @@
+pub mod AtCell
+pub mod Closing
+pub mod KnownWords
+pub mod Marks
+pub mod PackForms
+pub mod SameBut
+pub mod SameWords
+pub mod Shown
+pub mod Sizes
+pub mod Trials
 pub mod Units
 pub mod Quotients
 pub mod FormsAgree

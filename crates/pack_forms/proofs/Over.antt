@@ -24,7 +24,7 @@ use Rattle.result_ranges.specs.declared.amounts.Taken.{Taken}
 use Rattle.cell_steps.specs.Homes.{Home}
 use Rattle.diff_steps.specs.Packs.{cell_of}
 use Rattle.diff_steps.specs.Forms.{whole_sum, added_forms, turned_if}
-use Rattle.pack_changes.specs.Forms.{IsFormOf}
+use Rattle.pack_forms.specs.Forms.{IsFormOf}
 use Rattle.pack_forms.specs.declared.cells.PackCell.{PackCell}
 use Rattle.pack_forms.specs.Cells.{plain_cell, plain_cells}
 use Rattle.pack_forms.proofs.Places.{cell_below}

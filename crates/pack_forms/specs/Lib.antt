@@ -1,3 +1,9 @@
+pub mod KnownCells
+pub mod Ends
+pub mod Forms
+pub mod Gone
+pub mod Receiving
+pub mod Tight
 pub mod Cells
 pub mod Views
 pub mod Sizes

@@ -19,14 +19,14 @@ ghost use Rattle.cell_steps.specs.Homes.{owns};
 ghost use Rattle.cell_steps.specs.Stores.{range_at};
 ghost use Rattle.diff_steps.specs.Forms as forms;
 ghost use Rattle.diff_steps.specs.Moments.{Bytes};
-ghost use Rattle.pack_changes.specs.Forms.{IsFormOf};
+ghost use Rattle.pack_forms.specs.Forms.{IsFormOf};
 ghost use Rattle.pack_forms.specs.Sizes.{HasSmallTop};
 ghost use Rattle.pack_forms.specs.Views.{plain_pack, item_cell, HasUnit, program_of, known_in, taken_at};
 ghost use Rattle.pack_forms.specs.Working.{settled_if, own_by, product_by, multiplied_by, computed_by, amount_by};
 ghost use Rattle.pack_forms.specs.Writing.{amount_items, are_written};
 
 use crate::cells::PackCell;
-use crate::forms::{added, scaled, turned};
+use crate::form_sums::{added, scaled, turned};
 use crate::literals::whole_sum;
 use crate::operands::operands_form;
 use crate::pack::{PackView, cell_in};

@@ -13,11 +13,11 @@ ghost use Rattle.cell_steps.specs.Cells.{units_of};
 ghost use Rattle.diff_steps.specs.Forms as forms;
 ghost use Rattle.diff_steps.specs.Moments.{Bytes};
 ghost use Rattle.diff_steps.specs.Packs.{cell_of};
-ghost use Rattle.pack_changes.specs.Forms.{IsFormOf};
+ghost use Rattle.pack_forms.specs.Forms.{IsFormOf};
 ghost use Rattle.pack_forms.specs.Views.{plain_pack, HasUnit, program_of, known_in, taken_at};
 
 use crate::cells::PackCell;
-use crate::forms::added;
+use crate::form_sums::added;
 use crate::pack::{PackView, cell_in};
 use cell_walk::{KnownItems, count_units};
 use linear_form::Lin;

@@ -1,63 +1,76 @@
-//! Sums of forms, where there are forms.
-ghost use Rattle.std.specs.Prelude.{◌≡◌, true, IfSome};
-ghost use Rattle.linear_form.specs.Forms.{if_small};
-ghost use Rattle.linear_form.specs.Results.{sum_of};
-ghost use Rattle.sum_forms.specs.SumForms.{scaled_form, scaled_if};
-ghost use Rattle.sum_forms.specs.Values.{IsForm};
-ghost use Rattle.diff_steps.specs.Forms.{added_forms, turned_if};
+//! Forms with another sign, and with an error.
+ghost use Rattle.std.specs.Prelude.{◌≡◌, ◌≤ℤ◌, ℕ, true, IfSome};
+ghost use Rattle.form_bounds.specs.Values.{IsOver};
+ghost use Rattle.sum_forms.specs.Constants.{constant_form};
+ghost use Rattle.sum_forms.specs.SumForms.{turned_form, turned_if};
+ghost use Rattle.diff_steps.specs.Stores.{widened_form};
+ghost use Rattle.diff_steps.specs.Guards.{strictly, at_most};
+ghost use Rattle.pack_forms.specs.Forms.{IsFormOf};
 
+use decimal_interval::Interval;
 use linear_form::{Lin, lin_add, lin_scale};
 
-fn sum_of_two(a: &Lin, b: &Lin) -> Option<Lin>
-    requires a { IsForm a.now }
-    requires b { IsForm b.now }
-    ensures value { result ≡ if_small (sum_of a.now b.now) }
-    ensures good { IfSome result IsForm }
-{
-    lin_add(a, b)
-}
+// how many cells a pack has at most
+const CELLS: usize = 8;
 
-fn multiple(form: &Lin, by: i128) -> Option<Lin>
-    requires { IsForm form.now }
-    ensures value { result ≡ scaled_form by form.now }
-    ensures good { IfSome result IsForm }
+// a constant's form
+fn constant(numbers: Interval) -> Lin
+    ensures { result ≡ constant_form numbers }
 {
-    lin_scale(form, by)
-}
-
-/// The sum of two forms.
-pub(crate) fn added(a: Option<Lin>, b: Option<Lin>) -> Option<Lin>
-    requires a { IfSome a IsForm }
-    requires b { IfSome b IsForm }
-    ensures value { result ≡ added_forms a b }
-    ensures good { IfSome result IsForm }
-{
-    match a {
-        None => None,
-        Some(a) => match b {
-            None => None,
-            Some(b) => sum_of_two(&a, &b),
-        },
+    Lin {
+        coefs: [0; CELLS],
+        constant: numbers,
     }
 }
 
-/// A whole number times a form.
-pub(crate) fn scaled(form: Option<Lin>, by: i128) -> Option<Lin>
-    requires { IfSome form IsForm }
-    ensures value { result ≡ scaled_if by form }
-    ensures good { IfSome result IsForm }
+// the form times -1
+fn negated(form: &Lin) -> Option<Lin>
+    requires { form.now.constant.low ≤ℤ form.now.constant.high }
+    ensures value { result ≡ turned_form true form.now }
+    ensures of_pack { (size : ℕ) → IsOver size form.now → IfSome result (IsFormOf size) }
+{
+    lin_scale(form, -1)
+}
+
+/// The form times -1, if there is one.
+pub fn turned(form: Option<Lin>) -> Option<Lin>
+    requires { IfSome form (λ f. f.constant.low ≤ℤ f.constant.high) }
+    ensures value { result ≡ turned_if true form }
+    ensures of_pack { (size : ℕ) → IfSome form (IsOver size) → IfSome result (IsFormOf size) }
 {
     match form {
+        Some(form) => negated(&form),
         None => None,
-        Some(form) => multiple(&form, by),
     }
 }
 
-/// A form with the other sign.
-pub(crate) fn turned(form: Option<Lin>) -> Option<Lin>
-    requires { IfSome form IsForm }
-    ensures value { result ≡ turned_if true form }
-    ensures good { IfSome result IsForm }
+// the form plus a number of an interval, if its numbers are small
+pub(crate) fn widened(form: &Lin, error: Interval) -> Option<Lin>
+    requires form { form.now.constant.low ≤ℤ form.now.constant.high }
+    requires error { error.low ≤ℤ error.high }
+    ensures value { result ≡ widened_form form.now error }
+    ensures of_pack { (size : ℕ) → IsOver size form.now → IfSome result (IsFormOf size) }
 {
-    scaled(form, -1)
+    lin_add(form, &constant(error))
+}
+
+// the form plus 1
+fn one_more(form: &Lin) -> Option<Lin>
+    requires { form.now.constant.low ≤ℤ form.now.constant.high }
+    ensures value { result ≡ strictly true form.now }
+    ensures of_pack { (size : ℕ) → IsOver size form.now → IfSome result (IsFormOf size) }
+{
+    widened(form, Interval { low: 1, high: 1 })
+}
+
+// the form that is at most 0 where this one is: at most 0 if it may be even, and else below 0
+pub(crate) fn at_most(fine: bool, even: bool, form: Option<Lin>) -> Option<Lin>
+    requires { IfSome form (λ f. f.constant.low ≤ℤ f.constant.high) }
+    ensures value { result ≡ at_most fine even form }
+    ensures of_pack { (size : ℕ) → IfSome form (IsFormOf size) → IfSome result (IsFormOf size) }
+{
+    match form {
+        Some(form) if fine && !even => one_more(&form),
+        other => other,
+    }
 }

@@ -4,7 +4,7 @@ ghost use Rattle.sum_forms.specs.Values.{IsForm};
 ghost use Rattle.diff_steps.specs.Forms as forms;
 ghost use Rattle.diff_steps.specs.Forms.{is_whole_sender};
 ghost use Rattle.diff_steps.specs.Moments.{Bytes};
-ghost use Rattle.pack_changes.specs.Forms.{IsFormOf};
+ghost use Rattle.pack_forms.specs.Forms.{IsFormOf};
 ghost use Rattle.pack_forms.specs.Sizes.{HasSmallTop};
 ghost use Rattle.pack_forms.specs.Views.{plain_pack, item_cell, HasUnit, program_of, known_in, taken_at};
 ghost use Rattle.pack_forms.specs.Working.{item_by, sender_by};

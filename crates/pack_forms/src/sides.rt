@@ -12,10 +12,10 @@ ghost use Rattle.cell_steps.specs.Stores.{range_at};
 ghost use Rattle.diff_steps.specs.Guards as guards;
 ghost use Rattle.diff_steps.specs.Guards.{has_decimals};
 ghost use Rattle.diff_steps.specs.Packs as packs;
-ghost use Rattle.pack_changes.specs.Forms.{IsFormOf};
+ghost use Rattle.pack_forms.specs.Forms.{IsFormOf};
 ghost use Rattle.pack_forms.specs.Views.{plain_pack, item_cell, HasUnit, program_of, known_in};
 
-use crate::forms::{added, turned};
+use crate::form_sums::{added, turned};
 use crate::pack::PackView;
 use crate::sums::{form_of_divisor, form_of_sum};
 use borrowed_parts::Divisor;

@@ -10,12 +10,12 @@ use Rattle.diff_bounds.specs.Storages.{value_at, DifferBy, StandsIn}
 use Rattle.form_bounds.specs.Numbers.{word_of}
 use Rattle.form_bounds.specs.Upper.{coef_at}
 use Rattle.form_bounds.specs.Values.{IsOver}
-use Rattle.form_images.specs.Assigned.{upper_less, less_upper, AreAssigned, with_value, IsValue}
-use Rattle.form_images.specs.Demanded.{lowered, AreDemanded, IsMet}
-use Rattle.form_images.specs.Forgotten.{AreForgotten, AgreeBut}
-use Rattle.form_images.proofs.Assigned.{stands_assigned}
-use Rattle.form_images.proofs.Demanded.{stands_demanded}
-use Rattle.form_images.proofs.Forgotten.{stands_forgotten}
+use Rattle.form_bounds.specs.Assigned.{upper_less, less_upper, AreAssigned, with_value, IsValue}
+use Rattle.form_bounds.specs.Demanded.{lowered, AreDemanded, IsMet}
+use Rattle.form_bounds.specs.Forgotten.{AreForgotten, AgreeBut}
+use Rattle.form_bounds.proofs.Assigned.{stands_assigned}
+use Rattle.form_bounds.proofs.Demanded.{stands_demanded}
+use Rattle.form_bounds.proofs.Forgotten.{stands_forgotten}
 use Rattle.diff_steps.specs.Matrices.{forgotten, assigned, demanded, lesser}
 use Rattle.pack_laws.proofs.Words.{word_at}
 

@@ -16,7 +16,7 @@ use Rattle.linear_form.proofs.Dots.{dot_of_multiples}
 use Rattle.diff_bounds.specs.Matrix.{word}
 use Rattle.diff_bounds.specs.Storages.{StandsIn}
 use Rattle.form_bounds.specs.Values.{worths, IsOver}
-use Rattle.form_images.specs.Demanded.{IsMet}
+use Rattle.form_bounds.specs.Demanded.{IsMet}
 use Rattle.sum_ranges.specs.Ranged.{decimal}
 use Rattle.store_error.specs.Scales.{Spans}
 use Rattle.store_error.proofs.Scales.{times_cancel}

@@ -21,7 +21,7 @@ use Rattle.linear_form.specs.Forms.{coef, dot}
 use Rattle.diff_bounds.specs.Matrix.{word}
 use Rattle.diff_bounds.specs.Storages.{StandsIn}
 use Rattle.form_bounds.specs.Values.{worths}
-use Rattle.form_images.specs.Assigned.{with_value}
+use Rattle.form_bounds.specs.Assigned.{with_value}
 use Rattle.store_error.specs.Errors.{AreSure}
 use Rattle.store_error.specs.Scales.{Spans}
 use Rattle.result_ranges.specs.declared.amounts.AmountRange.{AmountRange}

@@ -15,10 +15,10 @@ use Rattle.form_bounds.specs.Numbers.{word_of}
 use Rattle.form_bounds.specs.Upper.{upper, coef_at}
 use Rattle.form_bounds.specs.Values.{AreLower}
 use Rattle.form_bounds.proofs.Bounded.{upper_is_word}
-use Rattle.form_images.specs.Assigned.{less_place, negated, upper_less, less_upper}
-use Rattle.form_images.specs.Demanded.{if_opposite, factor, demanded_by, lowered, AreDemanded}
-use Rattle.form_images.proofs.Demanded.{demanded_lower}
-use Rattle.form_images.proofs.Matrices.{none_is_word}
+use Rattle.form_bounds.specs.Assigned.{less_place, negated, upper_less, less_upper}
+use Rattle.form_bounds.specs.Demanded.{if_opposite, factor, demanded_by, lowered, AreDemanded}
+use Rattle.form_bounds.proofs.Demanded.{demanded_lower}
+use Rattle.form_bounds.proofs.Matrices.{none_is_word}
 use Rattle.sum_forms.specs.Constants.{constant_form}
 use Rattle.sum_forms.specs.SumForms.{turned_form}
 use Rattle.sum_forms.specs.Values.{IsNarrowerIfAny}

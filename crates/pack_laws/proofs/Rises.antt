@@ -14,8 +14,8 @@ use Rattle.form_bounds.specs.Numbers.{word_of}
 use Rattle.form_bounds.specs.Upper.{upper, coef_at}
 use Rattle.form_bounds.specs.Values.{AreLower}
 use Rattle.form_bounds.proofs.Bounded.{upper_is_word}
-use Rattle.form_images.specs.Assigned.{less_place, negated}
-use Rattle.form_images.proofs.Assigned.{assigned_lower}
+use Rattle.form_bounds.specs.Assigned.{less_place, negated}
+use Rattle.form_bounds.proofs.Assigned.{assigned_lower}
 use Rattle.store_error.specs.declared.known.Known as sure
 use Rattle.store_error.specs.Errors.{one_sided, error_in, IsSurer}
 use Rattle.store_error.proofs.Surer.{surer_inside}

@@ -19,7 +19,7 @@ use Rattle.linear_form.proofs.Dots.{dot_of_multiples}
 use Rattle.diff_bounds.specs.Matrix.{word}
 use Rattle.diff_bounds.specs.Storages.{StandsIn}
 use Rattle.form_bounds.specs.Values.{worths, IsOver}
-use Rattle.form_images.specs.Assigned.{with_value, AreOperands, IsValue}
+use Rattle.form_bounds.specs.Assigned.{with_value, AreOperands, IsValue}
 use Rattle.store_error.specs.declared.known.Known as sure
 use Rattle.store_error.specs.Errors.{error_in, stored_units, AreSure}
 use Rattle.store_error.specs.Scales.{Spans, IsBetween}

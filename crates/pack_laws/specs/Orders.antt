@@ -5,7 +5,7 @@ use Rattle.linear_form.specs.declared.form.Lin.{Lin}
 use Rattle.linear_form.specs.Forms.{coef, dot}
 use Rattle.diff_bounds.specs.Matrix.{word}
 use Rattle.form_bounds.specs.Values.{worths, IsOver}
-use Rattle.form_images.specs.Assigned.{AreOperands}
+use Rattle.form_bounds.specs.Assigned.{AreOperands}
 use Rattle.store_error.specs.Scales.{Spans}
 
 -- the decimal is one of the numbers that a form over the pack's cells can be, in units of so many decimals

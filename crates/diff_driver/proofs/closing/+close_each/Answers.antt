@@ -1,8 +1,8 @@
 use Rattle.std.proofs.Common.{◌≤◌, ◌-◌, length, take, drop, sym, subst, ◌∙◌, arith}
 use Rattle.std.specs.List.{AllByRecursion}
 use Rattle.dom_laws.specs.Lattice.{IsElement}
-use Rattle.claimed_matrices.specs.Claims.{cells_in, sizes_of}
-use Rattle.claimed_matrices.proofs.Filling.{sizes_split}
+use Rattle.claimed_rows.specs.MatrixClaims.{cells_in, sizes_of}
+use Rattle.claimed_rows.proofs.MatrixFilling.{sizes_split}
 use Rattle.diff_driver.specs.Rows.{rows_for}
 use Rattle.diff_driver.proofs.Rows.{first_matrix, others_element}
 use Rattle.diff_driver.proofs.closing.+close_each.Goals as goal

@@ -2,9 +2,9 @@ use Rattle.std.proofs.Common.{◌∙◌, Some, ap}
 use Rattle.cob_program.specs.ActView.{plain_program}
 use Rattle.cell_rows.specs.Rows.{cells_of}
 use Rattle.cell_layer.proofs.Leaving.{can_walk}
-use Rattle.pack_walk.specs.Plans.{plain_plans, matrices_for}
+use Rattle.diff_layer.specs.Plans.{plain_plans, matrices_for}
 use Rattle.diff_layer.proofs.Operands.{of_edge}
-use Rattle.diff_layer.proofs.Walked.{walks_it, walks_none}
+use Rattle.diff_layer.proofs.EdgesWalked.{walks_it, walks_none}
 use Rattle.diff_layer.proofs.edges.walk_edge.Goals as goal
 
 pub walk_packs-requires-clause-can : goal.walk_packs-requires-clause-can

@@ -1,5 +1,5 @@
 use Rattle.cob_program.specs.ActView.{plain_program}
-use Rattle.pack_walk.specs.Plans.{plain_plans}
+use Rattle.diff_layer.specs.Plans.{plain_plans}
 use Rattle.diff_layer.proofs.Beginning.{plans_are_few}
 use Rattle.diff_layer.proofs.Sizes.{small_in}
 use Rattle.diff_layer.proofs.entry.entry_words.Goals as goal

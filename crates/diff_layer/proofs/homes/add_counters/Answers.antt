@@ -3,7 +3,7 @@ use Rattle.std.proofs.lemmas.List.{drop_all}
 use Rattle.cob_program.specs.Statements.{plain_references}
 use Rattle.cob_program.proofs.Loops.{added, nothing_left}
 use Rattle.cell_steps.specs.Homes.{count_homes}
-use Rattle.diff_layer.specs.Plans.{cells_of}
+use Rattle.diff_layer.specs.Planning.{cells_of}
 use Rattle.diff_layer.proofs.Steps.{counters_step}
 use Rattle.diff_layer.proofs.homes.add_counters.Goals as goal
 

@@ -2,7 +2,7 @@ use Rattle.std.proofs.Common.{◌+◌, drop, ap}
 use Rattle.std.proofs.lemmas.List.{drop_all}
 use Rattle.cob_program.proofs.Loops.{added, nothing_left}
 use Rattle.cell_steps.specs.Homes.{item_homes}
-use Rattle.diff_layer.specs.Plans.{cells_of}
+use Rattle.diff_layer.specs.Planning.{cells_of}
 use Rattle.diff_layer.proofs.Steps.{items_step}
 use Rattle.diff_layer.proofs.homes.add_items.Goals as goal
 

@@ -1,6 +1,6 @@
 use Rattle.std.proofs.Common.{◌≡◌, ◌++◌, drop}
 use Rattle.cell_steps.specs.Homes.{item_homes}
-use Rattle.diff_layer.specs.Plans.{cells_of}
+use Rattle.diff_layer.specs.Planning.{cells_of}
 use Rattle.diff_layer.proofs.homes.add_items.Given as goal
 
 abbrev pub invariant-loop-item : goal.invariant-loop-item

@@ -1,5 +1,5 @@
 use Rattle.std.proofs.Common.{◌≡◌, take}
-use Rattle.diff_layer.specs.Plans.{sizes_in}
+use Rattle.diff_layer.specs.Planning.{sizes_in}
 use Rattle.diff_layer.proofs.planning.sizes_of.Given as goal
 
 abbrev pub invariant-loop-pack : goal.invariant-loop-pack

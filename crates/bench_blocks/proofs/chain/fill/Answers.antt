@@ -1,6 +1,0 @@
-use Rattle.std.proofs.Common.{arith}
-use Rattle.bench_blocks.proofs.Levels.{filled_all}
-use Rattle.bench_blocks.proofs.chain.fill.Goals as goal
-
-pub returns : goal.returns
-returns c = filled_all c.args.a.now c.loop-k.a c.args.level.now c.loop-k.k c.requires (omega (arith, c.loop-k-test.false, c.requires)) c.loop-k.invariant

@@ -1,5 +1,0 @@
-use Rattle.bench_blocks.proofs.Levels.{FilledTo}
-use Rattle.bench_blocks.proofs.chain.fill.Given as goal
-
-abbrev pub invariant-loop-k : goal.invariant-loop-k
-invariant-loop-k l = FilledTo l.initial.a l.a l.level l.k

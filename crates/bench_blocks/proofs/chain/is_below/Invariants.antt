@@ -1,7 +1,0 @@
-use Rattle.std.proofs.Common.{◌<◌}
-use Rattle.std.specs.Prelude.{◌≤ℤ◌}
-use Rattle.dom_laws.specs.Sizes.{word}
-use Rattle.bench_blocks.proofs.chain.is_below.Given as goal
-
-abbrev pub invariant-loop-k : goal.invariant-loop-k
-invariant-loop-k l = 0 < l.k → word l.a ≤ℤ word l.b

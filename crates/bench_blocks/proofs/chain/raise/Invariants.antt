@@ -1,7 +1,0 @@
-use Rattle.std.specs.Int.{int_max}
-use Rattle.dom_laws.specs.Sizes.{word}
-use Rattle.bench_blocks.proofs.Levels.{FilledTo}
-use Rattle.bench_blocks.proofs.chain.raise.Given as goal
-
-abbrev pub invariant-loop-k : goal.invariant-loop-k
-invariant-loop-k l = FilledTo l.initial.a l.a (int_max (word l.initial.a) (word l.b)) l.k

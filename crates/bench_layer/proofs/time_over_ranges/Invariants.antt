@@ -1,4 +1,0 @@
-use Rattle.bench_layer.proofs.time_over_ranges.Given as goal
-
-abbrev pub ghosts-time_first_edge : goal.ghosts-time_first_edge
-ghosts-time_first_edge a = record { name = a.blank.name; parts = a.blank.parts }

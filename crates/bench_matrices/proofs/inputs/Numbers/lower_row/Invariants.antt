@@ -1,9 +1,0 @@
-use Rattle.diff_bounds.specs.Matrix.{word, IsMatrix}
-use Rattle.closed_matrices.specs.Settled.{IsTightBut}
-use Rattle.bench_matrices.proofs.inputs.Numbers.lower_row.Given as goal
-
-abbrev pub invariant-loop-place : goal.invariant-loop-place
-invariant-loop-place l = record {
-  matrix : IsMatrix 8 l.m;
-  tight : IsTightBut 9 l.at (word 9 l.m);
-}

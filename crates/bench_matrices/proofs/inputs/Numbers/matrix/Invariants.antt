@@ -1,8 +1,0 @@
-use Rattle.diff_bounds.specs.Matrix.{IsMatrix}
-use Rattle.bench_matrices.proofs.inputs.Numbers.matrix.Given as goal
-
-abbrev pub invariant-loop-row : goal.invariant-loop-row
-invariant-loop-row l = IsMatrix 8 l.words
-
-abbrev pub invariant-loop-column : goal.invariant-loop-column
-invariant-loop-column l = IsMatrix 8 l.words

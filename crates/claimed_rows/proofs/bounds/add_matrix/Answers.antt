@@ -1,0 +1,15 @@
+use Rattle.std.proofs.Common.{◌+◌, ◌++◌, pos, rules, ap, ◌∙◌, arith}
+use Rattle.std.specs.Int.{w128}
+use Rattle.std.specs.Prelude.{slice_index_or}
+use Rattle.std.proofs.lemmas.Int.{to_z-of_z}
+use Rattle.claimed_rows.specs.Bounds.{word_bounds}
+use Rattle.claimed_rows.proofs.Adding.{one_more}
+use Rattle.claimed_rows.proofs.bounds.add_matrix.Goals as goal
+
+pub loop-at-preserved : goal.loop-at-preserved
+loop-at-preserved c =
+    one_more (λ k. word_bounds c.args.pack c.args.size k (slice_index_or c.args.m.now k (pos 0))) c.loop-at.at (c.loop-at.at + 1) c.args.bounds.now.items
+    c.loop-at.bounds.items c.add_word.new.bounds.items (omega arith) c.loop-at.invariant
+    (c.in_ok-add_word.ensures
+    ∙ ap (λ x. c.loop-at.bounds.items ++ word_bounds c.args.pack c.args.size c.loop-at.at x)
+    (to_z-of_z w128 (slice_index_or c.args.m.now c.loop-at.at (pos 0)) (search rules)))

@@ -1,0 +1,10 @@
+use Rattle.std.proofs.Common.{arith}
+use Rattle.diff_layer.specs.Plans.{plain_plan}
+use Rattle.diff_layer.proofs.KnownEnds.{few_decimals}
+use Rattle.diff_layer.proofs.changing.change_plan.Goals as goal
+
+pub view_of-pack-requires-clause-small : goal.view_of-pack-requires-clause-small
+view_of-pack-requires-clause-small c =
+    let few = few_decimals c.args.program.now.layout (plain_plan c.args.plan.now) c.requires.plan.short in
+    let unit = c.requires.plan.unit in
+    omega (arith, few, unit)

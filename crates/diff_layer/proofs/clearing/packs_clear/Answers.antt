@@ -1,0 +1,62 @@
+use Rattle.std.proofs.Common.{◌≡◌, true, false, rules, arith, if◌then◌else◌, Some, None, sym, ap, ◌∙◌}
+use Rattle.cob_program.specs.ActView.{plain_program, plain_stmt}
+use Rattle.cell_rows.specs.Rows.{cells_of}
+use Rattle.diff_layer.specs.Plans.{matrices_for}
+use Rattle.diff_layer.proofs.WalkSteps.{clear_begins, clears_on, clear_stops, clear_fails, clear_ends, clears_from_closed}
+use Rattle.diff_layer.proofs.clearing.packs_clear.Goals as goal
+
+pub loop-number-init : goal.loop-number-init
+loop-number-init c =
+    let x = c.args in
+    clear_begins (plain_program x.program.now) x.cells.now x.plans.now (plain_stmt x.statement.now) x.action x.row.now c.new-kept.result c.close_all.new.out
+    c.requires.can.row_of c.requires.words c.requires.can.fits (c.close_all.ensures.stays (search rules)) (c.new-kept.ensures.begins x.row.now) x.fault
+
+pub returns-then-not-clears : goal.returns-then-not-clears
+returns-then-not-clears c =
+    let x = c.args in
+    let k = c.loop-number in
+    let p = plain_program x.program.now in
+    let y = plain_stmt x.statement.now in
+    let firsts = matrices_for x.plans.now c.close_all.new.out in
+    let closes : c.close_all.result ≡ true = search rules in
+    let fails : c.clears.result ≡ false = search rules in
+    clears_from_closed p x.cells.now x.plans.now y x.action (cells_of x.row.now) (matrices_for x.plans.now x.out.now) c.requires.can.small firsts x.fault false
+    (c.close_all.ensures.closed ∙ ap (λ b. if b then Some firsts else None) closes)
+    (clear_fails p x.cells.now x.plans.now y x.action (cells_of x.row.now) firsts x.fault k.number k.row k.kept k.written k.out k.invariant (search rules)
+    (sym (c.clears.ensures k.invariant.at.wrote k.invariant.at.told) ∙ fails))
+
+pub returns-then-not-step : goal.returns-then-not-step
+returns-then-not-step c =
+    let x = c.args in
+    let k = c.loop-number in
+    let p = plain_program x.program.now in
+    let y = plain_stmt x.statement.now in
+    let firsts = matrices_for x.plans.now c.close_all.new.out in
+    let closes : c.close_all.result ≡ true = search rules in
+    let clear : c.clears.result ≡ true = search rules in
+    clears_from_closed p x.cells.now x.plans.now y x.action (cells_of x.row.now) (matrices_for x.plans.now x.out.now) c.requires.can.small firsts x.fault true
+    (c.close_all.ensures.closed ∙ ap (λ b. if b then Some firsts else None) closes)
+    (clear_stops p x.cells.now x.plans.now y x.action k.number k.row k.kept k.written k.out c.step.new.row c.step.new.kept c.step.new.written c.step.new.out c.step.result
+    c.step.ensures.steps (cells_of x.row.now) firsts (search rules) x.fault k.invariant (sym (c.clears.ensures k.invariant.at.wrote k.invariant.at.told) ∙ clear) (search rules))
+
+pub loop-number-preserved : goal.loop-number-preserved
+loop-number-preserved c =
+    let x = c.args in
+    let k = c.loop-number in
+    let words = c.step.ensures.words in
+    let few = k.invariant.at.words in
+    let clear : c.clears.result ≡ true = search rules in
+    clears_on (plain_program x.program.now) x.cells.now x.plans.now (plain_stmt x.statement.now) x.action k.number k.row k.kept k.written k.out
+    c.step.new.row c.step.new.kept c.step.new.written c.step.new.out c.step.result c.step.ensures.steps (cells_of x.row.now) (matrices_for x.plans.now c.close_all.new.out)
+    (search rules) x.fault k.invariant (sym (c.clears.ensures k.invariant.at.wrote k.invariant.at.told) ∙ clear) (search rules) c.step.ensures.writes c.step.ensures.row (omega (arith, words, few))
+    (c.step.ensures.can (search rules)) (c.step.ensures.matrices (search rules))
+
+pub returns : goal.returns
+returns c =
+    let x = c.args in
+    let k = c.loop-number in
+    let firsts = matrices_for x.plans.now c.close_all.new.out in
+    let closes : c.close_all.result ≡ true = search rules in
+    clears_from_closed (plain_program x.program.now) x.cells.now x.plans.now (plain_stmt x.statement.now) x.action (cells_of x.row.now) (matrices_for x.plans.now x.out.now) c.requires.can.small
+    firsts x.fault true (c.close_all.ensures.closed ∙ ap (λ b. if b then Some firsts else None) closes)
+    (clear_ends (plain_program x.program.now) x.cells.now x.plans.now (plain_stmt x.statement.now) x.action (cells_of x.row.now) firsts x.fault k.number k.row k.kept k.written k.out k.invariant (search rules))

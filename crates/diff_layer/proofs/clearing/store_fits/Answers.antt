@@ -1,0 +1,30 @@
+use Rattle.std.specs.Prelude.{IfSome}
+use Rattle.std.proofs.Common.{sym, subst}
+use Rattle.cob_program.specs.ActView.{plain_act, plain_program}
+use Rattle.borrowed_parts.specs.PartView.{plain_amount}
+use Rattle.result_ranges.specs.Sizes.{IsSmallAmount}
+use Rattle.cell_walk.specs.Kept.{seen}
+use Rattle.cell_walk.proofs.Stepping.{can_work, small_amounts}
+use Rattle.pack_forms.proofs.KeptSmall.{kept_small}
+use Rattle.diff_layer.proofs.clearing.store_fits.Goals as goal
+
+pub amount_for-found-requires-clause-can : goal.amount_for-found-requires-clause-can
+amount_for-found-requires-clause-can c =
+    let x = c.args in
+    can_work (plain_program x.program.now) (plain_act x.act.now) x.action (seen x.row.now x.kept.now) c.requires.can c.requires.taken x.place (plain_amount x.amount) c.requires.small
+
+pub amount_fits-requires-clause-can : goal.amount_fits-requires-clause-can
+amount_fits-requires-clause-can c =
+    let x = c.args in
+    record {
+      own = c.requires.small.own;
+      small = c.requires.of_edge.small;
+      top = kept_small (plain_program x.program.now) (plain_act x.act.now) x.action (seen x.row.now x.kept.now) c.requires.can c.requires.taken c.requires.small.sum;
+      work = can_work (plain_program x.program.now) (plain_act x.act.now) x.action (seen x.row.now x.kept.now) c.requires.can c.requires.taken x.place (plain_amount x.amount) c.requires.small;
+    }
+
+pub amount_fits-requires-clause-small : goal.amount_fits-requires-clause-small
+amount_fits-requires-clause-small c =
+    let x = c.args in
+    subst (λ o. IfSome o IsSmallAmount) (sym c.amount_for-found.ensures)
+    (small_amounts (plain_program x.program.now) (plain_act x.act.now) x.action (seen x.row.now x.kept.now) c.requires.can c.requires.taken x.place (plain_amount x.amount) c.requires.small)

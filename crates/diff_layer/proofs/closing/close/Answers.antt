@@ -1,0 +1,23 @@
+use Rattle.std.proofs.Common.{if◌then◌else◌, Some, None, sym, ap, subst, ◌∙◌}
+use Rattle.cob_program.specs.ActView.{plain_program}
+use Rattle.cell_rows.specs.Rows.{cells_of}
+use Rattle.cell_steps.specs.Homes.{homes_of}
+use Rattle.pack_forms.specs.KnownCells.{HaveEnds}
+use Rattle.diff_layer.specs.Plans.{plain_plan}
+use Rattle.diff_layer.proofs.KnownEnds.{known_cells_end}
+use Rattle.diff_layer.proofs.Staying.{stays_closed}
+use Rattle.diff_layer.proofs.closing.close.Goals as goal
+
+pub close_pack-requires-clause-ends : goal.close_pack-requires-clause-ends
+close_pack-requires-clause-ends c =
+    let x = c.args in
+    subst HaveEnds (sym c.know_cells.ensures)
+    (known_cells_end (plain_program x.program.now) (cells_of x.row.now) (plain_plan x.plan.now) c.requires.fits c.requires.plan.short)
+
+pub returns-clause-stays : goal.returns-clause-stays
+returns-clause-stays c closes =
+    let x = c.args in
+    let p = plain_program x.program.now in
+    stays_closed p (cells_of x.row.now) (plain_plan x.plan.now) c.requires.plan.few c.requires.fits c.requires.plan.short x.m.now c.requires.matrix c.close_pack.new.m
+    (c.close_pack.ensures.closing p.layout (homes_of p) (cells_of x.row.now) (plain_plan x.plan.now) c.know_cells.ensures
+    ∙ ap (λ b. if b then Some c.close_pack.new.m else None) closes)

@@ -1,0 +1,33 @@
+use Rattle.std.proofs.Common.{List, length, if◌then◌else◌, Some, None, sym, ap, subst, ◌∙◌}
+use Rattle.std.proofs.lemmas.List.{length-map}
+use Rattle.cob_program.specs.ActView.{plain_program}
+use Rattle.cell_rows.specs.Rows.{cells_of}
+use Rattle.cell_steps.specs.Homes.{homes_of}
+use Rattle.pack_forms.specs.KnownCells.{HaveEnds}
+use Rattle.pack_forms.specs.Tight.{IsTightIfSettled}
+use Rattle.pack_forms.specs.declared.cells.PackCell.{PackCell}
+use Rattle.pack_forms.specs.Cells.{plain_cell}
+use Rattle.diff_layer.specs.Plans.{plain_plan}
+use Rattle.diff_layer.proofs.KnownEnds.{known_cells_end}
+use Rattle.diff_layer.proofs.Staying.{stays_closed, closed_is_tight}
+use Rattle.diff_layer.proofs.closing.close_again.Goals as goal
+
+pub close_again-requires-clause-ends : goal.close_again-requires-clause-ends
+close_again-requires-clause-ends c =
+    let x = c.args in
+    subst HaveEnds (sym c.know_cells.ensures)
+    (known_cells_end (plain_program x.program.now) (cells_of x.row.now) (plain_plan x.plan.now) c.requires.fit c.requires.plan.short)
+
+pub close_again-requires-clause-tight : goal.close_again-requires-clause-tight
+close_again-requires-clause-tight c =
+    let x = c.args in
+    subst (λ n. IsTightIfSettled n x.last.now) (length-map x.plan.now.cells.items plain_cell ∙ ap (λ (cs : List PackCell). length cs) (sym c.as_slice-size.ensures.value))
+    (closed_is_tight (plain_program x.program.now) (cells_of x.before.now) (plain_plan x.plan.now) c.requires.plan.few c.requires.fits c.requires.plan.short x.last.now c.requires.last c.requires.closed)
+
+pub returns-clause-stays : goal.returns-clause-stays
+returns-clause-stays c closes =
+    let x = c.args in
+    let p = plain_program x.program.now in
+    stays_closed p (cells_of x.row.now) (plain_plan x.plan.now) c.requires.plan.few c.requires.fit c.requires.plan.short x.m.now c.requires.matrix c.close_again.new.m
+    (c.close_again.ensures.closing p.layout (homes_of p) (cells_of x.row.now) (plain_plan x.plan.now) c.know_cells.ensures
+    ∙ ap (λ b. if b then Some c.close_again.new.m else None) closes)

@@ -1,0 +1,12 @@
+use Rattle.std.proofs.Common.{length, ◌∙◌, ap}
+use Rattle.cell_steps.specs.Homes.{of_count}
+use Rattle.diff_steps.specs.Packs.{cell_of}
+use Rattle.pack_forms.specs.Views.{plain_pack}
+use Rattle.diff_layer.specs.Changes.{cell_assigned}
+use Rattle.diff_layer.proofs.counters.count_down.Goals as goal
+
+pub returns-clause-value : goal.returns-clause-value
+returns-clause-value c common wrote =
+    c.set_cell.ensures.value
+    ∙ ap (λ form. cell_assigned (length c.args.pack.now.cells.now) form (cell_of (plain_pack c.args.pack.now) (of_count c.args.statement)) c.args.m.now)
+    (c.lowered_form-form.ensures.value common wrote)

@@ -1,0 +1,23 @@
+use Rattle.std.proofs.Common.{take, drop, ap, ◌∙◌}
+use Rattle.cob_program.specs.ActView.{plain_program}
+use Rattle.borrowed_parts.specs.PartView.{plain_part}
+use Rattle.cell_rows.specs.Rows.{cells_of}
+use Rattle.diff_layer.specs.Ends.{shows_end}
+use Rattle.diff_layer.proofs.PackRows.{shown_first, shown_later}
+use Rattle.diff_layer.proofs.ends.+end_is_shown.Goals as goal
+
+pub returns-then-pack_shows : goal.returns-then-pack_shows
+returns-then-pack_shows t c wrote written =
+    let x = c.args in
+    shown_first x.plans.now c.plan-item.result c.in-len1-up.len_at_least c.plan-item.is x.out.now c.split_at.result.0.now c.split_at.result.1.now
+    c.requires.matrices (c.split_at.ensures.front ∙ ap (λ k. take k x.out.now) c.words_for.ensures) (c.split_at.ensures.back ∙ ap (λ k. drop k x.out.now) c.words_for.ensures)
+    (shows_end (plain_program x.program.now) (cells_of x.row.now) x.kept.now.common wrote (plain_part x.part) x.mode x.receiver x.low) c.pack_shows.result
+    (c.pack_shows.ensures wrote written) c.if-pack_shows.true
+
+pub returns-else-pack_shows : goal.returns-else-pack_shows
+returns-else-pack_shows t c wrote written =
+    let x = c.args in
+    shown_later x.plans.now c.plan-item.result c.in-len1-up.len_at_least c.plan-item.is x.out.now c.split_at.result.0.now c.split_at.result.1.now
+    c.requires.matrices (c.split_at.ensures.front ∙ ap (λ k. take k x.out.now) c.words_for.ensures) (c.split_at.ensures.back ∙ ap (λ k. drop k x.out.now) c.words_for.ensures)
+    (shows_end (plain_program x.program.now) (cells_of x.row.now) x.kept.now.common wrote (plain_part x.part) x.mode x.receiver x.low) c.pack_shows.result c.end_is_shown.result
+    (c.pack_shows.ensures wrote written) c.if-pack_shows.false (c.end_is_shown.ensures wrote written)

@@ -1,0 +1,11 @@
+use Rattle.std.proofs.Common.{◌∙◌, sym, ap}
+use Rattle.borrowed_parts.specs.PartView.{plain_part}
+use Rattle.pack_forms.specs.Views.{plain_pack, program_of, known_in}
+use Rattle.diff_layer.specs.Ends.{part_form}
+use Rattle.diff_layer.proofs.ends.form_for.Goals as goal
+
+pub returns-in-CountDown-clause-value : goal.returns-in-CountDown-clause-value
+returns-in-CountDown-clause-value c wrote written =
+    let x = c.args in
+    c.lowered_form.ensures.value x.kept.now.common wrote
+    ∙ sym (ap (λ y. part_form (program_of x.items.now) (known_in x.items.now) x.kept.now.common wrote (plain_part y) (plain_pack x.pack.now)) c.in-CountDown.is)

@@ -1,0 +1,12 @@
+-- Cells that a part leaves nothing known of.
+use Rattle.std.specs.Prelude.{◌&&◌, ◌||◌, not, Bool}
+use Rattle.cob_data.specs.declared.layout.Layout.{Layout}
+use Rattle.cell_steps.specs.Homes.{Home, of_item, is_home}
+use Rattle.cell_steps.specs.Cells.{is_in_bytes, is_beside}
+use Rattle.diff_layer.specs.declared.gone.Gone.{Gone}
+use Rattle.diff_layer.specs.declared.gone.Gone.TheVariants.{Others, Lost, Bytes}
+
+abbrev pub is_gone : Layout → Gone → Home → Bool
+is_gone l (Others place) h = is_beside l place h && not (is_home h (of_item place))
+is_gone l (Lost place) h = is_home h (of_item place) || is_beside l place h
+is_gone l (Bytes offset count) h = is_in_bytes l offset count h

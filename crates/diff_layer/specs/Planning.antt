@@ -1,0 +1,39 @@
+-- Packs of a program's cells as they are walked with.
+use Rattle.std.specs.Prelude.{◌≡◌, ℕ, List, map, length}
+use Rattle.std.specs.List.{AllByRecursion}
+use Rattle.cob_data.specs.declared.layout.Layout.{Layout}
+use Rattle.cell_steps.specs.Homes.{Home, of_item, of_count}
+use Rattle.diff_bounds.specs.declared.Pack as declared
+use Rattle.diff_steps.specs.Packs.{pack_decimals}
+use Rattle.pack_forms.specs.declared.cells.PackCell.{PackCell}
+use Rattle.pack_forms.specs.declared.cells.PackCell.TheVariants.{Item, Count}
+use Rattle.diff_layer.specs.declared.plans.PackPlan.{PackPlan}
+use Rattle.diff_layer.specs.Plans.{plain_plan, plain_plans}
+use Rattle.pack_laws.specs.Packs.{pack_in, packs_in}
+
+abbrev pub cell_of : Home → PackCell
+cell_of (of_item place) = Item place
+cell_of (of_count statement) = Count statement
+
+abbrev pub cells_of : List Home → List PackCell
+cells_of homes = map cell_of homes
+
+-- ---- plans
+
+abbrev pub HasUnit : Layout → PackPlan → Type 0
+HasUnit l plan = plan.decimals ≡ pack_decimals l (plain_plan plan)
+
+abbrev pub HaveUnits : Layout → List PackPlan → Type 0
+HaveUnits l plans = AllByRecursion (HasUnit l) plans
+
+-- the pack's cells, and its unit
+pub record IsPlanFor (l : Layout) (homes : List Home) (pack : declared.Pack) (plan : PackPlan) : Type 0 where
+  pub cells : plain_plan plan ≡ pack_in homes pack.cells.items
+  pub unit : HasUnit l plan
+
+pub record ArePlansFor (l : Layout) (homes : List Home) (all : List declared.Pack) (plans : List PackPlan) : Type 0 where
+  pub packs : plain_plans plans ≡ packs_in homes all
+  pub units : HaveUnits l plans
+
+abbrev pub sizes_in : List declared.Pack → List ℕ
+sizes_in packs = map (λ pack. length pack.cells.items) packs

@@ -1,0 +1,69 @@
+//! Counters of a pack.
+ghost use Rattle.std.specs.Prelude.{◌≡◌, ◌≤◌, length, List, Option, IfSome};
+ghost use Rattle.diff_bounds.specs.Matrix.{IsMatrix};
+ghost use Rattle.result_ranges.specs.declared.amounts.Taken.{Taken};
+ghost use Rattle.cell_rows.specs.Elements.{CellsFit};
+ghost use Rattle.cell_steps.specs.Homes.{of_count, owns};
+ghost use Rattle.diff_steps.specs.Forms as forms;
+ghost use Rattle.diff_steps.specs.Moments.{Bytes};
+ghost use Rattle.diff_steps.specs.Packs.{cell_of};
+ghost use Rattle.pack_forms.specs.Forms.{IsFormOf};
+ghost use Rattle.pack_forms.specs.Sizes.{HasSmallTop};
+ghost use Rattle.pack_forms.specs.Views.{plain_pack, HasUnit, program_of, known_in, taken_at};
+ghost use Rattle.pack_forms.specs.Writing.{sender_items, are_written};
+ghost use Rattle.diff_layer.specs.Changes.{cell_assigned};
+
+use cell_walk::{Kept, KnownItems};
+use cob_data::Sender;
+use linear_form::Lin;
+use pack_forms::{PackCell, PackView, assign_or_forget, cell_in, lowered_form, set_form};
+
+// makes the counter's cell, where the pack has it, a form
+fn set_cell(pack: &PackView, m: &mut [i128], statement: u32, form: Option<Lin>)
+    requires m { IsMatrix (length pack.now.cells.now) m.old }
+    requires form { IfSome form (IsFormOf (length pack.now.cells.now)) }
+    ensures value { m.new ≡ cell_assigned (length pack.now.cells.now) form (cell_of (plain_pack pack.now) (of_count statement)) m.old }
+    ensures matrix { IsMatrix (length pack.now.cells.now) m.new }
+{
+    match cell_in(pack, PackCell::Count(statement)) {
+        None => {}
+        Some(cell) => assign_or_forget(pack.cells.len(), m, cell + 1, form),
+    }
+}
+
+/// Makes of a pack's matrix what the setting of a counter makes of it.
+pub(crate) fn set_count(
+    items: &KnownItems,
+    pack: &PackView,
+    m: &mut [i128],
+    statement: u32,
+    sender: &Sender,
+    kept: &Kept,
+    written: bool,
+)
+    requires m { IsMatrix (length pack.now.cells.now) m.old }
+    requires unit { HasUnit (program_of items.now).layout pack.now }
+    requires top { IfSome kept.now.common HasSmallTop }
+    ensures value { (wrote : List Bytes) → written ≡ are_written (program_of items.now).layout wrote (sender_items sender.now)
+        → m.new ≡ cell_assigned (length pack.now.cells.now)
+        (forms.set_form (program_of items.now) (plain_pack pack.now) (taken_at (known_in items.now) kept.now.common) wrote sender.now)
+        (cell_of (plain_pack pack.now) (of_count statement)) m.old }
+    ensures matrix { IsMatrix (length pack.now.cells.now) m.new }
+{
+    let form = set_form(items, pack, sender, kept.common, written);
+    set_cell(pack, m, statement, form);
+}
+
+/// Makes of it what a counter that goes down by one makes of it.
+pub(crate) fn count_down(items: &KnownItems, pack: &PackView, m: &mut [i128], statement: u32)
+    requires m { IsMatrix (length pack.now.cells.now) m.old }
+    requires unit { HasUnit (program_of items.now).layout pack.now }
+    requires fits { CellsFit (owns (program_of items.now)) (known_in items.now) }
+    ensures value { (common : Option Taken) (wrote : List Bytes) → m.new ≡ cell_assigned (length pack.now.cells.now)
+        (forms.lowered_form (program_of items.now) (plain_pack pack.now) (taken_at (known_in items.now) common) wrote statement)
+        (cell_of (plain_pack pack.now) (of_count statement)) m.old }
+    ensures matrix { IsMatrix (length pack.now.cells.now) m.new }
+{
+    let form = lowered_form(items, pack, statement);
+    set_cell(pack, m, statement, form);
+}

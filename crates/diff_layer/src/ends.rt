@@ -1,0 +1,213 @@
+//! The ends of what a receiver gets, by the first layer and by the matrices.
+ghost use Rattle.std.specs.Prelude.{◌≡◌, ◌≤◌, ◌<◌, ◌≤ℤ◌, ◌^◌, ◌||◌, length, List, pos, neg_ℤ, int_le, unsigned_abs, Option, Some, IfSome};
+ghost use Rattle.std.specs.Option.{option_map_or};
+ghost use Rattle.cob_program.specs.ActView.{plain_program};
+ghost use Rattle.borrowed_parts.specs.PartView.{plain_part};
+ghost use Rattle.diff_bounds.specs.Matrix.{IsMatrix};
+ghost use Rattle.linear_form.specs.declared.form.Lin.{Lin};
+ghost use Rattle.sum_ranges.specs.Sizes.{IsSmallRange};
+ghost use Rattle.result_ranges.specs.ResultRanges.{most, near_range};
+ghost use Rattle.result_ranges.specs.Sizes.{IsReceiver};
+ghost use Rattle.cell_rows.specs.Elements.{CellsFit};
+ghost use Rattle.cell_rows.specs.Rows.{cells_of};
+ghost use Rattle.cell_steps.specs.Homes.{owns};
+ghost use Rattle.cell_walk.specs.ProgramRows.{IsRowOf};
+ghost use Rattle.diff_steps.specs.Clearing.{high_fits, low_fits, some_pack, high_shown, low_shown};
+ghost use Rattle.diff_steps.specs.Moments.{Bytes};
+ghost use Rattle.diff_steps.specs.Packs.{Pack, size_of, pack_decimals};
+ghost use Rattle.pack_forms.specs.Forms.{IsFormOf};
+ghost use Rattle.pack_forms.specs.Receiving.{upper_if, upper_negated_if};
+ghost use Rattle.pack_forms.specs.Views.{plain_pack, HasUnit, program_of, known_in};
+ghost use Rattle.diff_layer.specs.Ends.{part_form, end_in_pack, some_end};
+ghost use Rattle.diff_layer.specs.Parts.{CanChange, IsWrittenTo};
+ghost use Rattle.diff_layer.specs.Plans.{plain_plan, plain_plans, IsPlanOf, ArePlansOf, matrices_for, IsRowFor};
+
+use crate::plans::{PackPlan, view_of, words_for};
+use borrowed_parts::EdgePart;
+use cell_walk::{Kept, KnownItems};
+use cob_program::Program;
+use cob_runs::Cell;
+use dec_num::{Fit, Mode, Scaled, fit};
+use decimal_interval::Interval;
+use linear_form::Lin;
+use pack_forms::{PackView, amount_form, lowered_form, set_form, shows_high, shows_low};
+use result_ranges::Receiver;
+use sum_ranges::Ranged;
+
+// ---- by the matrices
+
+// the form of what a receiver gets, over a pack
+fn form_for(
+    items: &KnownItems,
+    pack: &PackView,
+    part: EdgePart,
+    kept: &Kept,
+    written: bool,
+) -> Option<Lin>
+    requires unit { HasUnit (program_of items.now).layout pack.now }
+    requires fits { CellsFit (owns (program_of items.now)) (known_in items.now) }
+    requires can { CanChange (program_of items.now) (known_in items.now) kept.now.common (plain_part part) }
+    ensures value { (wrote : List Bytes) → IsWrittenTo (program_of items.now).layout wrote written (plain_part part.entry)
+        → result ≡ part_form (program_of items.now) (known_in items.now) kept.now.common wrote (plain_part part.entry) (plain_pack pack.now) }
+    ensures of_pack { IfSome result (IsFormOf (length pack.now.cells.now)) }
+{
+    match part {
+        EdgePart::Store { item, amount, .. } => {
+            amount_form(items, pack, item, amount, kept.common, written)
+        }
+        EdgePart::SetCount { count, .. } => set_form(items, pack, count, kept.common, written),
+        EdgePart::CountDown(number) => lowered_form(items, pack, number),
+        EdgePart::Read(_)
+        | EdgePart::Unread
+        | EdgePart::Divide(_)
+        | EdgePart::Bytes { .. }
+        | EdgePart::Guard { .. }
+        | EdgePart::ReadCount(_)
+        | EdgePart::GuardCount { .. } => None,
+    }
+}
+
+fn end_fits(
+    size: usize,
+    m: &[i128],
+    form: Option<Lin>,
+    mode: Mode,
+    receiver: Receiver,
+    decimals: u32,
+    low: bool,
+) -> bool
+    requires size { size ≤ 8 }
+    requires m { IsMatrix size m.now }
+    requires form { IfSome form (IsFormOf size) }
+    requires digits { receiver.digits ≤ 18 }
+    requires scale { receiver.scale ≤ 18 }
+    requires decimals { decimals ≤ 18 }
+    ensures { result ≡ end_in_pack size decimals m.now form mode receiver low }
+{
+    if low {
+        shows_low(size, m, form, mode, receiver, decimals)
+    } else {
+        shows_high(size, m, form, mode, receiver, decimals)
+    }
+}
+
+// whether the matrix of a pack shows that an end of what the receiver gets fits it
+fn pack_shows(
+    program: &Program,
+    cells: &[Cell],
+    row: &[i128],
+    plan: &PackPlan,
+    m: &[i128],
+    part: EdgePart,
+    kept: &Kept,
+    written: bool,
+    mode: Mode,
+    receiver: Receiver,
+    low: bool,
+) -> bool
+    requires row { IsRowOf (plain_program program.now) cells.now row.now }
+    requires fits { CellsFit (owns (plain_program program.now)) (cells_of row.now) }
+    requires plan { IsPlanOf (plain_program program.now) plan.now }
+    requires can { CanChange (plain_program program.now) (cells_of row.now) kept.now.common (plain_part part) }
+    requires matrix { IsMatrix (size_of (plain_plan plan.now)) m.now }
+    requires digits { receiver.digits ≤ 18 }
+    requires scale { receiver.scale ≤ 18 }
+    ensures { (wrote : List Bytes) → IsWrittenTo program.now.layout wrote written (plain_part part.entry)
+        → result ≡ end_in_pack (size_of (plain_plan plan.now)) (pack_decimals program.now.layout (plain_plan plan.now)) m.now
+        (part_form (plain_program program.now) (cells_of row.now) kept.now.common wrote (plain_part part.entry) (plain_plan plan.now)) mode receiver low }
+{
+    let items = KnownItems {
+        program,
+        cells,
+        row,
+    };
+    let pack = view_of(plan);
+    let form = form_for(&items, &pack, part, kept, written);
+    end_fits(
+        pack.cells.len(),
+        m,
+        form,
+        mode,
+        receiver,
+        plan.decimals,
+        low,
+    )
+}
+
+/// Whether the matrix of some pack shows that an end of what the receiver of a part gets fits it: the low end, or the high
+/// one.
+pub(crate) fn end_is_shown(
+    program: &Program,
+    cells: &[Cell],
+    row: &[i128],
+    plans: &[PackPlan],
+    out: &[i128],
+    part: EdgePart,
+    kept: &Kept,
+    written: bool,
+    mode: Mode,
+    receiver: Receiver,
+    low: bool,
+) -> bool
+    requires row { IsRowOf (plain_program program.now) cells.now row.now }
+    requires fits { CellsFit (owns (plain_program program.now)) (cells_of row.now) }
+    requires plans { ArePlansOf (plain_program program.now) plans.now }
+    requires can { CanChange (plain_program program.now) (cells_of row.now) kept.now.common (plain_part part) }
+    requires matrices { IsRowFor plans.now out.now }
+    requires digits { receiver.digits ≤ 18 }
+    requires scale { receiver.scale ≤ 18 }
+    ensures { (wrote : List Bytes) → IsWrittenTo program.now.layout wrote written (plain_part part.entry)
+        → result ≡ some_end (plain_program program.now) (cells_of row.now) kept.now.common wrote (plain_part part.entry) mode receiver low
+        (plain_plans plans.now) (matrices_for plans.now out.now) }
+{
+    match plans {
+        [] => false,
+        [plan, plans @ ..] => {
+            let (first, rest) = out.split_at(words_for(plan));
+            pack_shows(
+                program, cells, row, plan, first, part, kept, written, mode, receiver, low,
+            ) || end_is_shown(
+                program, cells, row, plans, rest, part, kept, written, mode, receiver, low,
+            )
+        }
+    }
+}
+
+// ---- by the first layer
+
+// whether a number, cut or rounded, is at most the greatest one of a receiver
+fn is_at_most(mode: Mode, receiver: Receiver, units: i128, scale: u32) -> bool
+    requires receiver { IsReceiver receiver }
+    requires scale { scale ≤ 37 }
+    requires units { unsigned_abs units < 10 ^ 37 }
+    ensures high { result ≡ high_fits mode receiver scale (Some units) }
+    ensures low { result ≡ low_fits mode receiver scale (Some units) }
+{
+    match fit(
+        Scaled { units, scale },
+        receiver.digits,
+        receiver.scale,
+        mode,
+    ) {
+        Fit::Stored(_) => true,
+        Fit::TooBig => units < 0,
+    }
+}
+
+/// Whether the high end of a range fits a receiver.
+pub(crate) fn high_end_fits(mode: Mode, receiver: Receiver, range: Ranged) -> bool
+    requires receiver { IsReceiver receiver }
+    requires range { IsSmallRange range }
+    ensures { result ≡ int_le (near_range mode receiver.scale range).high (most receiver.digits) }
+{
+    is_at_most(mode, receiver, range.units.high, range.scale)
+}
+
+/// Whether its low end does.
+pub(crate) fn low_end_fits(mode: Mode, receiver: Receiver, range: Ranged) -> bool
+    requires receiver { IsReceiver receiver }
+    requires range { IsSmallRange range }
+    ensures { result ≡ int_le (neg_ℤ (most receiver.digits)) (near_range mode receiver.scale range).low }
+{
+    is_at_most(mode, receiver, -range.units.low, range.scale)
+}

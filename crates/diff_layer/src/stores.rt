@@ -1,0 +1,147 @@
+//! Stores of amounts at the cells of a pack.
+ghost use Rattle.std.specs.Prelude.{◌≡◌, ◌+◌, ◌-◌, ◌^◌, ◌≤◌, true, length, List, IfSome};
+ghost use Rattle.cob_program.specs.Bounds.{is_small};
+ghost use Rattle.cob_runs.specs.Contents.{form_at};
+ghost use Rattle.cob_calc.specs.Contents.{bound_at};
+ghost use Rattle.borrowed_parts.specs.PartView.{plain_amount};
+ghost use Rattle.diff_bounds.specs.Matrix.{IsMatrix};
+ghost use Rattle.result_ranges.specs.Receivers.{receiver_of};
+ghost use Rattle.cell_amounts.specs.Small.{is_small_amount};
+ghost use Rattle.cell_amounts.specs.Working.{CanWork};
+ghost use Rattle.cell_rows.specs.Elements.{CellsFit};
+ghost use Rattle.cell_steps.specs.Homes.{of_item, owns};
+ghost use Rattle.cell_steps.specs.Stores.{range_at};
+ghost use Rattle.cell_walk.specs.Kept.{latest_of};
+ghost use Rattle.diff_steps.specs.Forms as forms;
+ghost use Rattle.diff_steps.specs.Moments.{Bytes};
+ghost use Rattle.diff_steps.specs.Packs.{cell_of, decimals_of};
+ghost use Rattle.pack_forms.specs.Sizes.{HasSmallTop};
+ghost use Rattle.pack_forms.specs.Views.{plain_pack, HasUnit, program_of, known_in, taken_at};
+ghost use Rattle.pack_forms.specs.Writing.{amount_items, are_written};
+ghost use Rattle.diff_layer.specs.Changes.{decimal_in, cell_stored, fitting_stored, store_changed};
+
+use crate::gone::{Gone, forget};
+use borrowed_parts::Amount;
+use cell_amounts::receiver_at;
+use cell_walk::{Kept, KnownItems};
+use dec_num::Mode;
+use pack_forms::{PackCell, PackView, amount_form, cell_in, has_operands, store_at, unit_of};
+use pack_rows::set_least_matrix;
+use result_ranges::{AmountRange, Taken};
+
+// the range of an amount that is a decimal, by what it is worked out of
+fn decimal_in(worked: Option<Taken>) -> Option<AmountRange>
+    ensures { result ≡ decimal_in worked }
+{
+    match worked {
+        Some(Taken { top, under: None }) => Some(AmountRange::Decimal(top)),
+        _ => None,
+    }
+}
+
+// what the receiver's cell gets
+fn store_cell(
+    items: &KnownItems,
+    pack: &PackView,
+    m: &mut [i128],
+    place: u32,
+    mode: Mode,
+    amount: Amount,
+    kept: &Kept,
+    written: bool,
+)
+    requires m { IsMatrix (length pack.now.cells.now) m.old }
+    requires unit { HasUnit (program_of items.now).layout pack.now }
+    requires fits { CellsFit (owns (program_of items.now)) (known_in items.now) }
+    requires own { is_small (bound_at (program_of items.now).layout place) ≡ true }
+    requires sum { is_small_amount (bound_at (program_of items.now).layout) (plain_amount amount) ≡ true }
+    requires top { IfSome kept.now.common HasSmallTop }
+    requires can { IfSome kept.now.common (CanWork (plain_amount amount) (range_at (program_of items.now) (known_in items.now) place)) }
+    ensures value { (wrote : List Bytes) → written ≡ are_written (program_of items.now).layout wrote (amount_items (plain_amount amount.entry))
+        → m.new ≡ cell_stored (length pack.now.cells.now) (receiver_of (form_at (program_of items.now).layout place)) mode
+        (10 ^ (pack.now.decimals - decimals_of (program_of items.now).layout (of_item place))) (decimal_in kept.now.result)
+        (forms.amount_form (program_of items.now) (plain_pack pack.now) (taken_at (known_in items.now) kept.now.common) wrote place (plain_amount amount.entry))
+        (cell_of (plain_pack pack.now) (of_item place)) m.old }
+    ensures matrix { IsMatrix (length pack.now.cells.now) m.new }
+{
+    match cell_in(pack, PackCell::Item(place)) {
+        None => {}
+        Some(cell) => {
+            let form = amount_form(items, pack, place, amount, kept.common, written);
+            let receiver = receiver_at(&items.program.layout, place);
+            let unit = unit_of(&items.program.layout, pack.decimals, PackCell::Item(place));
+            store_at(
+                pack.cells.len(),
+                m,
+                cell + 1,
+                form,
+                receiver,
+                mode,
+                unit,
+                decimal_in(kept.result),
+            );
+        }
+    }
+}
+
+// ---- packs
+
+fn store_fitting(
+    items: &KnownItems,
+    pack: &PackView,
+    m: &mut [i128],
+    place: u32,
+    mode: Mode,
+    amount: Amount,
+    kept: &Kept,
+    written: bool,
+)
+    requires m { IsMatrix (length pack.now.cells.now) m.old }
+    requires unit { HasUnit (program_of items.now).layout pack.now }
+    requires fits { CellsFit (owns (program_of items.now)) (known_in items.now) }
+    requires own { is_small (bound_at (program_of items.now).layout place) ≡ true }
+    requires sum { is_small_amount (bound_at (program_of items.now).layout) (plain_amount amount) ≡ true }
+    requires top { IfSome kept.now.common HasSmallTop }
+    requires can { IfSome kept.now.common (CanWork (plain_amount amount) (range_at (program_of items.now) (known_in items.now) place)) }
+    ensures value { (wrote : List Bytes) → written ≡ are_written (program_of items.now).layout wrote (amount_items (plain_amount amount.entry))
+        → m.new ≡ fitting_stored (program_of items.now) (known_in items.now) kept.now.common (decimal_in kept.now.result) wrote
+        (plain_pack pack.now) (length pack.now.cells.now) pack.now.decimals place mode (plain_amount amount.entry) m.old }
+    ensures matrix { IsMatrix (length pack.now.cells.now) m.new }
+{
+    if has_operands(items, amount, written) {
+        store_cell(items, pack, m, place, mode, amount, kept, written);
+        forget(&items.program.layout, Gone::Others(place), pack.cells, m);
+    } else {
+        set_least_matrix(pack.cells.len(), m);
+    }
+}
+
+/// Makes of a pack's matrix what a store makes of it, where operands are taken and what the store may do is kept.
+pub(crate) fn store(
+    items: &KnownItems,
+    pack: &PackView,
+    m: &mut [i128],
+    place: u32,
+    mode: Mode,
+    amount: Amount,
+    kept: &Kept,
+    written: bool,
+)
+    requires m { IsMatrix (length pack.now.cells.now) m.old }
+    requires unit { HasUnit (program_of items.now).layout pack.now }
+    requires fits { CellsFit (owns (program_of items.now)) (known_in items.now) }
+    requires own { is_small (bound_at (program_of items.now).layout place) ≡ true }
+    requires sum { is_small_amount (bound_at (program_of items.now).layout) (plain_amount amount) ≡ true }
+    requires top { IfSome kept.now.common HasSmallTop }
+    requires can { IfSome kept.now.common (CanWork (plain_amount amount) (range_at (program_of items.now) (known_in items.now) place)) }
+    ensures value { (wrote : List Bytes) → written ≡ are_written (program_of items.now).layout wrote (amount_items (plain_amount amount.entry))
+        → m.new ≡ store_changed (program_of items.now) (known_in items.now) kept.now.common (latest_of kept.now) wrote
+        (plain_pack pack.now) (length pack.now.cells.now) pack.now.decimals place mode (plain_amount amount.entry) m.old }
+    ensures matrix { IsMatrix (length pack.now.cells.now) m.new }
+{
+    if !kept.may_fail {
+        store_fitting(items, pack, m, place, mode, amount, kept, written);
+    } else if kept.may_fit {
+        forget(&items.program.layout, Gone::Lost(place), pack.cells, m);
+    }
+}

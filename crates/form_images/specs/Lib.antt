@@ -1,4 +1,0 @@
-pub mod Assigned
-pub mod Changed
-pub mod Demanded
-pub mod Forgotten

@@ -1,6 +1,0 @@
-pub mod Cells
-pub mod Ends
-pub mod Forms
-pub mod Gone
-pub mod Receiving
-pub mod Tight

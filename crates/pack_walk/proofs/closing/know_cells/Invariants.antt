@@ -1,9 +1,0 @@
-use Rattle.cob_program.specs.ActView.{plain_program}
-use Rattle.cell_rows.specs.Rows.{cells_of}
-use Rattle.pack_forms.specs.Cells.{plain_cell}
-use Rattle.pack_walk.proofs.Filling.{IsFilledTo}
-use Rattle.pack_walk.proofs.KnownEnds.{known_by}
-use Rattle.pack_walk.proofs.closing.know_cells.Given as goal
-
-abbrev pub invariant-loop-k : goal.invariant-loop-k
-invariant-loop-k l = IsFilledTo (λ c. known_by (plain_program l.program) (cells_of l.row) l.plan.decimals (plain_cell c)) l.plan.cells.items l.known l.k

@@ -1,7 +1,0 @@
-use Rattle.pack_forms.specs.Cells.{plain_cell}
-use Rattle.pack_walk.specs.Gone.{is_gone}
-use Rattle.pack_walk.proofs.Filling.{IsFilledTo}
-use Rattle.pack_walk.proofs.gone.mark.Given as goal
-
-abbrev pub invariant-loop-k : goal.invariant-loop-k
-invariant-loop-k l = IsFilledTo (λ c. is_gone l.layout l.gone (plain_cell c)) l.cells l.marks l.k

@@ -1,9 +1,0 @@
-use Rattle.cob_program.specs.ActView.{plain_program, plain_stmt}
-use Rattle.cell_rows.specs.Rows.{cells_of}
-use Rattle.pack_walk.specs.Plans.{matrices_for}
-use Rattle.pack_walk.proofs.WalkSteps.{IsWalkedTo}
-use Rattle.pack_walk.proofs.walking.walk_packs.Given as goal
-
-abbrev pub invariant-loop-number : goal.invariant-loop-number
-invariant-loop-number l =
-    IsWalkedTo (plain_program l.program) l.cells l.plans (plain_stmt l.statement) l.action (cells_of l.initial.row) (matrices_for l.plans l.initial.out) l.number l.row l.kept l.written l.out
