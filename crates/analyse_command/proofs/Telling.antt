@@ -1,4 +1,4 @@
--- From what is found of a source to how a call ends.
+-- How a call ends follows from what is found of a source.
 use Rattle.std.proofs.Common.{◌≡◌, ℕ, List, [], Option, refl, ap, ◌∙◌, subst, inl, inr}
 use Rattle.std.specs.Prelude.{option_map, take, false, MatchResult, Result, Ok, Err}
 use Rattle.std.specs.FinMap.{insert}

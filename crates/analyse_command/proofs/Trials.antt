@@ -1,4 +1,4 @@
--- From what is found for the source of a trial to how a call ends.
+-- How a call ends follows from what is found for the source of a trial.
 use Rattle.std.proofs.Common.{◌≡◌, ℕ, List, Result, Ok, Err, ◌⊎◌, inl, inr, refl, sym, subst}
 use Rattle.std.specs.Prelude.{MatchResult}
 use Rattle.std.proofs.lemmas.Bool.{false≢true}

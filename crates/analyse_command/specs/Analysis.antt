@@ -40,8 +40,8 @@ report_of a = Report (alarms_of a.program (pairs_of a))
 
 -- ---- what is promised of it
 
--- It is a certificate with the program's packs that holds. No pair is open that some inductive assignment with thresholds
--- at the heads of its loops clears, nor one that such assignments of both layers clear together.
+-- What is found is a certificate with the program's packs that holds. No pair is open that some inductive assignment
+-- with thresholds at the heads of its loops clears, nor one that such assignments of both layers clear together.
 pub record IsFound (a : Analysis) : Type 0 where
   pub allowed : IsAllowed a.claims
   pub packs : a.claims.packs ≡ packs_of a.program
@@ -56,13 +56,13 @@ pub record IsAnalysisOf (known : Option Contents) (source : List ℕ) (a : Analy
   pub is_program : IsProgramOf bytes a.program a.graph
   pub found : IsFound a
 
--- Such an assignment clears each fault of each statement.
+-- Some assignment with thresholds at the heads of loops clears each fault of each statement.
 pub record IsCleanByCells (p : Program) (g : Graph) : Type 0 where
   pub assignment : Certificate
   pub assigns : IsThresholdAssignment p g assignment
   pub clears : (statement : ℕ) (fault : Kind) → is_cleared_in p g assignment statement fault ≡ true
 
--- Such assignments of both layers clear it together.
+-- Assignments of both layers with thresholds at the heads of loops clear each fault together.
 pub record IsCleanByBoth (p : Program) (g : Graph) : Type 0 where
   pub assignment : Certificate
   pub rows : ℕ → List ℤ

@@ -15,11 +15,11 @@ pub record IsFinding (heading : List ℕ) (a : Analysis) (f : Findings) : Type 0
   pub report : f.report.items ≡ heading ++ answer_text (report_of a)
   pub status : f.status ≡ status_of (report_of a)
 
--- of some certificate for what was read
+-- findings of some certificate for what was read
 abbrev pub IsFindingFor : Laid → Findings → Type 0
 IsFindingFor laid f = (c : Certificate) × IsFinding [] (analysis (plain_program laid.program) laid.graph c) f
 
--- of some certificate for the source that the file holds
+-- findings of some certificate for the source that the file holds
 pub record IsFindingOf (known : Option Contents) (source : List ℕ) (f : Findings) : Type 0 where
   pub analysis : Analysis
   pub is_of : IsAnalysisOf known source analysis

@@ -8,13 +8,13 @@ use Rattle.analyse_command.specs.Analysis.{Analysis, analysis}
 use Rattle.analyse_command.specs.Steps.{IsFinding}
 use Rattle.analyse_command.specs.TrialEndings.{IsTrialOf, nodes_line}
 
--- of some certificate for what was read, behind the number of its nodes
+-- findings of some certificate for what was read, behind the number of its nodes
 abbrev pub IsNumberedFinding : Laid → Findings → Type 0
 IsNumberedFinding laid f =
     (c : Certificate)
     × IsFinding (nodes_line (length laid.graph.nodes)) (analysis (plain_program laid.program) laid.graph c) f
 
--- of some certificate for the source of the trial
+-- findings of some certificate for the source of the trial
 pub record IsTrialFinding (count : ℕ) (f : Findings) : Type 0 where
   pub analysis : Analysis
   pub is_of : IsTrialOf count analysis

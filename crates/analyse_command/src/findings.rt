@@ -51,7 +51,7 @@ fn texts_of(alloc: Global, laid: &Laid, cert: &Cert) -> Result<Findings, Stop>
     })
 }
 
-// With a counter of the analysis' steps, which nobody reads.
+// Finds with a counter of the analysis' steps, which nobody reads.
 fn found_counted<L: Ledger>(alloc: Global, laid: &Laid, blank: Blank) -> Result<Findings, Stop>
     requires source { IsOfSource laid.now }
     requires name { blank.name ≡ L.name }
@@ -65,7 +65,7 @@ fn found_counted<L: Ledger>(alloc: Global, laid: &Laid, blank: Blank) -> Result<
     texts_of(alloc, laid, &cert)
 }
 
-/// For a source that was read.
+/// The certificate and the report for a source that was read.
 pub fn found_for(alloc: Global, laid: &Laid) -> Result<Findings, Stop>
     requires { IsOfSource laid.now }
     ensures { MatchResult result (IsFindingFor laid.now) (λ stop. stop ≡ Stop.Memory) }

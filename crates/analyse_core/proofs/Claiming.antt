@@ -23,7 +23,7 @@ drop_one [] k l = absurd (omega (arith, l))
 drop_one (c ∷ cs) zero l = refl
 drop_one (c ∷ cs) (suc k) l = drop_one cs k (omega (arith, l))
 
--- those of one cell, and those behind it
+-- the claims of cells from a place on are those of one cell and those behind it
 pub claims_cut : (cs : List Known) (k j : ℕ) (known : Known) → j ≡ suc k → k < length cs → known ≡ known_at cs k →
     claims_from (suc k) (drop k cs) ≡ known_claims j known ++ claims_from (suc j) (drop j cs)
 claims_cut cs k j known e l is =

@@ -158,7 +158,7 @@ module _ (p : Program) (g : Graph) (laws : LayerLaws p g) where
   abbrev with_places : List Place → Certificate
   with_places places = record { cells = length (cells_of p); packs = []; nodes = places }
 
-  -- without packs
+  -- what a certificate without packs claims at a node
   abbrev place_of : Element → Place
   place_of x = place_for [] x []
 

@@ -34,7 +34,7 @@ behind : (t z : ℤ) (ts : List ℤ) (b : Bool) → inserted z ts ≡ (if b then
 behind t z ts true e = ap (λ xs. t ∷ xs) e
 behind t z ts false e = ap (λ xs. t ∷ xs) e
 
--- it goes in there, unless it stands there
+-- a number is inserted at its rank, unless it stands there
 pub inserted_at : (z : ℤ) (ts : List ℤ) → inserted z ts ≡ (if holds_at ts (rank_in z ts) z then ts else insert ts (rank_in z ts) z)
 inserted_at z [] = refl
 inserted_at z (t ∷ ts) =
@@ -157,7 +157,7 @@ last_above t (s ∷ ts) (suc k) (lt, h) l = last_above s ts k h (omega (arith, l
 abbrev pub LiesIn : Interval → ℤ → Type 0
 LiesIn own z = (own.low ≤ℤ z) × (z ≤ℤ own.high)
 
--- it begins and ends with the ends of the range
+-- thresholds in a range that have its ends begin and end with them
 pub has_ends : (own : Interval) (ts : List ℤ) → Rises ts → AllByRecursion (LiesIn own) ts → Has ts own.low → Has ts own.high → HasEnds own ts
 has_ends own [] rises within low high = absurd low
 has_ends own (t ∷ ts) rises within low high =

@@ -35,7 +35,7 @@ AreListed [] [] = Unit {0}
 AreListed (ts ∷ lists) (c ∷ cs) = HasListedEnds ts c × AreListed lists cs
 AreListed _ _ = ⊥
 
--- it is unreached, or all its ends are thresholds
+-- the element is unreached, or all its ends are thresholds
 abbrev pub IsListedElement : List (List ℤ) → Element → Type 0
 IsListedElement lists None = Unit {0}
 IsListedElement lists (Some cs) = AreListed lists cs
@@ -54,7 +54,7 @@ HaveListedWords [] lists ms = Unit {0}
 HaveListedWords (n ∷ ns) (ts ∷ lists) (m ∷ ms) = HasListedWords n ts m × HaveListedWords ns lists ms
 HaveListedWords _ _ _ = ⊥
 
--- it is the row that no run comes to, or all its words are thresholds or none
+-- the row is the one that no run comes to, or all its words are thresholds or none
 abbrev pub IsListedRow : List ℕ → List (List ℤ) → List ℤ → Type 0
 IsListedRow sizes lists row = (row ≡ (packs_lattice sizes lists).least) ⊎ HaveListedWords sizes lists (matrices_in sizes row)
 
@@ -106,11 +106,11 @@ module _ (p : Program) (g : Graph) where
 
   -- ---- steps
 
-  -- once over all edges, and once more for each time that a head can grow, and once to see that none does
+  -- steps of a layer: once over all edges, once more for each time that a head can grow, and once to see that none does
   abbrev pub layer_steps : ℕ → ℕ
   layer_steps height = length g.edges * (head_count (cell_flow p g) * height + 2)
 
-  -- of the second layer
+  -- steps of the second layer
   abbrev pub pack_steps : List (List ℕ) → ℕ
   pack_steps [] = 0
   pack_steps (pack ∷ packs) = layer_steps (pack_lattice p).height

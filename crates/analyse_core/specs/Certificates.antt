@@ -20,12 +20,12 @@ abbrev pub known_claims : ℕ → Known → List Claim
 known_claims cell None = []
 known_claims cell (Some i) = claim cell i ∷ []
 
--- of the cells from one of them on
+-- the claims of the cells from one of them on
 abbrev pub claims_from : ℕ → List Known → List Claim
 claims_from cell [] = []
 claims_from cell (c ∷ cs) = known_claims cell c ++ claims_from (suc cell) cs
 
--- with a row of matrices for packs of these sizes; where no cells are reached, no differences are
+-- a node's claims with a row of matrices for packs of these sizes; where no cells are reached, no differences are
 abbrev pub place_for : List ℕ → Element → List ℤ → Place
 place_for sizes None row = NotReached
 place_for sizes (Some cs) row = Holds (claims_from 1 cs) (row_bounds sizes row)
@@ -33,7 +33,7 @@ place_for sizes (Some cs) row = Holds (claims_from 1 cs) (row_bounds sizes row)
 abbrev pub places_for : List ℕ → ℕ → (ℕ → Element) → (ℕ → List ℤ) → List Place
 places_for sizes nodes x bounds = map (λ node. place_for sizes (x node) (bounds node)) (range_with_len 1 nodes)
 
--- of so many cells and nodes
+-- the certificate of so many cells and nodes
 abbrev pub certificate_for : ℕ → List (List ℕ) → ℕ → (ℕ → Element) → (ℕ → List ℤ) → Certificate
 certificate_for cells packs nodes x bounds = record { cells = cells; packs = packs; nodes = places_for (sizes_of packs) nodes x bounds }
 

@@ -19,7 +19,7 @@ module _ (p : Program) (g : Graph) where
     pub inductive : IsInductive (cells_lattice (owns p) (thresholds_of p)) (cell_flow p g) rows
     pub dominated : IsDominated (cells_lattice (owns p) (thresholds_of p)) (cell_flow p g) rows
 
-  -- such rows of matrices, beside these rows of cells
+  -- the rows of matrices that are found beside these rows of cells
   pub record AreFoundBounds (rows bounds : ℕ → List ℤ) : Type 0 where
     pub inductive : IsInductive (pack_lattice p) (pack_flow p g rows) bounds
     pub dominated : IsDominated (pack_lattice p) (pack_flow p g rows) bounds

@@ -81,7 +81,7 @@ abbrev mutual
   logics_literals no_logics = []
   logics_literals (more_logics l ls) = logic_literals l ++ logics_literals ls
 
--- those of a WHEN
+-- the literals of the tests of a WHEN
 abbrev pub tests_literals : List Logic → List Num
 tests_literals [] = []
 tests_literals (l ∷ ls) = logic_literals l ++ tests_literals ls
@@ -139,7 +139,7 @@ flags_literals place (f ∷ flags) = (if f.item == place then pairs_literals f.r
 abbrev pub item_literals : List Flag → ℕ → Item → List Num
 item_literals flags place i = value_literals i.value ++ flags_literals place flags
 
--- of the items from a place on
+-- the literals of the items from a place on
 abbrev pub items_literals : List Flag → ℕ → List Item → List Num
 items_literals flags place [] = []
 items_literals flags place (i ∷ items) = item_literals flags place i ++ items_literals flags (suc place) items

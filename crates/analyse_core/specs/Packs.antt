@@ -40,7 +40,7 @@ pub record ArePacksReady (p : Program) : Type 0 where
   pub fit : IsTrue (packs_fit (length (cells_of p)) (packs_of p))
   pub ends : AllByRecursion AreThresholds (pack_lists p)
 
--- these are the packs, with their lists of thresholds
+-- the packs are the program's, with their lists of thresholds
 pub record ArePacksGiven (p : Program) (packs : List declared.Pack) (thresholds : List (Vec ℤ Global)) : Type 0 where
   pub ready : ArePacksReady p
   pub packs_are : cells_in packs ≡ packs_of p

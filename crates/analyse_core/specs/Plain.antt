@@ -13,7 +13,7 @@ use Rattle.graph_runs.specs.Sources.{IsSourceGraph}
 use Rattle.analyse_core.specs.Certificates.{certificate_for}
 use Rattle.analyse_core.specs.Assignments.{IsThresholdAssignment}
 
--- of a node among the first ones
+-- what is known at a node among the first ones
 abbrev pub known_of : List Element → ℕ → Element
 known_of xs node = get_or xs (node - 1) None
 
@@ -33,7 +33,7 @@ module _ (p : Program) (g : Graph) where
   abbrev pub with_node : ℕ → List Element → List Element
   with_node node xs = xs ++ joined_along xs node (length g.edges) ∷ []
 
-  -- of the first so many nodes
+  -- the plain evaluation of the first nodes
   abbrev pub plain_to : ℕ → List Element
   plain_to zero = []
   plain_to (suc n) = with_node (suc n) (plain_to n)

@@ -27,7 +27,7 @@ rounded_down scale v = floor (top scale v) (pos (10 ^ v.scale))
 abbrev pub rounded_up : ℕ → Scaled → ℤ
 rounded_up scale v = neg_ℤ (floor (neg_ℤ (top scale v)) (pos (10 ^ v.scale)))
 
--- both, and each of them minus and plus one
+-- both numbers, and each of them minus and plus one
 abbrev pub beside : ℤ → ℤ → List ℤ
 beside down up =
     down ∷ up ∷ (down -ℤ pos 1) ∷ (down +ℤ pos 1) ∷ (up -ℤ pos 1) ∷ (up +ℤ pos 1) ∷ []
@@ -64,11 +64,11 @@ abbrev pub is_at_most : ℤ → Option ℤ → Bool
 is_at_most z None = false
 is_at_most z (Some t) = int_le t z
 
--- so it stands there
+-- whether a number stands at its rank
 abbrev pub holds_at : List ℤ → ℕ → ℤ → Bool
 holds_at ts k z = is_at_most z (slice_get ts k)
 
--- until so many stand there
+-- a number is taken if it lies in the range, until the most thresholds stand there
 abbrev pub can_take : Interval → List ℤ → ℤ → Bool
 can_take own ts z = lies_in own z && nat_lt (length ts) most
 
@@ -85,7 +85,7 @@ firsts own = own.low ∷ own.high ∷ pos 0 ∷ []
 abbrev pub noted_beside : Interval → ℕ → List ℤ → Num → List ℤ
 noted_beside own scale ts n = all_noted own ts (beside_literal scale n)
 
--- in this order, within the own range, without repetitions, the first so many of them; sorted
+-- the thresholds of a range: the first so many within it, in this order and without repetitions, and then sorted
 abbrev pub range_thresholds : List Num → Interval → ℕ → List ℤ
 range_thresholds literals own scale = fold (noted_beside own scale) (all_noted own [] (firsts own)) literals
 

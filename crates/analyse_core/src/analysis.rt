@@ -148,7 +148,7 @@ pub fn analyse<L: Ledger>(
         (open_pairs (plain_program program.now) graph.now (view cert))) }
     // Nothing is missed that some assignment with thresholds at its heads can show.
     ensures complete { IfOk result (λ cert. MissesNothing (plain_program program.now) graph.now (view cert)) }
-    // Nor what one of packs beside it can show with it.
+    // Nothing is missed that such an assignment of packs beside it can show with it.
     ensures together { IfOk result (λ cert. MissesNothingTogether (plain_program program.now) graph.now (view cert)) }
     ensures at_least { OnOk result (steps.old + length graph.now.edges ≤ steps.new) }
     ensures at_most { steps.new ≤ steps.old + most_steps (plain_program program.now) graph.now }

@@ -18,7 +18,7 @@ use cob_program::Program;
 use cob_tree::Num;
 use std::alloc::{AllocError, Global};
 
-// those of a condition-name, if it is of the item at this place
+// adds the literals of a condition-name, if it is of the item at this place
 fn add_flag<'a>(literals: &mut Vec<&'a Num>, place: usize, flag: &'a Flag) -> Result<(), AllocError>
     ensures { OnOk result (numbers_of literals.new.items
         ≡ numbers_of literals.old.items ++ (if flag.now.item == place then pairs_literals flag.now.ranges else [])) }

@@ -1,4 +1,4 @@
-//! Both layers, solved. Each takes the rows that it is solved in before.
+//! Both layers are solved here. Each takes the rows that it is solved in before.
 ghost use Rattle.std.specs.Prelude.{◌≡◌, ◌≤◌, ◌+◌, [], length, IfOk, OnOk};
 ghost use Rattle.cob_program.specs.ActView.{plain_program};
 ghost use Rattle.cob_graph.specs.Graphs.{cells_of};

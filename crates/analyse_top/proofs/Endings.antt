@@ -1,4 +1,4 @@
--- From what the parts did to how the call ends.
+-- How the call ends follows from what the parts did.
 use Rattle.std.proofs.Common.{◌≡◌, ℕ, true, false, List, length, refl, sym, ap, ◌∙◌, inl, inr, Result, Ok, Err, arith}
 use Rattle.std.specs.Prelude.{IfOk, IfSome, MatchResult, Option, Some, None}
 use Rattle.std.proofs.lemmas.Bool.{false≢true}
@@ -121,7 +121,7 @@ pub answered_trial : (result : Result code.Answer Stop) (count : ℕ)
 answered_trial (Ok answer) count h = h
 answered_trial (Err end) count h = tt
 
--- so that it tells no fault of the files
+-- a trial tells no fault of the files
 pub trial_reads_nothing : (files : FilesState) (result : Result code.Answer Stop) (count : ℕ)
     → MatchResult result (λ answer. AnswersTrial count (plain_answer answer)) (λ end. end ≡ stop.Memory)
     → Reads files files (stopped_by_fault result)

@@ -192,7 +192,7 @@ pub record IsAccepted (contents : Contents) (source certificate : List ℕ) (pai
   pub held : HoldsCertificate contents certificate claims
   pub accepts : Accepts program graph claims pairs
 
--- their report: `clean` with status 0 where there are none, else the alarms with status 1
+-- the report on open pairs: `clean` with status 0 where there are none, else the alarms with status 1
 abbrev pub report_on : Program → List Open → Answer
 report_on p pairs = Report (alarms_of p pairs)
 
@@ -201,7 +201,7 @@ pub record AnswersWhereAccepted (call : Call) (contents : Contents) (source cert
   pub only : (call.status ≡ 0) ⊎ (call.status ≡ 1)
       → (pairs : List Open) × (a : IsAccepted contents source certificate pairs)
       × (status_of (report_on a.program pairs) ≡ call.status)
-  -- which is given wherever something is, unless a read failed or memory ran out
+  -- the report is given wherever one is, unless a read failed or memory ran out
   pub always : (pairs : List Open) (a : IsAccepted contents source certificate pairs)
       → EndsBy call (report_on a.program pairs) ⊎ EndsByReadFault call ⊎ EndsByMemory call
 
@@ -292,7 +292,7 @@ pub record RunsClean (call : Call) : Type 0 where
 pub record MeetsNoFault (call : Call) (told : Contents) (r : Run) : Type 0 where
   -- the status that tells a fault isn't the call's
   pub status : call.status ≡ 1 → ⊥
-  -- and no end of a run that is asked for is a fault
+  -- no end of a run that is asked for is a fault
   pub ends : (t : Task) (kind : Kind) (statement step steps : ℕ) → HoldsTask (Some told) r t
       → IsEnd t.program (told_files told t.paths) t.steps (Err (end.Fault kind statement step)) steps → ⊥
 

@@ -30,9 +30,9 @@ pub struct Changed {
 /// Which words are bounds.
 #[derive(Clone, Copy)]
 pub enum Shape {
-    /// All.
+    /// All words.
     Dense,
-    /// Those of each place and the next.
+    /// The words of each place and the next.
     Chain,
 }
 

@@ -24,7 +24,7 @@ fn post_often<S: System, L: Ledger>(
     }
 }
 
-// There and back, half as often.
+// Copies there and back, half as often.
 fn copy_often(from: &mut [i128], out: &mut [i128], turns: u32)
     requires { length from.old ≡ length out.old }
 {

@@ -83,7 +83,7 @@ module _ (g : Graph) (clears : ℕ → Kind → Bool) where
   open_there statement fault e =
       subst (λ b. Contains (if b then [] else open_at statement fault ∷ []) (open_at statement fault)) (sym e) (0, omega arith, refl)
 
-  -- behind those of the kinds before it
+  -- an open pair of a kind is among those of its statement
   kind_there : (statement : ℕ) (fault : Kind) → Contains (open_by g clears statement fault) (open_at statement fault) →
       Contains (opens_by g clears statement) (open_at statement fault)
   kind_there statement kind.Size h = Contains-append_left (opens statement kind.Size) _ _ h

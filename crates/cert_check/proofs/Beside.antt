@@ -38,7 +38,7 @@ use Rattle.cert_check.specs.Checking.{HasShape, Accepts, Refuses}
 use Rattle.cert_check.proofs.BoundsKept.{sizes_are, packs_tell, arrived_element, bounds_element, no_pack_leaks, pack_leaks_first, pack_gap_is, there_is_a_pack_gap}
 use Rattle.cert_check.proofs.PackNumbers.{packs_in_are}
 
--- as many lists as packs
+-- there are as many lists as packs
 pub listed_in : (packs : List declared.Pack) (thresholds : List (Vec ℤ Global)) → length thresholds ≡ length packs → length (lists_of thresholds) ≡ length packs
 listed_in packs thresholds listed = length-map thresholds (λ list. list.items) ∙ listed
 

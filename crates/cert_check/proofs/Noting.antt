@@ -137,7 +137,7 @@ module _ (g : Graph) (clears : ℕ → Kind → Bool) where
       ∙ ap (λ y. flat_map (opens_by g clears) (range_with_len 1 k) ++ left_open y (suc k)) (e ∙ are.each k within)
       ∙ sym (flat_more (opens_by g clears) 1 k (suc k) (omega arith))
 
-  -- the same with k + 1
+  -- the law of one node more, with the next number as a variable
   pub noted_next : (n m statement : ℕ) (cleared : Cleared) (old new : List Cleared) → AreClearedTo g clears n old → m ≡ suc n →
       statement ≡ statement_at g m → cleared ≡ by_kind (clears m) → IsNoted statement cleared old new → AreClearedTo g clears m new
   noted_next n m statement cleared old new are f e is noted =

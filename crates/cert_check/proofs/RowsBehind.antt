@@ -19,7 +19,7 @@ module _ {X A : Type 0} (f : X → List A) (width : ℕ) (wide : (x : X) → len
       let rest = row_within xs k (omega (arith, h)) in
       omega (arith, rest, suc-mul k width, wide x, length-append (f x) (flat_map f xs))
 
-  -- and is that of the element at the place
+  -- the row at the place is that of the element at the place
   pub row_there : (xs : List X) (k : ℕ) (d : X) → k < length xs → take width (drop (k * width) (flat_map f xs)) ≡ f (get_or xs k d)
   row_there [] k d h = absurd (omega (arith, h))
   row_there (x ∷ xs) zero d h =

@@ -24,7 +24,7 @@ use Rattle.pack_laws.specs.Packs.{pack_in}
 use Rattle.cert_check.specs.declared.ends.Leak.{Leak}
 use Rattle.cert_check.specs.OpenPairs.{node_clears_by, is_cleared_by, open_by, opens_by, pairs_by}
 
--- of cells in layer 1, of packs in layer 2
+-- a leak's layer is 1 for cells and 2 for packs
 abbrev pub leak : ℕ → ℕ → Gap → Leak
 leak layer edge gap = record { layer = layer; edge = edge; gap = gap }
 
@@ -59,12 +59,12 @@ module _ (p : Program) (g : Graph) (c : Certificate) where
   leads_to zero = 1
   leads_to (suc e) = (edge_at g (suc e)).to
 
-  -- what comes along it
+  -- what comes along an edge
   abbrev pub comes_along : ℕ → Element
   comes_along zero = Some (entry_cells p)
   comes_along (suc e) = post_at p g (suc e) (claims_at (edge_at g (suc e)).from)
 
-  -- its gaps in the claims of the node there, which are compared as they are written
+  -- an edge's gaps in the claims of the node there, which are compared as they are written
   abbrev pub edge_gaps : ℕ → List Gap
   edge_gaps e = gaps (length (owns p)) (comes_along e) (place_at c (leads_to e))
 
@@ -84,7 +84,7 @@ module _ (p : Program) (g : Graph) (c : Certificate) where
   abbrev pub cell_leaks : List Leak
   cell_leaks = leaks_of 1 edge_gaps
 
-  -- and those at which what is claimed of packs isn't
+  -- the places at which what is claimed of packs isn't inductive, edge by edge
   abbrev pub pack_leaks : List Leak
   pack_leaks = leaks_of 2 pack_gaps
 
@@ -98,7 +98,7 @@ module _ (p : Program) (g : Graph) (c : Certificate) where
   abbrev pub cells_clear : ℕ → Kind → Bool
   cells_clear node fault = clears_at p g node (claims_at node) fault
 
-  -- and with those of packs; without packs there is no second layer
+  -- what a node clears with what is claimed of packs too; without packs there is no second layer
   abbrev pub clears_with : List (List ℕ) → ℕ → Kind → Bool
   clears_with [] node fault = cells_clear node fault
   clears_with (pack ∷ packs) node fault = clears_at2 p g packs_at node (claims_at node) (bounds_at node) fault

@@ -10,7 +10,7 @@ use Rattle.dom_laws.specs.Meaning.{Meaning}
 use Rattle.cert_check.specs.declared.cleared.Cleared.{Cleared}
 use Rattle.cert_check.specs.OpenPairs.{all_kinds, if_open, node_clears_by}
 
--- by kind
+-- what a test says of each kind
 abbrev pub by_kind : (Kind → Bool) → Cleared
 by_kind test = record { size = test kind.Size; truncation = test kind.Truncation; zero = test kind.Zero; class = test kind.Class }
 
@@ -46,6 +46,6 @@ module _ (g : Graph) (clears : ℕ → Kind → Bool) where
   abbrev pub cleared_to : ℕ → ℕ → Cleared
   cleared_to nodes statement = by_kind (λ fault. list_all (node_clears_by g clears statement fault) (range_with_len 1 nodes))
 
-  -- this is noted at each statement
+  -- what the first nodes clear is noted at each statement
   pub record AreClearedTo (nodes : ℕ) (noted : List Cleared) : Type 0 where
     pub each : (k : ℕ) → k < length noted → get_or noted k all_cleared ≡ cleared_to nodes (suc k)

@@ -39,7 +39,7 @@ module _ (p : Program) (g : Graph) (c : Certificate) (thresholds : List (List �
   abbrev pub LeaksFirst : ℕ → Type 0
   LeaksFirst e = IsFirstLeak (cells_lattice (owns p) thresholds) (cell_flow p g) (row_at p g c) e
 
-  -- they keep what is claimed of packs, beside what is claimed of cells
+  -- the edges keep what is claimed of packs, beside what is claimed of cells
   abbrev pub BoundsAreKept : Type 0
   BoundsAreKept = IsInductive (diff_lattice (packs_at p g c) thresholds) (diff_flow p g (packs_at p g c) (row_at p g c)) (bounds_row p g c)
 

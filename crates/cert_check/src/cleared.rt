@@ -15,7 +15,7 @@ pub struct Cleared {
     pub class: bool,
 }
 
-// Those that both clear.
+// The kinds that both clear.
 fn both(a: Cleared, b: Cleared) -> Cleared
     ensures { result ≡ both a b }
 {

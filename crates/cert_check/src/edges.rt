@@ -18,7 +18,7 @@ pub(crate) fn led_to<S: System>(system: &S, edge: u32) -> u32
     if edge == 0 { 1 } else { system.target(edge) }
 }
 
-// With a counter of its own, which nobody reads.
+// Arrives with a counter of its own, which nobody reads.
 fn arrive_counted<S: System, R: Rows, L: Ledger>(
     system: &S,
     rows: &R,

@@ -25,7 +25,7 @@ pub struct Leak {
 /// Why a certificate isn't accepted.
 #[derive(Debug, Drop, Error)]
 pub enum CheckEnd {
-    /// It has another number of cells or nodes than the program.
+    /// The certificate has another number of cells or nodes than the program.
     #[error("the certificate has another shape than the program")]
     Shape {
         what: Shape,

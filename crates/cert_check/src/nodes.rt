@@ -66,7 +66,7 @@ fn note_nodes<L: Layer, R: Rows>(layer: &L, rows: &R, graph: &Graph, noted: &mut
     }
 }
 
-// For each of so many statements what all its nodes clear.
+// What all nodes of a statement clear, for each of the first statements.
 fn cleared<L: Layer, R: Rows>(
     alloc: Global,
     layer: &L,

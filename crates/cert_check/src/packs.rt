@@ -27,7 +27,7 @@ use dom_laws::{Domain, Rows};
 use inductive_pass::pass;
 use std::alloc::{AllocError, Global};
 
-// For each pack no thresholds: a check never widens.
+// An empty list of thresholds for each pack: a check never widens.
 #[tactic(auto, using(crate::proofs::PackNumbers::one_list_more))]
 fn no_thresholds(alloc: Global, packs: &[Pack]) -> Result<Vec<Vec<i128>>, AllocError>
     ensures { IfOk result (λ lists. AreEmptyLists (length packs.now) lists.items) }

@@ -1,4 +1,4 @@
--- From the bytes of a certificate, and a source that is read or isn't, to what `check` answers.
+-- What `check` answers follows from the bytes of a certificate, and from a source that is read or isn't.
 use Rattle.std.proofs.Common.{◌≡◌, ℕ, ◌≤◌, false, List, length, refl, ap, ◌∙◌, subst, inl, inr, Result, Ok, Err}
 use Rattle.std.specs.Prelude.{IfOk, IfSome, MatchResult, Option, Some, None}
 use Rattle.std.specs.FinMap.{get}
@@ -49,7 +49,7 @@ module _ (p : Program) (g : Graph) (certificate bytes : List ℕ) (fits : length
       by_text (Refused cause) h = absurd h.3
       by_text CertificateLong h = absurd h.3
 
-  -- as the code sees the bytes
+  -- the answer by the bytes as the code sees them
   pub answers_bytes : (result : Result code.Answer Stop) (seen : List ℕ) (known : Option Contents)
       → IfSome known (λ contents. get contents certificate ≡ Some bytes) → seen ≡ bytes
       → MatchResult result (λ answer. AnswersBytes seen p g (plain_answer answer)) (λ end. end ≡ stop.Memory)

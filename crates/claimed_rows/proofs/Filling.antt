@@ -104,7 +104,7 @@ module _ (owns : List Interval) (claims : List Claim) where
         ∙ ap (λ cs. in_front cs (left (suc k) (claims_behind rest (suc k)))) (sym (take_set cells k known (omega (arith, l, done.count))));
   }
 
-  -- the same with k + 1
+  -- the law of one cell more, with the next number as a variable
   pub cannot_go_on : (k j : ℕ) (cells : List Known) (rest : List Claim) (d own : Interval) → j ≡ suc k → IsDoneTo k cells rest
       → k < length owns → own ≡ get_or owns k d → None ≡ met_known own (claim_at rest j)
       → met_cells owns (written_from 1 (length owns) claims) ≡ None
@@ -135,7 +135,7 @@ module _ (owns : List Interval) (claims : List Claim) where
 
 -- ---- the next claim
 
--- it is of the cell
+-- a claim of the cell is taken as the next one
 pub claim_taken : (claims : List Claim) (next cell : ℕ) (c : Claim) → slice_get claims next ≡ Some c → c.cell ≡ cell
     → (claim_at (drop next claims) cell ≡ Some (interval c.low c.high)) × (claims_behind (drop next claims) cell ≡ drop (next + 1) claims)
 claim_taken [] zero cell c e f = absurd (cc e)

@@ -26,7 +26,7 @@ matrix_width size f = length-map-range_with_len f 0 (words_of size)
 
 -- ---- one word off the diagonal
 
--- with zeros at so many places of the diagonal
+-- a matrix without bounds, with zeros at the first places of the diagonal
 pub record IsPlainTo (x : ℤ) (size count : ℕ) (m : List ℤ) : Type 0 where
   pub width : length m ≡ words_of size
   pub zeros : (i : ℕ) → i < count → i < size + 1 → word (size + 1) m i i ≡ pos 0
@@ -92,7 +92,7 @@ module _ (pack size : ℕ) (b : Bound) (bounds : List Bound) (is : IsBoundOf pac
   abbrev pub place : ℕ
   place = b.row * (size + 1) + b.column
 
-  -- at the bound's own place
+  -- the word at the bound's own place is the bound
   here : (k : ℕ) → k ≡ place → claimed_word (b ∷ bounds) pack size k ≡ b.most
   here k e =
       let row : b.row ≡ k / (size + 1) = sym (ap (λ n. n / (size + 1)) e ∙ div-mul-add b.row (size + 1) b.column (omega (arith, is.places.column))) in
@@ -101,7 +101,7 @@ module _ (pack size : ℕ) (b : Bound) (bounds : List Bound) (is : IsBoundOf pac
       let found = is_its_own b pack (k / (size + 1)) (k % (size + 1)) is.same row column in
       rw off (rw found refl)
 
-  -- at another one
+  -- the word at another place is that of the other bounds
   elsewhere : (k : ℕ) → (k ≡ place → ⊥) → claimed_word (b ∷ bounds) pack size k ≡ claimed_word bounds pack size k
   elsewhere k ne = go (is_of b pack (k / (size + 1)) (k % (size + 1))) refl
     where

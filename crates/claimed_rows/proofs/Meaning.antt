@@ -35,7 +35,7 @@ sought_behind (b ∷ bounds) ys pack row column other =
 
 -- ---- the bounds of a word
 
--- of another pack, row or column
+-- the bounds of a word say nothing of another pack, row or column
 word_of_others : (pack size k : ℕ) (x : ℤ) (other_pack row column : ℕ) (other : ℤ) → is_of (bound pack size k x) other_pack row column ≡ false
     → sought (word_bounds pack size k x) other_pack row column other ≡ other
 word_of_others pack size k x other_pack row column other e = on (is_on_diagonal size k)
@@ -55,7 +55,7 @@ not_of b pack row column differ = go (is_of b pack row column) refl
     go true e = let told = of_tells b pack row column e in absurd (differ told.0 told.1.0 told.1.1)
     go false e = e
 
--- of its own place off the diagonal
+-- the bounds of a word off the diagonal say that word of its own place
 word_of_itself : (pack size k : ℕ) (x : ℤ) → is_on_diagonal size k ≡ false → x ≤ℤ none
     → sought (word_bounds pack size k x) pack (k / (size + 1)) (k % (size + 1)) none ≡ x
 word_of_itself pack size k x off top = rw off (within (int_lt x none) refl)

@@ -52,7 +52,7 @@ module _ (reached : List Known) (claims : List Claim) (cells : ℕ) where
   passed k rest sought l m e =
       sought ∙ ap first (one_cell k rest l m) ∙ first_none (cell_gaps (suc k) (known_at reached k) (claim_at rest (suc k))) _ (sym e)
 
-  -- the same with k + 1
+  -- the law of a gap that is found, with the next number as a variable
   pub found_there : (k j : ℕ) (rest : List Claim) (gap : Option Gap) → j ≡ suc k → IsSoughtTo k rest → k < length reached → k < cells
       → gap ≡ first (cell_gaps j (known_at reached k) (claim_at rest j)) → is_some gap ≡ true
       → gap ≡ first (gaps_from 1 reached (written_from 1 cells claims))

@@ -102,7 +102,7 @@ up [] [] (c ∷ cs) k f l h = absurd (omega (arith, l))
 up (own ∷ owns) [] cs k f l h = absurd f
 up (own ∷ owns) (r ∷ rs) [] k f l h = absurd (omega (arith, l))
 
--- as many cells as are asked for
+-- as many cells are written as are asked for
 pub written_length : (cell more : ℕ) (claims : List Claim) → length (written_from cell more claims) ≡ more
 written_length cell zero claims = refl
 written_length cell (suc more) claims = ap suc (written_length (suc cell) more (claims_behind claims cell))

@@ -8,7 +8,7 @@ use Rattle.cert_text.specs.Allowed.{bounds_fit, no_key}
 use Rattle.claimed_rows.specs.MatrixClaims.{claimed_row, sizes_of}
 use Rattle.claimed_rows.specs.Bounds.{row_bounds}
 
--- They mean the row that they are of.
+-- The bounds of a row mean that row.
 abbrev pub BoundsMeanTheirRow : Type 0
 BoundsMeanTheirRow =
     (sizes : List ℕ) (lists : List (List ℤ)) (claims : List Claim) (row : List ℤ) → length lists ≡ length sizes

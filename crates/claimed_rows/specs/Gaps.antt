@@ -38,7 +38,7 @@ gaps cells reached place = element_gaps reached (written_element cells place)
 
 -- ---- the law
 
--- There are none exactly where what is reached lies below what the claims mean.
+-- There are no gaps exactly where what is reached lies below what the claims mean.
 abbrev pub GapsTellTheOrder : Type 0
 GapsTellTheOrder =
     (owns : List Interval) (reached : Element) (place : Place) → ElementFits owns reached

@@ -34,7 +34,7 @@ claimed_word bounds pack size k =
 abbrev pub claimed_matrix : List Bound → ℕ → ℕ → List ℤ
 claimed_matrix bounds pack size = matrix_of size (claimed_word bounds pack size)
 
--- of packs by their sizes, from one of them on
+-- the matrices that bounds mean from a pack on, packs given by their sizes
 abbrev pub matrices_from : ℕ → List ℕ → List Bound → List (List ℤ)
 matrices_from pack [] bounds = []
 matrices_from pack (n ∷ ns) bounds = claimed_matrix bounds pack n ∷ matrices_from (suc pack) ns bounds

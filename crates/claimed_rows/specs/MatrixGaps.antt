@@ -13,7 +13,7 @@ use Rattle.claimed_rows.specs.declared.gap.Gap.TheVariants.{Diff}
 use Rattle.claimed_rows.specs.Claims.{place_at}
 use Rattle.claimed_rows.specs.MatrixClaims.{HasFittingBounds, claimed_row, sizes_of}
 
--- at a place of a pack's matrix, places counted row by row
+-- the gaps at a place of a pack's matrix, places counted row by row
 abbrev pub word_gaps : ℕ → ℕ → ℕ → ℤ → ℤ → List Gap
 word_gaps pack size k reached claimed =
     if int_lt claimed reached then Diff pack (k / (size + 1)) (k % (size + 1)) (number_of reached) claimed ∷ [] else []
@@ -23,7 +23,7 @@ matrix_gaps pack size reached claimed =
     flat_map (λ k. word_gaps pack size k (slice_index_or reached k (pos 0)) (slice_index_or claimed k (pos 0)))
     (range_with_len 0 (words_of size))
 
--- of packs by their sizes, from one of them on
+-- the gaps of a row from a pack on, packs given by their sizes
 abbrev pub gaps_from : ℕ → List ℕ → List ℤ → List ℤ → List Gap
 gaps_from pack [] reached claimed = []
 gaps_from pack (n ∷ ns) reached claimed =
@@ -48,7 +48,7 @@ ClaimedRowsAreElements =
     (packs : List (List ℕ)) (lists : List (List ℤ)) (place : Place) → length lists ≡ length packs → HasFittingBounds packs place
     → IsElement (packs_lattice (sizes_of packs) lists) (claimed_row (sizes_of packs) place)
 
--- That of a node that is claimed not to be reached is the least one.
+-- The row of a node that is claimed not to be reached is the least one.
 abbrev pub UnreachedRowsAreLeast : Type 0
 UnreachedRowsAreLeast =
     (sizes : List ℕ) (lists : List (List ℤ)) → length lists ≡ length sizes

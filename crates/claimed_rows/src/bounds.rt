@@ -54,7 +54,7 @@ fn add_matrix(bounds: &mut Vec<Bound>, pack: u32, size: usize, m: &[i128]) -> Re
     Ok(())
 }
 
-// Of the packs from one of them on.
+// Adds the bounds of the packs from one of them on.
 fn add_row(
     bounds: &mut Vec<Bound>,
     packs: &[Pack],

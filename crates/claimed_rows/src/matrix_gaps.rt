@@ -51,7 +51,7 @@ fn matrix_gap(pack: u32, size: usize, reached: &[i128], claimed: &[i128]) -> Opt
     None
 }
 
-// Of the packs from one of them on.
+// The first gap of the packs from one of them on.
 fn gap_from(packs: &[Pack], pack: u32, reached: &[i128], claimed: &[i128]) -> Option<Gap>
     requires few { pack + length packs.now < 2 ^ 32 }
     requires small { AllByRecursion (λ n. n ≤ 8) (sizes_of (cells_in packs.now)) }

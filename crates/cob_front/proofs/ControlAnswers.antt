@@ -40,7 +40,7 @@ module _ (p : Program) where
   refused_inside r nested limits (end.Nesting count) cause = absurd cause
   refused_inside r nested limits end.Memory cause = absurd cause
 
-  -- where they don't, one rule is broken first, and it is told
+  -- where PERFORMs don't nest, one rule is broken first, and it is told
   pub refused_outside : {T : Type 0} (told : Result T FlowEnd) (rule : Rule) (line : ℕ) →
       told ≡ Err (flow.Outside rule line) →
       ((other : Rule) (l : ℕ) → told ≡ Err (flow.Outside other l) → IsOutside p other l) →

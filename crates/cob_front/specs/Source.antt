@@ -83,7 +83,7 @@ abbrev pub IsRefused : {A : Type 0} → Result A Refusal → Refusal → Type 0
 IsRefused (Ok a) wanted = ⊥
 IsRefused (Err e) wanted = (e ≡ wanted) ⊎ (e ≡ end.Memory)
 
--- not refused, but for want of memory
+-- the result is no refusal, but for want of memory
 abbrev pub IsAccepted : {A : Type 0} → Result A Refusal → Type 0
 IsAccepted (Ok a) = Unit {0}
 IsAccepted (Err e) = e ≡ end.Memory

@@ -59,7 +59,7 @@ Case = Stmts ⊎ When
 abbrev pub case_with : Reader Sign Stmts → ℕ → Reader Sign Case
 case_with inner room = choose other_stands (other_with inner) (when_with inner room)
 
--- WHEN OTHER is the last
+-- the case is WHEN OTHER, behind which none stands
 abbrev pub is_other : Bool → Case → Bool
 is_other ended (inl ss) = true
 is_other ended (inr w) = false

@@ -63,7 +63,7 @@ key_of Until = key.Until
 key_of Any = key.Any
 key_of When = key.When
 
--- this very word
+-- the keyword is this very word
 abbrev pub the_key : Word → Keyword → Option (Unit {0})
 the_key w = known.the_key (key_of w)
 
@@ -79,7 +79,7 @@ mode_key _ = None
 abbrev pub mode_of : Sign → Option Mode
 mode_of s = word_symbol mode_key s.symbol
 
--- BEFORE or AFTER
+-- the keyword is BEFORE or AFTER
 abbrev pub place_key : Keyword → Option Place
 place_key key.Before = Some place.Before
 place_key key.After = Some place.After
@@ -145,7 +145,7 @@ start_key key.Read = Some start.Read
 start_key key.Write = Some start.Write
 start_key _ = None
 
--- such a word on its line
+-- the first word of a statement on its line
 abbrev pub begin_on : ℕ → Option Start → Option Begin
 begin_on line None = None
 begin_on line (Some s) = Some (record { line = line; start = s })

@@ -18,7 +18,7 @@ abbrev pub IsTimes : Turns → Type 0
 IsTimes (times x) = Unit {0}
 IsTimes _ = ⊥
 
--- it does nothing but lead on
+-- the statement does nothing but lead on
 abbrev pub Skips : Act → Type 0
 Skips (if_ t held other) = Unit {0}
 Skips (evaluate ws other) = Unit {0}
@@ -109,6 +109,6 @@ pub record IsFitting (p : Program) (s : PlanNode) (a : Act) : Type 0 where
   pub fits : Fits p s.op a
   pub read : BeginsRead s.starts s.op a
 
--- where it has a statement
+-- the node fits its statement, where it has one
 abbrev pub FitsIts : Program → PlanNode → Type 0
 FitsIts p s = (a : Act) → 1 ≤ s.statement → act_at p s.statement ≡ Some a → IsFitting p s a

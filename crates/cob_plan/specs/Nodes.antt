@@ -44,7 +44,7 @@ ArePair (action.Close k) a = a ≡ action.Bad k
 ArePair action.Write a = a ≡ action.Bad 0
 ArePair _ a = ⊥
 
--- those of its three
+-- the actions of a node's three edges, in their order
 pub record AreThree (a b c : Action) : Type 0 where
   pub first : a ≡ action.Take
   pub second : b ≡ action.AtEnd

@@ -24,7 +24,7 @@ abbrev pub IsRefused : Result declared_program.Program TypedEnd → Rule → ℕ
 IsRefused (Ok p) rule line = ⊥
 IsRefused (Err end) rule line = (end ≡ typed_end.Outside rule line) ⊎ (end ≡ typed_end.Memory)
 
--- not refused, but for want of memory
+-- the result is no refusal, but for want of memory
 abbrev pub IsAccepted : Result declared_program.Program TypedEnd → Type 0
 IsAccepted (Ok p) = Unit {0}
 IsAccepted (Err end) = end ≡ typed_end.Memory

@@ -76,7 +76,7 @@ lines_of l t rule = lines_among rule ((typed_all l t).found ++ clashes [] t.para
 abbrev pub typing_rules : List Rule
 typing_rules = Q1 ∷ Q2 ∷ Q3 ∷ Q4 ∷ Q5 ∷ Q6 ∷ Q7 ∷ Q8 ∷ Q9 ∷ Q10 ∷ Q11 ∷ N5 ∷ []
 
--- all are kept
+-- the program keeps all rules on statements
 abbrev pub IsTyped : Layout → tree.Tree → Type 0
 IsTyped l t = AreKept (lines_of l t) typing_rules
 

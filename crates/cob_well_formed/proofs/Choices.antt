@@ -30,7 +30,7 @@ use Rattle.cob_well_formed.proofs.Decisions.{Able, able_cond}
 
 -- ---- the operand that an expression is
 
--- its numeral is short
+-- the numeral of the operand is short
 abbrev IsShortOpnd : Opnd → Type 0
 IsShortOpnd (opnd.Ref r) = Unit {0}
 IsShortOpnd (opnd.Const c) = IsShortConst c

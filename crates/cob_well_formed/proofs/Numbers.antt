@@ -169,7 +169,7 @@ module _ (l : Layout) where
       (absent m lo g.0 x.body g.1 (λ a b. out a (omega (arith, b, later))))
       (absent_paras m g.0 hi xs g.2 (λ a b. out (omega (arith, a, here)) b))
 
-  -- behind the middle, and before it
+  -- a number before the middle is out of what stands behind it
   before : (m mid hi : ℕ) → m < mid → IsOut m mid hi
   before m mid hi h x y = omega (arith, h, x)
 

@@ -17,7 +17,7 @@ Shows old new text whole failed status =
     ((status ≡ whole) × Gains old new text × (new.faults ≡ old.faults))
     ⊎ ((status ≡ failed) × GainsFront old new text × Rose old.faults new.faults)
 
--- as above, or memory ran out behind a front of it
+-- the text is shown as above, or memory ran out behind a front of it
 abbrev pub ShowsIfMemory : SinkState → SinkState → List ℕ → ℕ → ℕ → ℕ → Type 0
 ShowsIfMemory old new text whole failed status =
     Shows old new text whole failed status ⊎ ((status ≡ 8) × GainsFront old new text)

@@ -6,7 +6,7 @@ use Rattle.std.proofs.lemmas.List.{length-append, get_or_append_left, get_or_at}
 use Rattle.pack_laws.specs.Packs.{AreRisingNumbers, ArePacksOfCells}
 use Rattle.diff_bounds.specs.declared.Pack.{Pack}
 
--- of so many cells, and none is above the last
+-- numbers rise, are of so many cells, and none is above the last
 pub record RiseTo (cells last : ℕ) (numbers : List ℕ) : Type 0 where
   pub rising : AreRisingNumbers cells numbers
   pub most : (k : ℕ) → k < length numbers → slice_index_or numbers k 0 ≤ last
@@ -22,7 +22,7 @@ none_rise cells last = record {
   most = λ k h. absurd (omega (arith, h));
 }
 
--- at a place of the list with one number more
+-- the places of the list with one number more
 module _ (numbers : List ℕ) (number : ℕ) where
   count : length (numbers ++ number ∷ []) ≡ length numbers + 1
   count = length-append numbers (number ∷ [])

@@ -9,7 +9,7 @@ use Rattle.claimed_rows.specs.MatrixClaims.{cells_in, sizes_of}
 abbrev pub no_thresholds : List ℕ → List (List ℤ)
 no_thresholds sizes = map (λ n. []) sizes
 
--- for packs of these sizes
+-- the lattice of rows for packs of these sizes
 abbrev pub rows_for : List ℕ → Lattice
 rows_for sizes = packs_lattice sizes (no_thresholds sizes)
 

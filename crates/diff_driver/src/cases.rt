@@ -33,7 +33,7 @@ use std::io;
 /// What a case that can't be read is answered.
 const NO_CASE: &str = "no case";
 
-// By the layer over packs, or by its matrices alone.
+// Answers a case by the layer over packs, or by its matrices alone.
 fn answer_in_row(
     alloc: Global,
     layer: &DiffLayer<SameRow>,
@@ -49,7 +49,7 @@ fn answer_in_row(
     }
 }
 
-// By the layer over packs, with its row.
+// Answers a case by the layer over packs, with its row.
 fn answer_by_layer(
     alloc: Global,
     layer: &DiffLayer<SameRow>,
@@ -89,7 +89,7 @@ fn answer_beside(
     answer_by_layer(alloc, &layer, case, words)
 }
 
-// By the words of the packs and of the cells.
+// Answers a case by the words of the packs and of the cells.
 fn answer_in_packs(
     alloc: Global,
     program: &Program,

@@ -26,7 +26,7 @@ fn close_often(size: usize, m: &[i128], out: &mut [i128], turns: u32) -> bool
     true
 }
 
-// The same for each matrix of a row.
+// Closes each matrix of a row so often.
 fn close_each(packs: &[Pack], row: &[i128], out: &mut [i128], turns: u32) -> bool
     requires small { AllByRecursion (λ n. n ≤ 8) (sizes_of (cells_in packs.now)) }
     requires row { IsElement (rows_of_packs packs.now) row.now }

@@ -27,7 +27,7 @@ fn numbers_of(alloc: Global, word: &str, cells: u32) -> Result<Option<Vec<u32>>,
     Ok(Some(numbers))
 }
 
-// Of no more words than there may be packs.
+// The packs of these words, which are no more than there may be packs.
 #[tactic(auto, using(crate::proofs::Numbers::pack_pushed))]
 fn packs_in(alloc: Global, words: &[&str], cells: u32) -> Result<Option<Vec<Pack>>, AllocError>
     ensures few { IfOk result (λ read. IfSome read (λ packs. length packs.items ≤ length words.now)) }
@@ -54,7 +54,7 @@ pub fn packs_of(alloc: Global, words: &[&str], cells: u32) -> Result<Option<Vec<
     packs_in(alloc, words, cells)
 }
 
-/// For each pack no thresholds: nothing is widened.
+/// An empty list of thresholds for each pack: nothing is widened.
 #[tactic(auto, using(crate::proofs::Rows::list_pushed))]
 pub fn no_thresholds(alloc: Global, packs: &[Pack]) -> Result<Vec<Vec<i128>>, AllocError>
     ensures { IfOk result (λ lists. lists_of lists.items ≡ no_thresholds (sizes_of (cells_in packs.now))) }

@@ -105,7 +105,7 @@ module _ (p : Program) (a : Act) (x : Action) where
 
   -- ---- what is kept behind a part
 
-  -- where the part takes operands
+  -- what is kept behind a part that takes operands
   abbrev pub IsKept : Part → Seen → Option Taken → Latest → Type 0
   IsKept (store place mode y) s common latest = (common ≡ (with_taken p a x s).common) × (latest ≡ outcome p a x (with_taken p a x s) place mode y)
   IsKept (set_count n y) s common latest = common ≡ (with_taken p a x s).common

@@ -126,7 +126,7 @@ some_none f none (pack ∷ packs) [] = refl
 some_none f none (pack ∷ packs) (m ∷ ms) = ap (λ b. b || some_pack f packs ms) (none pack m) ∙ some_none f none packs ms
 
 module _ (p : Program) (packs : List Pack) (ms : List (List ℤ)) (form : Pack → Option Lin) (mode : Mode) (r : Receiver) where
-  -- by the forms of a part
+  -- a range is shown by the ends of the forms of a part
   pub range_is : (known : List Known) (common : Option Taken) (wrote : List Bytes) (y : Part) → ((pack : Pack) → part_form p known common wrote y pack ≡ form pack) → (i : Interval) →
       range_shown p known common wrote y mode r packs ms i ≡ ends_fit p packs ms form mode r i
   range_is known common wrote y same i =
@@ -140,7 +140,7 @@ module _ (p : Program) (packs : List Pack) (ms : List (List ℤ)) (form : Pack �
       low = some_same (shows_end p known common wrote y mode r true) (λ pack m. low_fits mode r (pack_decimals p.layout pack) (form pack >>= upper_negated (size_of pack) m))
           (λ pack m. ap (λ (f : Option Lin). low_fits mode r (pack_decimals p.layout pack) (f >>= upper_negated (size_of pack) m)) (same pack)) packs ms
 
-  -- where there are no forms
+  -- where there are no forms, the ends fit if the range does
   none_fit : ((pack : Pack) → form pack ≡ None) → (i : Interval) → ends_fit p packs ms form mode r i ≡ not (exceeds r.digits i)
   none_fit none i =
       either_none (int_le i.high (most r.digits)) (int_le (neg_ℤ (most r.digits)) i.low) (high_shown p packs ms form mode r) (low_shown p packs ms form mode r)
@@ -187,7 +187,7 @@ decimal_if (Some q) = is_decimal q
 both_ways : {X : Type 0} (b : Bool) → b ≡ true → b ≡ false → X
 both_ways b e g = absurd (let h = sym e ∙ g in cc)
 
--- of what is divided and what divides, only a sum whose last operation is a division is taken
+-- what is divided and what divides are taken of a sum alone whose last operation is a division
 root_from : (items : ℕ → Ranged) (s : Sum) (o : Option Root) (c : Taken) (u : Ranged) → taken_from items s o ≡ Some c → c.under ≡ Some u → is_some o ≡ true
 root_from items s (Some r) c u e g = refl
 root_from items s None c u e g = go (sum_range items s) e

@@ -37,7 +37,7 @@ edge_part p x s k y all at =
 
 module _ (p : Program) (packs : List Pack) (y : Stmt) (x : Action) (s : Seen) (wrote : List Bytes) (ms : List (List ℤ)) (k : ℕ) (fault : Kind)
     (small : AllByRecursion (IsSmallPart p (act_in y) x) (edge_parts p y x)) where
-  -- by both layers, where the first one does
+  -- both layers clear a fault that the first one clears
   pub clears_too : clears_at_part p y x k s fault ≡ true → true ≡ clears2_at p packs y x k s (seen2 wrote ms) fault
   clears_too e = by_part (slice_get (edge_parts p y x) k) refl e
     where
@@ -48,7 +48,7 @@ module _ (p : Program) (packs : List Pack) (y : Stmt) (x : Action) (s : Seen) (w
           sym (cleared_too p packs (act_in y) x s wrote ms part fault
           (sym (small_clears p (act_in y) x part s fault (held_at (IsSmallPart p (act_in y) x) (edge_parts p y x) k part small there)) ∙ f))
 
-  -- and where it doesn't
+  -- both layers clear what the matrices clear where the first one doesn't
   pub clears_else : (part : Part) (b : Bool) → slice_get (edge_parts p y x) k ≡ Some part → AllByRecursion (IsOfEdge p (act_in y) x) (edge_parts p y x) → CanStep p (act_in y) x s →
       clears_at_part p y x k s fault ≡ false → b ≡ part_cleared p packs (act_in y) x part s (seen2 wrote ms) fault → b ≡ clears2_at p packs y x k s (seen2 wrote ms) fault
   clears_else part b there of_edge can e is =

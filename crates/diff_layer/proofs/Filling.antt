@@ -4,7 +4,7 @@ use Rattle.std.specs.Prelude.{slice_set}
 use Rattle.std.proofs.lemmas.List.{length-map, length-set}
 
 module _ {X Y : Type 0} (f : X → Y) where
-  -- so many elements are those of the map
+  -- the first k elements are those of the map
   pub record IsFilledTo (xs : List X) (ys : List Y) (k : ℕ) : Type 0 where
     pub width : length ys ≡ length xs
     pub so_far : take k ys ≡ take k (map f xs)
@@ -32,7 +32,7 @@ module _ {X Y : Type 0} (f : X → Y) where
       tail_of : z ∷ take k ys ≡ f x ∷ take k (map f xs) → take k ys ≡ take k (map f xs)
       tail_of e = ap tail e
 
-  -- all are filled
+  -- a list is the map once all its elements are filled
   all_filled : (xs : List X) (ys : List Y) (k : ℕ) → length ys ≡ length xs → length xs ≤ k → take k ys ≡ take k (map f xs) → ys ≡ map f xs
   all_filled xs ys k same past so_far =
       sym (take_all k ys (omega (arith, same, past)))

@@ -30,7 +30,7 @@ module _ (p : Program) (before known : List Known) (common : Option Taken) (late
   nothing_changed (count_down n) idle pack m = absurd idle
   nothing_changed (guard_count n wanted) idle pack m = refl
 
-  -- so that matrices stay closed
+  -- matrices stay closed behind a part that changes nothing
   pub idle_closed : (y : Part) → IsIdle y → (packs : List Pack) (ms : List (List ℤ)) → AreClosedBy p known packs ms → all_closed p known packs (each_pack (plan_changed p before common latest wrote y) packs ms) ≡ Some ms
   idle_closed y idle [] [] closes = refl
   idle_closed y idle [] (m ∷ ms) closes = absurd closes

@@ -46,7 +46,7 @@ least_is [] lists e = refl
 least_is (pack ∷ packs) [] e = absurd (omega (arith, e))
 least_is (pack ∷ packs) (ts ∷ lists) e = ap (λ row. (matrices (size_of pack) ts).least ++ row) (least_is packs lists (omega (arith, e)))
 
--- at most 81 words for each pack
+-- a row has at most 81 words for each pack
 pub few_words : (sizes : List ℕ) → AllByRecursion (λ n. n ≤ 8) sizes → width_of sizes ≤ 81 * length sizes
 few_words [] few = omega arith
 few_words (n ∷ sizes) few =

@@ -61,7 +61,7 @@ module _ (l : Layout) where
   named_short place None f bytes hs e sound all = all
   named_short place (Some n) f bytes hs e sound all = form_short place f bytes hs e sound all
 
-  -- these items are the layout's from the place on
+  -- the items are the layout's from the place on
   abbrev StandFrom : ℕ → List Item → Type 0
   StandFrom place items = (k : ℕ) → slice_get l.items (place + k) ≡ slice_get items k
 

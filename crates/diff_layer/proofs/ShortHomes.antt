@@ -68,7 +68,7 @@ module _ (l : Layout) where
   named_short place None f bytes e sound = tt
   named_short place (Some n) f bytes e sound = form_short place f bytes e sound
 
-  -- these items are the layout's from the place on
+  -- the items are the layout's from the place on
   abbrev StandFrom : ℕ → List Item → Type 0
   StandFrom place items = (k : ℕ) → slice_get l.items (place + k) ≡ slice_get items k
 
@@ -107,7 +107,7 @@ homes_are_short p sound =
     both (IsShortHome l) (item_homes 0 l.items) (count_homes (program_statements p))
     (items_short l 0 l.items at (recursion_from_All (IsWellFormedItem l) l.items sound.items)) (counts_short l (program_statements p))
 
--- and so have those of a pack
+-- all cells of a pack have short homes
 pub packs_are_short : (p : Program) (pack : Pack) → HasWellFormedItems p.layout → IsPackOf p pack → AllByRecursion (IsShortHome p.layout) pack
 packs_are_short p pack sound is = go pack (λ k h at. is.homes k h at)
   where

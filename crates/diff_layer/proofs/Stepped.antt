@@ -125,7 +125,7 @@ module _ (p : Program) (a : Act) (x : Action) where
         go true = ap (λ bs. Some (t, seen2 (bs ++ wrote) out)) (bytes_same y)
         go false = refl
 
--- of the part with a number
+-- the step of the part that has the number
 pub step_there : (p : Program) (y : Stmt) (x : Action) (k : ℕ) (part : Part) (s : Seen) (o : Option Seen) → slice_get (edge_parts p y x) k ≡ Some part → step_at p y x k s ≡ o →
     step_small p (act_in y) x part s ≡ o
 step_there p y x k part s o there e = sym (ap (λ (q : Option Part). q >>= λ z. step_small p (act_in y) x z s) there) ∙ e

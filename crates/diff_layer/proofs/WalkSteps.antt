@@ -34,7 +34,7 @@ use Rattle.diff_layer.proofs.Items.{nothing_written}
 use Rattle.diff_layer.proofs.SmallPacks.{walks_are_small, clears_are_small2}
 use Rattle.diff_layer.proofs.Walked.{passed, stopped, none_left, cleared_passed, cleared_stopped, not_cleared, all_cleared}
 
--- so many parts are passed
+-- the walk stands behind some parts of the edge
 pub record IsAt (p : Program) (cells : List Cell) (plans : List PackPlan) (y : Stmt) (x : Action) (row : List ℤ) (kept : Kept) (written : Bool) (out : List ℤ) : Type 0 where
   pub row_of : IsRowOf p cells row
   pub words : length row ≤ 1025
@@ -54,7 +54,7 @@ module _ (p : Program) (cells : List Cell) (plans : List PackPlan) (y : Stmt) (x
   abbrev clears_from : List Part → Seen → Seen2 → Kind → Bool
   clears_from ys s r fault = clears_all2 p (plain_plans plans) (act_in y) x ys s r fault
 
-  -- and what is left gives what the whole edge gives
+  -- k parts are passed, and what is left gives what the whole edge gives
   pub record IsWalkedTo (k : ℕ) (row : List ℤ) (kept : Kept) (written : Bool) (out : List ℤ) : Type 0 where
     pub at : IsAt p cells plans y x row kept written out
     pub same : steps_from (drop k parts) (seen row kept) (seen2 at.wrote (matrices_for plans out)) ≡ steps_from parts (beginning first) (beginning2 firsts)
@@ -180,7 +180,7 @@ module _ (p : Program) (cells : List Cell) (plans : List PackPlan) (y : Stmt) (x
 -- ---- the whole edge
 
 module _ (p : Program) (cells : List Cell) (plans : List PackPlan) (y : Stmt) (x : Action) (first : List Known) (ms : List (List ℤ)) (small : AllByRecursion (IsSmallPart p (act_in y) x) (edge_parts p y x)) where
-  -- where the matrices are closed
+  -- the walk over a whole edge, where the matrices are closed
   pub walked_from : (cs : List (List ℤ)) (o : Option (Seen × Seen2)) → all_closed p first (plain_plans plans) ms ≡ Some cs →
       o ≡ steps2_small p (plain_plans plans) (act_in y) x (edge_parts p y x) (beginning first) (beginning2 cs) →
       statement_walked p (plain_plans plans) y x first ms ≡ finished2 p (plain_plans plans) (act_in y) x o

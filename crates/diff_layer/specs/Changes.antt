@@ -70,7 +70,7 @@ module _ (p : Program) (known : List Known) (common : Option Taken) where
       related decimals (cell_at p pack (taken_at known common) []) (range_at p known) size b r c wanted m
   guard_changed pack size decimals t wanted m = m
 
-  -- in units of so many decimals
+  -- the matrix behind a part, in units of so many decimals
   abbrev pub part_changed : Latest → List Bytes → Pack → ℕ → ℕ → Part → List ℤ → List ℤ
   part_changed latest wrote pack size decimals (store place mode y) m = store_changed latest wrote pack size decimals place mode y m
   part_changed latest wrote pack size decimals (bytes_in offset count) m = forgotten_cells size (is_gone p.layout (gone.Bytes offset count)) 1 pack m

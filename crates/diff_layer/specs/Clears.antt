@@ -1,4 +1,4 @@
--- Which faults of a part the matrices show not to be met, where the first layer doesn't.
+-- Which faults of a part the matrices clear where the first layer doesn't.
 use Rattle.std.specs.Prelude.{ℕ, ◌||◌, ◌&&◌, not, if◌then◌else◌, Bool, true, false, List, ℤ, neg_ℤ, int_le, Option, Some, None}
 use Rattle.std.specs.Option.{option_map_or}
 use Rattle.dec_num.specs.declared.types.Mode.{Mode}
@@ -32,7 +32,7 @@ use Rattle.diff_steps.specs.Packs.{Pack}
 use Rattle.pack_forms.specs.Views.{taken_at}
 use Rattle.diff_layer.specs.Ends.{some_end}
 
--- by what is known of cells
+-- what is known of cells shows the divisor not to be 0
 abbrev pub divisor_apart : Program → List Known → Atom → Pack → List ℤ → Bool
 divisor_apart p known d pack m = is_apart_in p (taken_at known None) d pack m
 
@@ -47,7 +47,7 @@ module _ (p : Program) (known : List Known) (common : Option Taken) (wrote : Lis
   abbrev pub range_shown : List Pack → List (List ℤ) → Interval → Bool
   range_shown packs ms i = both_shown (int_le i.high (most r.digits)) (int_le (neg_ℤ (most r.digits)) i.low) packs ms
 
-  -- where the first layer shows nothing
+  -- the matrices show that an amount fits of which the first layer shows nothing
   abbrev pub amount_shown : List Pack → List (List ℤ) → Option AmountRange → Bool
   amount_shown packs ms None = true
   amount_shown packs ms (Some (range.Decimal i)) = range_shown packs ms (near_range mode r.scale i)
@@ -72,7 +72,7 @@ module _ (p : Program) (packs : List Pack) (a : Act) (x : Action) where
   abbrev pub store_cleared : ℕ → Mode → Amount → Seen → Seen2 → Bool
   store_cleared place mode y t r = if is_remainder y then false else taken_shown place mode y t r
 
-  -- where the count is sent
+  -- the matrices clear a part that sets a counter, where the count is sent
   abbrev pub set_cleared : Part → Seen → Seen2 → Bool
   set_cleared y t r = count_shown p (with_taken_small p a x t).cells (with_taken_small p a x t).common r.wrote y packs r.packs
 

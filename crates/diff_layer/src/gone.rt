@@ -16,7 +16,7 @@ use pack_forms::{PackCell, forget_cells};
 /// Which cells are forgotten.
 #[derive(Clone, Copy)]
 pub(crate) enum Gone {
-    /// Those that have bytes of an item's, itself left out.
+    /// The items that have bytes of this item, itself left out.
     Others(u32),
     /// An item, and what has bytes of it.
     Lost(u32),

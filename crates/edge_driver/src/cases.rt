@@ -62,7 +62,7 @@ fn answer_lines<L: Layer>(
     Ok(())
 }
 
-// By the own ranges of the cells, and their ends, which are all the thresholds.
+// Answers a case by the own ranges of the cells, and their ends, which are all the thresholds.
 fn answer_by_ranges(
     rt: &HostRuntime,
     program: &Program,

@@ -19,7 +19,7 @@ element ranges thresholds place =
       formed = record { said = ap (row_from (width_of ranges)) back; fits = subst (ElementFits ranges) back fits };
     }
 
--- by the own ranges of the cells
+-- rows that are claimed are elements by the own ranges of the cells
 pub claims_are_elements : (owns ranges : List Interval) → ranges ≡ owns → (thresholds : List (List ℤ)) (place : Place) →
     IsElement (cells_lattice owns thresholds) (claimed_row ranges place)
 claims_are_elements owns ranges same thresholds place =

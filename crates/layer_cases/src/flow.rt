@@ -7,7 +7,7 @@ use dom_laws::{Steps, System};
 use std::marker::Brand;
 use std::sync::ledger::{Blank, Ledger};
 
-// With a counter of its own, which nobody reads.
+// The post with a counter of its own, which nobody reads.
 fn post_counted<S: System, L: Ledger>(
     system: &S,
     edge: u32,

@@ -111,7 +111,7 @@ pub struct Input {
 }
 
 impl Input {
-    /// That of a list of 91 numbers, where those of the form are below 10^37 in absolute value.
+    /// The input of a list of 91 numbers, where those of the form are below 10^37 in absolute value.
     pub fn of(numbers: &[i128]) -> Option<Input> {
         if numbers.len() != 91 {
             return None;

@@ -31,7 +31,7 @@ module _ (p : Program) where
   pub first_are : (xs : List Mention) → fold (noted_mention p) [] xs ≡ first_cells p xs
   first_are xs = cells_noted [] xs ∙ sym (first_noted (λ a b. a == b) most_cells (filter_map (numeric_cell p) xs))
 
-  -- those of loops, and then those of paragraphs
+  -- the packs of loops are noted first, and then those of paragraphs
   pub both_noted : (loops texts : List (List Mention)) →
       fold noted_pack (fold noted_pack [] (map (cells_together p) loops)) (map (cells_together p) texts) ≡ fold noted_pack [] (map (cells_together p) (loops ++ texts))
   both_noted loops texts =

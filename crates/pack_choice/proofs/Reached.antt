@@ -55,7 +55,7 @@ kept_count (true ∷ xs) (false ∷ ys) (h, k) = let no_mark = h refl in absurd 
 kept_count (false ∷ xs) (true ∷ ys) (h, k) = let more = kept_count xs ys k in omega (arith, more)
 kept_count (false ∷ xs) (false ∷ ys) (h, k) = let more = kept_count xs ys k in omega (arith, more)
 
--- where they differ, it has more
+-- where marks that are kept differ, the later list has more of them
 differing : (xs ys : List Bool) → AreKept xs ys → same_marks xs ys ≡ false → suc (count xs) ≤ count ys
 differing [] [] k e = absurd (cc e)
 differing [] (y ∷ ys) k e = absurd k

@@ -121,7 +121,7 @@ inserted_keeps z u (t ∷ ts) h =
     (λ (gt : z <ℤ t). rw (not_below t z le, below_is z t gt) (inr h))
     (λ (ge : t ≤ℤ z). rw (not_below t z le, not_below z t ge) h))
 
--- it holds nothing else
+-- a list with one number inserted holds nothing else
 one_behind : (t z u : ℤ) (ts : List ℤ) → (Has (inserted z ts) u → (z ≡ u) ⊎ Has ts u) → (t ≡ u) ⊎ Has (inserted z ts) u → (z ≡ u) ⊎ ((t ≡ u) ⊎ Has ts u)
 one_behind t z u ts h (inl e) = inr (inl e)
 one_behind t z u ts h (inr more) = ⊎_elim (λ (e : z ≡ u). inl e) (λ (k : Has ts u). inr (inr k)) (h more)

@@ -27,7 +27,7 @@ abbrev pub loops : Act → Bool
 loops (perform body turns) = if is_once turns then false else true
 loops _ = false
 
--- by a PERFORM that loops, with the ranges that it reaches
+-- what a PERFORM that loops mentions, with the ranges that it reaches
 abbrev pub loop_mentions : List (List Mention) → ℕ → Stmt → List (List Mention)
 loop_mentions texts home (MkStmt number line a) = if loops a then whole_mentions texts (stmt_mentions (MkStmt number line a)) home ∷ [] else []
 
@@ -35,12 +35,12 @@ abbrev pub loops_mentions : List (List Mention) → ℕ → List Stmt → List (
 loops_mentions texts home [] = []
 loops_mentions texts home (s ∷ ss) = loop_mentions texts home s ++ loops_mentions texts home ss
 
--- of paragraphs from a place on, in the order of the statements
+-- what loops of the paragraphs from a place on mention, in the order of the statements
 abbrev pub all_loops : List (List Mention) → ℕ → List Para → List (List Mention)
 all_loops texts home [] = []
 all_loops texts home (x ∷ xs) = loops_mentions texts home (para_statements x) ++ all_loops texts (suc home) xs
 
--- by each PERFORM that loops, and then by each paragraph alone
+-- what each PERFORM that loops mentions, and then what each paragraph alone does
 abbrev pub all_mentions : Program → List (List Mention)
 all_mentions p = all_loops (texts_of p.paras) 0 p.paras ++ texts_of p.paras
 

@@ -10,7 +10,7 @@ module _ {A : Type 0} (same : A → A → Bool) where
   abbrev pub added : List A → A → List A
   added ys x = if holds ys x then ys else ys ++ x ∷ []
 
-  -- those that didn't come before
+  -- the elements that didn't come before
   abbrev pub distinct : List A → List A
   distinct xs = fold added [] xs
 

@@ -75,7 +75,7 @@ abbrev mutual
   logics_mentions no_logics = []
   logics_mentions (more_logics l ls) = logic_mentions l ++ logics_mentions ls
 
--- those of a WHEN
+-- what the tests of a WHEN mention
 abbrev pub tests_mentions : List Logic → List Mention
 tests_mentions [] = []
 tests_mentions (l ∷ ls) = logic_mentions l ++ tests_mentions ls

@@ -11,7 +11,7 @@ use Rattle.pack_choice.specs.Rising.{sorted}
 abbrev pub scale_at : List Cell → ℕ → ℕ
 scale_at cells number = option_map_or (λ c. c.scale) (slice_get cells (number - 1)) 0
 
--- those of the finest cell
+-- the decimals of the finest cell
 abbrev pub finest : List Cell → List ℕ → ℕ
 finest cells [] = 0
 finest cells (n ∷ ns) = max (scale_at cells n) (finest cells ns)
@@ -29,12 +29,12 @@ own_thresholds lists number = slice_index_or lists (number - 1) []
 abbrev pub with_negative : ℤ → List ℤ
 with_negative z = z ∷ neg_ℤ z ∷ []
 
--- those of a list, of which one is so many of the pack's units
+-- the thresholds of a list, of which one is so many of the pack's units
 abbrev pub list_thresholds : ℤ → List ℤ → List ℤ
 list_thresholds units [] = []
 list_thresholds units (t ∷ ts) = with_negative (t *ℤ units) ++ list_thresholds units ts
 
--- those of a cell by its number, in units of so many decimals
+-- the thresholds of a cell by its number, in units of so many decimals
 abbrev pub cell_thresholds : List Cell → List (List ℤ) → ℕ → ℕ → List ℤ
 cell_thresholds cells lists decimals number = list_thresholds (cell_units cells decimals number) (own_thresholds lists number)
 
@@ -42,7 +42,7 @@ abbrev pub cells_thresholds : List Cell → List (List ℤ) → ℕ → List ℕ
 cells_thresholds cells lists decimals [] = []
 cells_thresholds cells lists decimals (n ∷ ns) = cell_thresholds cells lists decimals n ++ cells_thresholds cells lists decimals ns
 
--- by the program's cells, a list of thresholds for each of them, and the numbers of the pack's cells
+-- the thresholds of a pack, by the program's cells, a list of thresholds for each, and the numbers of the pack's cells
 abbrev pub thresholds_of_pack : List Cell → List (List ℤ) → List ℕ → List ℤ
 thresholds_of_pack cells lists numbers = sorted (cells_thresholds cells lists (finest cells numbers) numbers)
 

@@ -36,7 +36,7 @@ module _ (texts : List (List Mention)) (own : List Mention) where
   reached_through zero = marks_of (λ para. is_performed para own)
   reached_through (suc n) = marks_of (is_performed_by (reached_through n))
 
-  -- there are no more others than paragraphs
+  -- all paragraphs that are reached; there are no more others than paragraphs
   abbrev pub reached : List Bool
   reached = reached_through (length texts)
 

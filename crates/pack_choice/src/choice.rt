@@ -214,7 +214,7 @@ fn add_held(list: &mut Vec<u32>, cells: &[u32], number: u32) -> Result<(), Alloc
     Ok(())
 }
 
-// Those of so many cells that are among some, in rising order.
+// The numbers of the first cells that are among some, in rising order.
 #[tactic(auto, using(crate::proofs::Chosen::held_more))]
 fn rising(alloc: Global, count: usize, cells: &[u32]) -> Result<Vec<u32>, AllocError>
     requires { count ≤ 512 }
@@ -294,7 +294,7 @@ fn note_all(
     Ok(())
 }
 
-// Those of what loops mention, and then those of what paragraphs do.
+// The packs of what loops mention, and then those of what paragraphs do.
 fn noted(
     alloc: Global,
     program: &Program,

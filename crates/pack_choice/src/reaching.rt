@@ -78,7 +78,7 @@ fn first_marks(
     Ok(marks)
 }
 
-// Those, and what the marked ones perform.
+// The marked ones, and what they perform.
 fn next_marks(
     alloc: Global,
     texts: &[Vec<Mention>],

@@ -98,7 +98,7 @@ module _ (p : Program) (pack : Pack) (seen : Seen) (wrote : List Bytes) where
       (if is_whole_sender p.layout x then sender_by f cell common written x else None) ≡ set_form p pack seen wrote x
   set_same x written e = ap (λ (o : Option Lin). if is_whole_sender p.layout x then o else None) (sender_is x written e)
 
--- where operands are taken, in the pack's unit
+-- both definitions give an amount one form in the pack's unit where operands are taken
 pub amount_is : (p : Program) (pack : Pack) (cells : List Known) (common : Option Taken) (wrote : List Bytes) (place : ℕ) (y : Amount) (written : Bool) (d : ℕ) (o : Option Lin) →
     d ≡ pack_decimals p.layout pack → written ≡ are_written p.layout wrote (amount_items y) →
     o ≡ amount_by d (λ k. cell_of pack (of_item k)) (range_at p cells) common written place y → o ≡ amount_form p pack (taken_at cells common) wrote place y

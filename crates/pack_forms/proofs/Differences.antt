@@ -24,7 +24,7 @@ module _ (cell : ℕ → Option ℕ) (range : ℕ → Ranged) (a b : Sum) where
       ∙ ap (λ (o : Option Lin). o >>= λ p. y >>= λ q. turned_form true q >>= λ r. if_small (sum_of p r)) e
       ∙ ap (λ (o : Option Lin). sum_form d cell range a >>= λ p. o >>= λ q. turned_form true q >>= λ r. if_small (sum_of p r)) f
 
-  -- in the pack's unit
+  -- the difference of two sums has one form by both definitions, in the pack's unit
   pub difference_is : (d f : ℕ) (x y z w : Option Lin) → d ≡ f → x ≡ sum_form d cell range a → y ≡ sum_form d cell range b → z ≡ turned_if true y →
       w ≡ added_forms x z → w ≡ difference_form f cell range a b
   difference_is d f x y z w unit e g h k = differs d x y z w e g h k ∙ ap (λ n. difference_form n cell range a b) unit

@@ -86,7 +86,7 @@ module _ (p : Program) (a : Act) (x : Action) where
       go true e = edge_small range bounded sum e
       go false e = tt
 
-  -- once operands are taken
+  -- what operands were is small once they are taken
   pub kept_small : (s : Seen) → CanStep p a x s → s.written ≡ true → has_small_sum (bound_at p.layout) a ≡ true → IfSome s.common HasSmallTop
   kept_small s can written sum =
       let taken = can.taken written in

@@ -42,7 +42,7 @@ low_is c i x e h =
 pub same_product : (x y a b : ℤ) → x ≡ a → y ≡ b → x *ℤ y ≡ a *ℤ b
 same_product x y a b e f = ap (λ (z : ℤ). z *ℤ y) e ∙ ap (λ (z : ℤ). a *ℤ z) f
 
--- the other words behind a bound that is added
+-- all words but one are the same in both matrices
 abbrev Others : ℕ → ℕ → ℕ → (ℕ → ℕ → ℤ) → (ℕ → ℕ → ℤ) → Type 0
 Others size row column w u = (i j : ℕ) → i ≤ size → j ≤ size → (i ≢ row) ⊎ (j ≢ column) → u i j ≡ w i j
 

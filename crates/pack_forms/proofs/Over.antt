@@ -103,7 +103,7 @@ pub few : (cells : List PackCell) (home : Home) (k : ℕ) → cell_of (plain_cel
 few cells home k e =
     subst (λ n. k < n) (length-map cells plain_cell) (subst (λ (o : Option ℕ). IfSome o (λ j. j < length (plain_cells cells))) e (cell_below home (plain_cells cells)))
 
--- by what the form is
+-- a form is of the pack's size if one that equals it is within it
 pub is_of_pack : (size : ℕ) (o q : Option Lin) → IfSome o IsForm → o ≡ q → IfSome q (IsWithin size) → IfSome o (IsFormOf size)
 is_of_pack size o q good e h = of_pack size o good (subst (λ (x : Option Lin). IfSome x (IsWithin size)) (sym e) h)
 

@@ -5,7 +5,7 @@ use Rattle.std.specs.Option.{option_map}
 use Rattle.cell_steps.specs.Homes.{Home, is_home}
 use Rattle.diff_steps.specs.Packs.{Pack, cell_of}
 
--- the same, places counted from a number on
+-- the place of a cell in a pack, counted from a number on
 abbrev pub place_from : ℕ → Home → Pack → Option ℕ
 place_from n home [] = None
 place_from n home (h ∷ hs) = if is_home h home then Some n else place_from (suc n) home hs

@@ -8,7 +8,7 @@ use Rattle.closed_matrices.specs.Settled.{IsTightBut}
 use Rattle.closed_matrices.proofs.Tight.{tight_beside}
 use Rattle.pack_forms.specs.Tight.{AreSameBut}
 
--- as far as the first words
+-- the first words are the same, but for those of one row and of its column
 pub record AreSameTo (n at : ℕ) (old new : List ℤ) (count : ℕ) : Type 0 where
   pub same : (k : ℕ) → k < count → k / n ≢ at → k % n ≢ at → get_or new k (pos 0) ≡ get_or old k (pos 0)
 

@@ -63,7 +63,7 @@ round_fits r f n =
     one_times zero b h = absurd (omega arith)
     one_times (suc c) b h = omega arith
 
--- with the numbers as they are passed on
+-- the bound of a cut number, with the numbers as they are passed on
 pub trunc_along : (mode : Mode) (r : Receiver) (f : ℕ) (u x limit : ℤ) → mode ≡ Trunc → pos 0 ≤ℤ u → x ≡ u → limit ≡ pos (10 ^ (r.digits + f)) → nat_lt (unsigned_abs x * 10 ^ r.scale) (unsigned_abs limit) ≡ high_fits mode r f (Some u)
 trunc_along mode r f (negsuc n) x limit is h e g = absurd (omega (arith, ints, h))
 trunc_along mode r f (pos n) x limit is h e g =

@@ -32,6 +32,6 @@ program_of items = plain_program items.program.now
 abbrev pub known_in : KnownItems → List Known
 known_in items = cells_of items.row.now
 
--- where operands are taken, by what is known of cells and by what the operands were
+-- what is seen where operands are taken, by what is known of cells and by what the operands were
 abbrev pub taken_at : List Known → Option Taken → Seen
 taken_at cells common = record { cells = cells; written = true; common = common; may_zero = false; any_fail = false }

@@ -47,7 +47,7 @@ module _ (f : ℕ) (cell : ℕ → Option ℕ) (range : ℕ → Ranged) where
   abbrev pub own_by : ℕ → Option Lin
   own_by place = item_form f (cell place) (range place)
 
-  -- where the edge hasn't written to the items
+  -- the form of a sum that is read where the edge hasn't written to the items
   abbrev pub read_by : Bool → Sum → Option Lin
   read_by whole s = if whole && is_some (root_of s) then None else sum_form f cell range s
 

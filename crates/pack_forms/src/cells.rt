@@ -59,7 +59,7 @@ pub fn pack_decimals(layout: &Layout, cells: &[PackCell]) -> u32
     most
 }
 
-/// So many of the pack's units, which has so many decimals, as one of a cell's.
+/// How many of the pack's units, which has so many decimals, are one unit of a cell.
 pub fn unit_of(layout: &Layout, decimals: u32, cell: PackCell) -> i128
     requires { decimals ≤ 37 }
     ensures { result ≡ pos (10 ^ (decimals - decimals_of layout.now (plain_cell cell))) }

@@ -24,7 +24,7 @@ pub fn demand_if(size: usize, m: &mut [i128], form: Option<Lin>)
     }
 }
 
-// that the form is 0: two demands, each over the matrix as it was
+// demands that the form is 0: two demands, each over the matrix as it was
 fn demand_zero(size: usize, m: &mut [i128], fine: bool, form: Option<Lin>)
     requires size { size ≤ 8 }
     requires m { IsMatrix size m.old }
@@ -72,14 +72,14 @@ fn leaves_below(rel: Rel, wanted: bool) -> bool
     matches!(rel, Rel::Less | Rel::AtMost) == wanted
 }
 
-// where they are equal
+// whether a relation has an outcome where both sides are equal
 fn leaves_equal(rel: Rel, wanted: bool) -> bool
     ensures { result ≡ is_wanted wanted (holds rel equal_to_it) }
 {
     matches!(rel, Rel::Equal | Rel::AtLeast | Rel::AtMost) == wanted
 }
 
-// where it is above
+// whether a relation has an outcome where the first side is above the second
 fn leaves_above(rel: Rel, wanted: bool) -> bool
     ensures { result ≡ is_wanted wanted (holds rel above_it) }
 {

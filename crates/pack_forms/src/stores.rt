@@ -13,7 +13,7 @@ use linear_form::Lin;
 use result_ranges::{AmountRange, Receiver};
 use store_error::{Known, error_of};
 
-// of a value that is 0: the form and the negated one, whichever says more
+// stores a value that is 0: by the form or by the negated one, whichever says more
 fn store_either(size: usize, m: &mut [i128], to: usize, form: Option<Lin>)
     requires size { size ≤ 8 }
     requires m { IsMatrix size m.old }

@@ -62,7 +62,7 @@ fn words(m: &Matrix) -> [i128; 6] {
     [m[1], m[2], m[3], m[5], m[6], m[7]]
 }
 
-// both coefficients, and the ends of the constant
+// a form by both coefficients and the ends of its constant
 type Numbers = (i128, i128, i128, i128);
 
 fn form(rt: &impl Abort, numbers: Numbers) -> Lin
@@ -78,7 +78,7 @@ fn form(rt: &impl Abort, numbers: Numbers) -> Lin
     }
 }
 
-// both ends and a unit
+// an interval by both ends, and a unit
 type Ends = (i128, i128, i128);
 
 fn known(rt: &impl Abort, ends: Ends) -> KnownCell

@@ -1,4 +1,4 @@
--- From a source's bytes and the words on files to a task, or to what is answered in its place.
+-- The task, or what is answered in its place, follows from a source's bytes and the words on files.
 use Rattle.std.proofs.Common.{◌≡◌, ◌⊎◌, ℕ, false, List, length, Result, Ok, Err, inl, inr, refl, sym, ap, ◌∙◌, subst, Vec, String, Global}
 use Rattle.std.specs.Prelude.{IfErr, IfOk, IfSome, MatchResult, Option, Some, None}
 use Rattle.std.specs.Borrow.{Bor}
@@ -114,7 +114,7 @@ module _ (r : Run) (bytes : List ℕ) where
     task_of (Ok t) h = record { bytes = bytes; held = held; makes = h.makes }
     task_of (Err instead) h = tt
 
-    -- as the code sees the bytes
+    -- the task by the bytes as the code sees them
     module _ (seen : List ℕ) (same : seen ≡ bytes) (found : Found) (comes : ComesOf seen r found) where
       its : ComesOf bytes r found
       its = subst (λ (bs : List ℕ). ComesOf bs r found) same comes

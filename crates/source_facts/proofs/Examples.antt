@@ -23,7 +23,7 @@ small = record {
 in_order : AreNumberedInOrder small
 in_order = refl
 
--- none has number 0, or a greater one than there are statements
+-- no statement has number 0, or a greater one than there are statements
 none_before : act_at small 0 ≡ None
 none_before = refl
 

@@ -8,6 +8,6 @@ pub use Rattle.graph_runs.specs.Sources.{number_of, AreNumberedInOrder}
 abbrev pub SourcesNumberStatements : Type 0
 SourcesNumberStatements = (bytes : List ℕ) (p : Program) → IsSource bytes p → AreNumberedInOrder p
 
--- So what is found by a number is one of these.
+-- What is found by a number is one of the numbered statements.
 abbrev pub SourcesCountStatements : Type 0
 SourcesCountStatements = (bytes : List ℕ) (p : Program) → IsSource bytes p → StatementsAreCounted p
