@@ -136,7 +136,7 @@ module _ (p : Program) (g : Graph) (source : ∥ IsSourceGraph p g ∥₁) (read
         (found.inductive.elements node is) (claimed p g x (thresholds_of p) node) (lies_below node is)
         (subst (λ (y : Element). clears_at p g node y fault ≡ true) (sym (claimed_back p g x (thresholds_of p) node)) e))
 
-    -- what the first layer clears both clear
+    -- both layers clear what the first layer clears
     claims_clear_there : (node : ℕ) (fault : Kind) → IsNode cells_flow node → cells_clear p g x node fault ≡ true → claims_clear p g c node fault ≡ true
     claims_clear_there node fault is e = by_packs (packs_of p)
       where
@@ -154,7 +154,7 @@ module _ (p : Program) (g : Graph) (source : ∥ IsSourceGraph p g ∥₁) (read
       others_element : (node : ℕ) → IsNode flow node → IsElement lattice (others node)
       others_element node is = pack_assigns.inductive.elements node (record { first = is.first; last = is.last })
 
-      -- the edges keep them beside what is found of cells
+      -- the edges keep these rows beside what is found of cells
       others_inductive : IsInductive lattice flow others
       others_inductive = record {
         elements = others_element;

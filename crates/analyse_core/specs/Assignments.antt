@@ -45,7 +45,7 @@ IsListedElement lists (Some cs) = AreListed lists cs
 abbrev pub IsListedWord : List ℤ → ℤ → Type 0
 IsListedWord ts x = (x ≡ none) ⊎ words.IsListed ts x
 
--- off the diagonal
+-- each word off the diagonal is a threshold or none
 pub record HasListedWords (size : ℕ) (ts m : List ℤ) : Type 0 where
   pub each : (k : ℕ) → k < length m → ¬ (k / (size + 1) ≡ k % (size + 1)) → IsListedWord ts (slice_index_or m k (pos 0))
 
@@ -79,7 +79,7 @@ module _ (p : Program) (g : Graph) where
 
   -- ---- what is cleared
 
-  -- what it claims of cells shows at each node of the statement that there is no such fault
+  -- what an assignment claims of cells shows at each node of the statement that there is no such fault
   abbrev pub is_cleared_in : Certificate → ℕ → Kind → Bool
   is_cleared_in x statement fault = is_cleared_by g (cells_clear p g x) statement fault
 
@@ -89,7 +89,7 @@ module _ (p : Program) (g : Graph) where
       (x : Certificate) → IsThresholdAssignment x → (statement : ℕ) (fault : Kind) → is_cleared_in x statement fault ≡ true
       → ¬ Contains (open_pairs p g c) (open_at statement fault)
 
-  -- what both show together; without packs there is no second layer
+  -- what the claims of cells and the rows show together; without packs there is no second layer
   abbrev pub both_clear : List (List ℕ) → Certificate → (ℕ → List ℤ) → ℕ → Kind → Bool
   both_clear [] x rows node fault = cells_clear p g x node fault
   both_clear (pack ∷ packs) x rows node fault =

@@ -15,7 +15,7 @@ use Rattle.claimed_rows.specs.Bounds.{row_bounds}
 abbrev pub claim : ℕ → Interval → Claim
 claim cell i = record { cell = cell; low = i.low; high = i.high }
 
--- a cell that may be anything has none
+-- the claims of a cell; a cell that may be anything has none
 abbrev pub known_claims : ℕ → Known → List Claim
 known_claims cell None = []
 known_claims cell (Some i) = claim cell i ∷ []

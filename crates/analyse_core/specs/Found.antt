@@ -24,7 +24,7 @@ module _ (p : Program) (g : Graph) where
     pub inductive : IsInductive (pack_lattice p) (pack_flow p g rows) bounds
     pub dominated : IsDominated (pack_lattice p) (pack_flow p g rows) bounds
 
-  -- the certificate of both
+  -- the certificate is that of rows of cells and of matrices that are found
   pub record IsFound (c : Certificate) : Type 0 where
     pub rows : ℕ → List ℤ
     pub bounds : ℕ → List ℤ

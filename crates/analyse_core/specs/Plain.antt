@@ -25,7 +25,7 @@ module _ (p : Program) (g : Graph) where
   abbrev pub with_edge : List Element → ℕ → ℕ → Element → Element
   with_edge xs node e x = if (edge_at g e).to == node then joined_element x (along xs e) else x
 
-  -- along the first so many edges
+  -- what comes to a node along the first edges
   abbrev pub joined_along : List Element → ℕ → ℕ → Element
   joined_along xs node zero = if node == 1 then Some (entry_cells p) else None
   joined_along xs node (suc e) = with_edge xs node (suc e) (joined_along xs node e)

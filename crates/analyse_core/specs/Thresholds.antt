@@ -50,7 +50,7 @@ most = 128
 abbrev pub lies_in : Interval → ℤ → Bool
 lies_in own z = int_le own.low z && int_le z own.high
 
--- into a list that rises, unless it holds it
+-- a number put into a list that rises, unless the list holds it
 abbrev pub inserted : ℤ → List ℤ → List ℤ
 inserted z [] = z ∷ []
 inserted z (t ∷ ts) = if int_lt t z then t ∷ inserted z ts else if int_lt z t then z ∷ t ∷ ts else t ∷ ts

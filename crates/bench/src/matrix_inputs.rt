@@ -12,7 +12,7 @@ const NONE: i128 = 100_000_000_000_000_000_000_000_000_000_000_000_000;
 #[derive(Clone, Copy)]
 pub struct Matrix {
     pub words: [i128; 81],
-    // the places' heights are cut out of it
+    // the number that the places' heights are cut out of
     base: u64,
     ghost is_matrix: { IsMatrix 8 words },
 }

@@ -44,7 +44,7 @@ listed_in packs thresholds listed = length-map thresholds (λ list. list.items) 
 
 module _ (p : Program) (g : Graph) (c : Certificate) (ranges : List Interval) (given : IsGiven p g c ranges) (packs : List declared.Pack)
     (cells : cells_in packs ≡ c.packs) (d : Certificate) (cert : d ≡ c) where
-  -- what the code has
+  -- the rows of cells as the code has them
   abbrev facts : ℕ → List ℤ
   facts node = claimed_row ranges (place_at c node)
 
@@ -54,7 +54,7 @@ module _ (p : Program) (g : Graph) (c : Certificate) (ranges : List Interval) (g
   packs_same : packs_of p packs ≡ packs_at p g c
   packs_same = packs_in_are p packs ∙ ap (map (pack_in (homes_of p))) cells
 
-  -- is what is meant
+  -- what holds of the packs and rows that the code has holds of those that are meant
   moved : (P : List Pack → (ℕ → List ℤ) → (ℕ → List ℤ) → Type 0) → P (packs_of p packs) facts rows → P (packs_at p g c) (row_at p g c) (bounds_row p g c)
   moved P h =
       subst (λ (ps : List Pack). P ps (row_at p g c) (bounds_row p g c)) packs_same

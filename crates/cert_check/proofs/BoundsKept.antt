@@ -157,7 +157,7 @@ module _ (p : Program) (g : Graph) (c : Certificate) where
         flows.post_element (suc e) (bounds_row p g c (edge_at g (suc e)).from) (record { first = omega arith; last = last })
         (bounds_element (edge_at g (suc e)).from)
 
-    -- below what is claimed where it leads
+    -- what comes along the edge lies below what is claimed where it leads
     abbrev LiesBelow : ℕ → Type 0
     LiesBelow e = lattice.Below (arrives flow (bounds_row p g c) e) (bounds_row p g c (leads_to p g c e))
 

@@ -23,7 +23,7 @@ module _ {A : Type 0} (f : ℕ → List A) where
       ap (λ xs. xs ++ flat_map f (range_with_len (first + 1) count)) (h first (omega arith) (omega arith))
       ∙ all_empty (first + 1) count (λ k l m. h k (omega (arith, l)) (omega (arith, m)))
 
-  -- the first of those that there are
+  -- the first element is that of the first number that has any
   first_there : (first count n : ℕ) (x : A) → first ≤ n → n < first + count → ((k : ℕ) → first ≤ k → k < n → f k ≡ []) →
       slice_get (f n) 0 ≡ Some x → slice_get (flat_map f (range_with_len first count)) 0 ≡ Some x
   first_there first zero n x l m h e = absurd (omega (arith, l, m))

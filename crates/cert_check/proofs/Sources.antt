@@ -12,7 +12,7 @@ use Rattle.cert_check.specs.declared.ends.CheckEnd.TheVariants as check
 use Rattle.cert_check.specs.declared.ends.Shape.TheVariants as shape
 use Rattle.cert_check.specs.Counts.{HasCounts, MisfitsCounts}
 use Rattle.cert_check.specs.Checking.{HasShape, Refuses}
--- passed on
+-- The law of short cells is passed on from `cell_ranges`.
 pub use Rattle.cell_ranges.proofs.Sources.{graph_cells_short}
 
 module _ (p : Program) (g : Graph) (c : Certificate) (cells nodes : ℕ) (cells_are : cells ≡ length (cells_of p))

@@ -25,7 +25,7 @@ pub record HasShape (p : Program) (g : Graph) (c : Certificate) : Type 0 where
   pub cells : c.cells ≡ length (cells_of p)
   pub nodes : length c.nodes ≡ length g.nodes
 
--- how it isn't; cells are looked at first
+-- how the certificate's shape differs; cells are looked at first
 abbrev pub Misfits : Program → Graph → Certificate → Shape → ℕ → ℕ → Type 0
 Misfits p g c shape.Cells found wanted =
     (found ≡ c.cells) × (wanted ≡ length (cells_of p)) × ¬ (found ≡ wanted)
@@ -38,7 +38,7 @@ pub record Accepts (p : Program) (g : Graph) (c : Certificate) (pairs : List Ope
   pub inductive : leaks p g c ≡ []
   pub pairs_are : pairs ≡ open_pairs p g c
 
--- why it isn't accepted: another shape, or the first leak
+-- why the certificate isn't accepted: another shape, or the first leak
 abbrev pub Refuses : Program → Graph → Certificate → CheckEnd → Type 0
 Refuses p g c (check.Shape what found wanted) = Misfits p g c what found wanted
 Refuses p g c (check.NotInductive layer edge gap) =

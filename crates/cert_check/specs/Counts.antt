@@ -10,7 +10,7 @@ pub record HasCounts (c : Certificate) (cells nodes : ℕ) : Type 0 where
   pub cells_are : c.cells ≡ cells
   pub nodes_are : length c.nodes ≡ nodes
 
--- how it isn't
+-- how the certificate's counts differ, by which of them and by both numbers
 abbrev pub MisfitsCounts : Certificate → ℕ → ℕ → CheckEnd → Type 0
 MisfitsCounts c cells nodes (check.Shape shape.Cells found wanted) = (found ≡ c.cells) × (wanted ≡ cells) × ¬ (found ≡ wanted)
 MisfitsCounts c cells nodes (check.Shape shape.Nodes found wanted) =

@@ -35,7 +35,7 @@ module _ (p : Program) (g : Graph) (c : Certificate) (thresholds : List (List �
   abbrev pub ClaimsAreKept : Type 0
   ClaimsAreKept = IsInductive (cells_lattice (owns p) thresholds) (cell_flow p g) (row_at p g c)
 
-  -- the first edge that doesn't
+  -- the first edge that doesn't keep what is claimed of cells
   abbrev pub LeaksFirst : ℕ → Type 0
   LeaksFirst e = IsFirstLeak (cells_lattice (owns p) thresholds) (cell_flow p g) (row_at p g c) e
 

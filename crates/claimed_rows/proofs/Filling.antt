@@ -49,7 +49,7 @@ one_more : (cs : List Known) (c : Known) (e : Element) → in_front (cs ++ c ∷
 one_more [] c e = refl
 one_more (d ∷ cs) c e = ap (with_cell (Some d)) (one_more cs c e)
 
--- one cell is set behind so many
+-- one more cell is set behind the first ones
 take_set : (cs : List Known) (k : ℕ) (c : Known) → k < length cs → take (suc k) (slice_set cs k c) ≡ take k cs ++ c ∷ []
 take_set [] k c l = absurd (omega (arith, l))
 take_set (d ∷ cs) zero c l = refl
@@ -58,7 +58,7 @@ take_set (d ∷ cs) (suc k) c l = ap (λ xs. d ∷ xs) (take_set cs k c (omega (
 -- ---- a loop over the cells
 
 module _ (owns : List Interval) (claims : List Claim) where
-  -- what is left to be done behind so many cells
+  -- what is left to be done behind the first cells
   abbrev pub left : ℕ → List Claim → Element
   left k rest = met_cells (drop k owns) (written_from (suc k) (length owns - k) rest)
 
@@ -78,7 +78,7 @@ module _ (owns : List Interval) (claims : List Claim) where
   drop_one (o ∷ os) zero d own l e = ap (λ x. x ∷ os) (sym e)
   drop_one (o ∷ os) (suc k) d own l e = drop_one os k d own (omega (arith, l)) e
 
-  -- one cell
+  -- what is left is one cell and what is left behind it
   left_one : (k : ℕ) (rest : List Claim) (d own : Interval) → k < length owns → own ≡ get_or owns k d
       → left k rest ≡ with_cell (met_known own (claim_at rest (suc k))) (left (suc k) (claims_behind rest (suc k)))
   left_one k rest d own l e =

@@ -27,7 +27,7 @@ no_parts [] bs e = (refl, e)
 no_parts (g ∷ as_) bs e = absurd (cc e)
 
 module _ (f : ℕ → List Gap) where
-  -- no place before has one
+  -- a gap that is found is the first if no place before has one
   pub found_at : (a n k : ℕ) (gap : Option Gap) → a ≤ k → k < a + n → ((j : ℕ) → a ≤ j → j < k → f j ≡ []) → gap ≡ first (f k) → is_some gap ≡ true
       → gap ≡ first (flat_map f (range_with_len a n))
   found_at a zero k gap low high before e is = absurd (omega (arith, low, high))
@@ -44,7 +44,7 @@ module _ (f : ℕ → List Gap) where
       (λ i. none a (omega arith) (omega arith) i ++ flat_map f (range_with_len (a + 1) n))
       ∙ none_at (a + 1) n (λ j l h. none j (omega (arith, l)) (omega (arith, h)))
 
-  -- what all places together tell of each
+  -- where all places together have no gap, none has one
   pub each_none : (a n : ℕ) → flat_map f (range_with_len a n) ≡ [] → (j : ℕ) → a ≤ j → j < a + n → f j ≡ []
   each_none a zero e j l h = absurd (omega (arith, l, h))
   each_none a (suc n) e j l h = elim (cases_eq j a) as (λ _. f j ≡ []) [
@@ -52,7 +52,7 @@ module _ (f : ℕ → List Gap) where
     | inr ne ↦ each_none (a + 1) n (no_parts (f a) (flat_map f (range_with_len (a + 1) n)) e).1 j (omega (arith, l, ne)) (omega (arith, h))
   ]
 
-  -- one place more has none
+  -- one more place has no gap
   pub one_more : (k : ℕ) (gap : Option Gap) → ((j : ℕ) → j < k → f j ≡ []) → gap ≡ first (f k) → is_some gap ≡ false → (j : ℕ) → j < k + 1 → f j ≡ []
   one_more k (Some gap) before e is j h = absurd (cc is)
   one_more k None before e is j h = elim (cases_eq j k) as (λ _. f j ≡ []) [
@@ -65,7 +65,7 @@ module _ (f : ℕ → List Gap) where
 abbrev pub gaps_at : ℕ → ℕ → List ℤ → List ℤ → ℕ → List Gap
 gaps_at pack size reached claimed k = word_gaps pack size k (get_or reached k (pos 0)) (get_or claimed k (pos 0))
 
--- words passed along
+-- a gap is the first of equal words too
 pub gap_along : (pack size k : ℕ) (gap : Option Gap) (x y reached claimed : ℤ) → gap ≡ first (word_gaps pack size k x y) → x ≡ reached → y ≡ claimed
     → gap ≡ first (word_gaps pack size k reached claimed)
 gap_along pack size k gap x y reached claimed e f g = e ∙ (λ i. first (word_gaps pack size k (f i) (g i)))

@@ -37,11 +37,11 @@ place_at c node = slice_index_or c.nodes (node - 1) NotReached
 
 -- ---- as they are meant
 
--- the numbers of both intervals
+-- the interval of the numbers that are in both intervals
 abbrev pub met : Interval → Interval → Interval
 met a b = interval (int_max a.low b.low) (int_min a.high b.high)
 
--- nothing where no number is left
+-- the interval, or nothing where it holds no number
 abbrev pub if_ordered : Interval → Option Known
 if_ordered i = if int_le i.low i.high then Some (Some i) else None
 

@@ -21,7 +21,7 @@ cell_gaps cell reached None = []
 cell_gaps cell None (Some claimed) = Class cell ∷ []
 cell_gaps cell (Some reached) (Some claimed) = end_gaps cell reached claimed
 
--- cell by cell, from this one on
+-- the gaps of each cell in turn, from this one on
 abbrev pub gaps_from : ℕ → List Known → List Known → List Gap
 gaps_from cell (r ∷ reached) (c ∷ claimed) = cell_gaps cell r c ++ gaps_from (suc cell) reached claimed
 gaps_from cell _ _ = []

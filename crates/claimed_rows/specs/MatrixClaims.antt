@@ -41,7 +41,7 @@ matrices_from pack (n ∷ ns) bounds = claimed_matrix bounds pack n ∷ matrices
 
 -- ---- rows
 
--- no values stand in these
+-- the least matrices, in which no values stand
 abbrev pub least_matrices : List ℕ → List (List ℤ)
 least_matrices sizes = map (λ n. matrix_of n (bottom_word n)) sizes
 

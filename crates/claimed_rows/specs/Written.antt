@@ -3,7 +3,7 @@ use Rattle.std.specs.Prelude.{◌≡◌, ◌≤◌, ℕ, ◌+◌, ◌-◌, ◌/�
 use Rattle.std.specs.List.{AllByRecursion}
 use Rattle.cert_text.specs.declared.cert.Bound.{Bound}
 
--- the word, but 0 on the diagonal
+-- the same word at each place, but 0 on the diagonal
 abbrev pub plain_word : ℤ → ℕ → ℕ → ℤ
 plain_word x size k = if nat_eq (k / (size + 1)) (k % (size + 1)) then pos 0 else x
 
@@ -13,7 +13,7 @@ pub record HasPlaces (size : ℕ) (b : Bound) : Type 0 where
   pub column : b.column ≤ size
   pub different : ¬ (b.row ≡ b.column)
 
--- a bound of this pack
+-- the bound is of this pack
 pub record IsBoundOf (pack size : ℕ) (b : Bound) : Type 0 where
   pub same : b.pack ≡ pack
   pub places : HasPlaces size b

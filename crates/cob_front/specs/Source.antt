@@ -78,7 +78,7 @@ abbrev pub Answers : {A : Type 0} → (A → Type 0) → (Refusal → Type 0) �
 Answers is_answer is_cause (Ok a) = is_answer a
 Answers is_answer is_cause (Err e) = is_cause e ⊎ (e ≡ end.Memory)
 
--- refused for this reason, or for want of memory
+-- the result is refused for this reason, or for want of memory
 abbrev pub IsRefused : {A : Type 0} → Result A Refusal → Refusal → Type 0
 IsRefused (Ok a) wanted = ⊥
 IsRefused (Err e) wanted = (e ≡ wanted) ⊎ (e ≡ end.Memory)

@@ -44,7 +44,7 @@ abbrev mutual
   bare_verb (read file into end not_end ended) = not ended && bare_phrase not_end (bare_phrase end false)
   bare_verb _ = false
 
--- what takes so, or OF behind a range alone
+-- the statement takes the token, or is a range alone and the token is OF
 abbrev pub or_of : Bool → Bool → Bool → Bool
 or_of qualifies bare takes = (qualifies && bare) || takes
 

@@ -15,7 +15,7 @@ use Rattle.cob_lexemes.specs.Classes.{by_symbol}
 abbrev pub ShapedTree : Tree → Type 0
 ShapedTree t = ShapedFront t.front × AllByRecursion ShapedStmts t.sentences × AllByRecursion ShapedParagraph t.paragraphs
 
--- one more than may be open
+-- one more than the levels that may be open
 abbrev pub top : ℕ
 top = 65
 

@@ -31,7 +31,7 @@ one_word k = of (the k)
 abbrev pub nots : List Cue
 nots = NotRelates ∷ NotTests ∷ NotSize ∷ NotAtEnd ∷ []
 
--- whether what takes so may go on with the token, where that is NOT
+-- whether what takes such cues may go on with the token, where that is NOT
 abbrev pub may_go : (Cue → Bool) → Sign → Bool
 may_go takes t = goes_on procedure nots takes t
 

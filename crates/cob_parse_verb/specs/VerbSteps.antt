@@ -88,7 +88,7 @@ plain_target (target.Giving o rs) = giving o rs.items
 
 -- ---- behind the name of PERFORM
 
--- a range
+-- the head of a PERFORM of a range
 abbrev pub make_ranged : List ℕ → Ranged → Head
 make_ranged text (inl x) = done (perform_range text (Some x.1.0) x.1.1)
 make_ranged text (inr l) = done (perform_range text None (Some l))

@@ -50,7 +50,7 @@ Computes (arith s targets remainder size fine) = Unit {0}
 Computes (perform body turns) = IsVarying turns
 Computes _ = ⊥
 
--- whether its size error is left to its phrase
+-- whether the statement's size error is left to its phrase
 abbrev pub HandlesSize : Bool → Act → Type 0
 HandlesSize handles (arith s targets remainder size fine) = is_given size ≡ handles
 HandlesSize handles _ = handles ≡ false

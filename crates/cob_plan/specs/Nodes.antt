@@ -66,7 +66,7 @@ pub record IsLaidOut (g : Graph) (ns : List Noded) : Type 0 where
   pub edges : g.edges ≡ edges_of 1 ns
   pub each : (i : ℕ) (x : Noded) → slice_get ns i ≡ Some x → AreOfOne x.out
 
--- a plan's node is this one
+-- a plan's node is this node of the graph
 pub record IsNoded (x : Noded) (s : PlanNode) : Type 0 where
   pub statement : s.statement ≡ x.statement
   pub starts : s.starts ≡ x.starts

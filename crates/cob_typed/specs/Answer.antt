@@ -19,7 +19,7 @@ IsAnswer l t (Ok p) = IsTyped l t × (plain_program p ≡ typed l t)
 IsAnswer l t (Err (typed_end.Outside rule line)) = IsOutside l t rule line
 IsAnswer l t (Err typed_end.Memory) = Unit {0}
 
--- refused for this reason, or for want of memory
+-- the result is refused for this reason, or for want of memory
 abbrev pub IsRefused : Result declared_program.Program TypedEnd → Rule → ℕ → Type 0
 IsRefused (Ok p) rule line = ⊥
 IsRefused (Err end) rule line = (end ≡ typed_end.Outside rule line) ⊎ (end ≡ typed_end.Memory)

@@ -28,7 +28,7 @@ tree_list v = tree.stmts_of (map tree_view.plain_stmt v.items)
 abbrev pub tree_phrase : Option (Vec tree_stmt.Stmt Global) → tree.Phrase
 tree_phrase o = tree.phrase_of (option_map tree_list o)
 
--- what was found on its lines, behind what was found before
+-- the rules that were broken on their lines, behind what was found before
 abbrev pub found_behind : List Finding → List (Rule × ℕ) → List Finding
 found_behind findings [] = findings
 found_behind findings (x ∷ xs) = found_behind (findings ++ finding x.0 x.1 ∷ []) xs

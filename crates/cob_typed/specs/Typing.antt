@@ -80,6 +80,6 @@ typing_rules = Q1 ∷ Q2 ∷ Q3 ∷ Q4 ∷ Q5 ∷ Q6 ∷ Q7 ∷ Q8 ∷ Q9 ∷ Q1
 abbrev pub IsTyped : Layout → tree.Tree → Type 0
 IsTyped l t = AreKept (lines_of l t) typing_rules
 
--- the first one that is broken, with its first line
+-- the first rule on statements that is broken, with its first line
 abbrev pub IsOutside : Layout → tree.Tree → Rule → ℕ → Type 0
 IsOutside l t rule line = IsFirstBroken (lines_of l t) typing_rules rule line

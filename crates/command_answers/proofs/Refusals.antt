@@ -49,13 +49,13 @@ module _ (source bytes : List ℕ) where
       refused_known known (plain_answer answer) cause held (subst (λ (bs : List ℕ). IsProfileCause bs cause) same is)
       (answered cause (plain_answer answer) (sym e))
 
--- the answer to it isn't that of words
+-- the answer to a cause isn't that of words
 pub no_usage : (result : Result code.Answer Stop) (cause : Refusal) → plain_result result ≡ answer_to cause
     → IfOk result (λ answer. is_usage (plain_answer answer) ≡ false)
 no_usage (Err stop) cause e = tt
 no_usage (Ok answer) cause e = sym (ap is_usage (answered cause (plain_answer answer) (sym e)))
 
--- the answer to it isn't a fault of the outside
+-- the answer to a cause isn't a fault of the outside
 pub no_fault : (result : Result code.Answer Stop) (cause : Refusal) → plain_result result ≡ answer_to cause
     → stopped_by_fault result ≡ false
 no_fault (Ok answer) cause e = refl

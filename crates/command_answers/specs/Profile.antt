@@ -19,7 +19,7 @@ pub record IsOfProfile (bytes : List ℕ) : Type 0 where
   pub graph : Graph
   pub is_program : IsProgramOf bytes program graph
 
--- why the bytes aren't: they are no source of a program, or this program has no graph within the limits
+-- why bytes aren't of the profile: they are no source of a program, or this program has no graph within the limits
 abbrev pub IsProfileCause : List ℕ → Refusal → Type 0
 IsProfileCause bytes cause =
     IsCause bytes cause ⊎ ((program : Program) × IsSource bytes program × IsControlCause program cause)

@@ -42,7 +42,7 @@ IsLaid bytes laid = IsProgramOf bytes (plain_program laid.program) laid.graph
 abbrev pub IsOfSource : Laid → Type 0
 IsOfSource laid = (bytes : List ℕ) × IsLaid bytes laid
 
--- the source's file holds them
+-- the source's file holds bytes of what was laid
 pub record HoldsLaid (known : Option Contents) (name : List ℕ) (laid : Laid) : Type 0 where
   pub bytes : List ℕ
   pub held : IfSome known (λ contents. get contents name ≡ Some bytes)

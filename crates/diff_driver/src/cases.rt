@@ -64,7 +64,7 @@ fn answer_by_layer(
     }
 }
 
-// Beside what is known of the cells, the same at each node.
+// Answers a case beside what is known of the cells, the same at each node.
 fn answer_beside(
     alloc: Global,
     program: &Program,

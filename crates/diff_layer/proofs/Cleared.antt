@@ -455,7 +455,7 @@ module _ (p : Program) (packs : List Pack) (a : Act) (x : Action) (s : Seen) (wr
   part_cleared_is (count_down n) kind.Truncation small of_edge can e = absurd cc
   part_cleared_is (guard_count n wanted) fault small of_edge can e = absurd cc
 
-  -- what the first layer clears both do
+  -- both layers clear what the first layer clears
   pub cleared_too : (y : Part) (fault : Kind) → clears_part p a x y s fault ≡ true → clears_part2 p packs a x y s (seen2 wrote ms) fault ≡ true
   cleared_too (read place) kind.Class e = e
   cleared_too (read place) kind.Size e = refl

@@ -15,7 +15,7 @@ use Rattle.diff_layer.specs.declared.plans.PackPlan.{PackPlan}
 use Rattle.diff_layer.specs.Closed.{IsClosedBy, AreClosedBy, IsClosedRow}
 use Rattle.diff_layer.specs.Plans.{plain_plan, plain_plans, matrices_for, IsRowFor}
 
--- the first and those behind it
+-- a list that isn't empty is its first element and those behind it
 pub split_is : {X : Type 0} (xs : List X) (d : X) → 1 ≤ length xs → xs ≡ get_or xs 0 d ∷ take (length xs - 1) (drop 1 xs)
 split_is [] d some = absurd (omega (arith, some))
 split_is (x ∷ xs) d some = ap (λ ys. x ∷ ys) (sym (take_all (length (x ∷ xs) - 1) xs (omega arith)))

@@ -59,7 +59,7 @@ bytes_at p y x k = option_map_or (part_bytes p.layout) (slice_get (edge_parts p 
 -- ---- the edge
 
 module _ (p : Program) (packs : List Pack) (y : Stmt) (x : Action) where
-  -- nothing where no run comes
+  -- the matrices behind the edge; nothing where no run comes there
   abbrev pub statement_walked : List Known → List (List ℤ) → Option (List (List ℤ))
   statement_walked cells ms =
       all_closed p cells packs ms >>= λ cs.

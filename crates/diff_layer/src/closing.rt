@@ -94,7 +94,8 @@ fn close(program: &Program, cells: &[Cell], plan: &PackPlan, row: &[i128], m: &m
     pack_forms::close_pack(size, m, known)
 }
 
-/// Does it with what a part has made of a matrix that was closed by what was known of cells before it.
+/// Lowers a matrix to what is known of its cells and closes it, where a part has made it of one that was closed by what
+/// was known of cells before the part.
 pub(crate) fn close_again(
     program: &Program,
     cells: &[Cell],

@@ -54,7 +54,7 @@ pub(crate) fn set_count(
     set_cell(pack, m, statement, form);
 }
 
-/// Makes of it what a counter that goes down by one makes of it.
+/// Makes of a pack's matrix what a counter that goes down by one makes of it.
 pub(crate) fn count_down(items: &KnownItems, pack: &PackView, m: &mut [i128], statement: u32)
     requires m { IsMatrix (length pack.now.cells.now) m.old }
     requires unit { HasUnit (program_of items.now).layout pack.now }

@@ -203,7 +203,7 @@ pub(crate) fn high_end_fits(mode: Mode, receiver: Receiver, range: Ranged) -> bo
     is_at_most(mode, receiver, range.units.high, range.scale)
 }
 
-/// Whether its low end does.
+/// Whether the low end of a range fits a receiver.
 pub(crate) fn low_end_fits(mode: Mode, receiver: Receiver, range: Ranged) -> bool
     requires receiver { IsReceiver receiver }
     requires range { IsSmallRange range }

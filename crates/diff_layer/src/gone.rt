@@ -20,7 +20,7 @@ pub(crate) enum Gone {
     Others(u32),
     /// An item, and what has bytes of it.
     Lost(u32),
-    /// What has bytes from an offset on, so many.
+    /// What has some of so many bytes, from an offset on.
     Bytes { offset: u32, count: u32 },
 }
 

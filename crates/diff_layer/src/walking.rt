@@ -37,7 +37,7 @@ fn writes(program: &Program, statement: &Stmt, action: Action, part: EdgePart) -
     writes_operands(program, &statement.act, action, part)
 }
 
-// whether it, or an earlier part, does
+// whether this part or an earlier one writes to bytes of the items of the operands
 fn written_behind(
     program: &Program,
     statement: &Stmt,

@@ -31,7 +31,7 @@ module _ {A : Type 0} (same : A → A → Bool) (n : ℕ) where
   stays_full true b ys x e = refl
   stays_full false b ys x e = ap (λ t. if t then ys else ys ++ x ∷ []) e
 
-  -- one with room takes it as the whole list does
+  -- a list with room takes an element as the whole list does
   fits : (h : Bool) (zs : List A) (x : A) → length zs < n → take n (if h then zs else zs ++ x ∷ []) ≡ (if h then zs else zs ++ x ∷ [])
   fits true zs x l = whole_take zs n (omega (arith, l))
   fits false zs x l =
@@ -60,7 +60,7 @@ module _ {A : Type 0} (same : A → A → Bool) (n : ℕ) where
       noting (added same zs x) xs
       ∙ ap (λ ys. fold (noted same n) ys xs) (by_room (nat_le n (length zs)) zs x refl)
 
-  -- each once, the first so many: what a loop notes
+  -- a loop notes the first so many elements, each once
   pub first_noted : (xs : List A) → first_distinct same n xs ≡ fold (noted same n) (take n []) xs
   first_noted xs = noting [] xs
 

@@ -86,7 +86,7 @@ in_kept (x ∷ xs) (y ∷ ys) (text ∷ texts) para (h, k) e =
     (λ (b : is_performed_in xs texts para ≡ true). right_or (performs para y text) (is_performed_in ys texts para) (in_kept xs ys texts para k b))
     (one_of (performs para x text) (is_performed_in xs texts para) e)
 
--- one of them does
+-- one of the marked paragraphs performs this one
 record Performs (marks : List Bool) (texts : List (List Mention)) (para : ℕ) : Type 0 where
   over : ℕ
   within : over < length texts

@@ -57,7 +57,7 @@ numeric_cell p (mention.Range first last) = None
 abbrev pub most_cells : ℕ
 most_cells = 8
 
--- the first of them that are mentioned
+-- the first numeric cells that are mentioned
 abbrev pub first_cells : Program → List Mention → List ℕ
 first_cells p xs = first_distinct (λ a b. a == b) most_cells (filter_map (numeric_cell p) xs)
 

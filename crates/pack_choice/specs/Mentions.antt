@@ -138,7 +138,7 @@ own_mentions (if_ t held other) = logic_mentions t
 own_mentions (perform body turns) = turns_mentions turns
 own_mentions _ = []
 
--- what its lists do
+-- what the lists of a statement mention
 abbrev pub inner_mentions : Act → List Mention
 inner_mentions (arith s targets remainder size fine) = phrase_mentions size ++ stmts_mentions fine
 inner_mentions (if_ t held other) = stmts_mentions held ++ stmts_mentions other

@@ -22,7 +22,7 @@ cell_units cells decimals number = pos (10 ^ (decimals - scale_at cells number))
 
 -- ---- thresholds
 
--- a cell's own ones
+-- the thresholds of a cell, in its own unit
 abbrev pub own_thresholds : List (List ℤ) → ℕ → List ℤ
 own_thresholds lists number = slice_index_or lists (number - 1) []
 

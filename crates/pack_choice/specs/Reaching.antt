@@ -14,7 +14,7 @@ abbrev pub is_performed : ℕ → List Mention → Bool
 is_performed para [] = false
 is_performed para (x ∷ xs) = is_in_mention para x || is_performed para xs
 
--- whether a paragraph performs it, if that is marked
+-- whether a paragraph with such a mark is marked, and performs this one
 abbrev pub performs : ℕ → Bool → List Mention → Bool
 performs para mark text = mark && is_performed para text
 
@@ -52,7 +52,7 @@ pub data IsReached (texts : List (List Mention)) (own : List Mention) : ℕ → 
   directly : {para : ℕ} → is_performed para own ≡ true → IsReached texts own para
   onward : {para : ℕ} (over : ℕ) → IsReached texts own over → is_performed para (slice_index_or texts over []) ≡ true → IsReached texts own para
 
--- just these are marked
+-- just the paragraphs that are reached are marked
 pub record AreMarksOfReached (texts : List (List Mention)) (own : List Mention) (marks : List Bool) : Type 0 where
   pub wide : length marks ≡ length texts
   pub marked : (para : ℕ) → para < length texts → slice_index_or marks para false ≡ true → IsReached texts own para

@@ -10,7 +10,7 @@ use Rattle.sum_forms.specs.SumForms.{turned_form, sum_form}
 use Rattle.diff_steps.specs.Forms.{added_forms, turned_if}
 use Rattle.diff_steps.specs.Guards.{difference_form}
 
--- the second one turned, and then added
+-- the second form is turned first, and then added
 turned_first : (x y : Option Lin) → added_forms x (turned_if true y) ≡ (x >>= λ a. y >>= λ b. turned_form true b >>= λ c. if_small (sum_of a c))
 turned_first None y = refl
 turned_first (Some a) None = refl

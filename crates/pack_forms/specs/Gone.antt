@@ -5,7 +5,7 @@ use Rattle.diff_steps.specs.Matrices.{forgotten}
 abbrev pub forgotten_if : ℕ → ℕ → Bool → List ℤ → List ℤ
 forgotten_if size at gone m = if gone then forgotten size at m else m
 
--- places from `at` on
+-- the matrix without what it says of the marked cells, whose places are counted from `at` on
 abbrev pub forgotten_marked : ℕ → ℕ → List Bool → List ℤ → List ℤ
 forgotten_marked size at [] m = m
 forgotten_marked size at (gone ∷ marks) m = forgotten_marked size (suc at) marks (forgotten_if size at gone m)

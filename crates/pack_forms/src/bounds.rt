@@ -30,7 +30,8 @@ pub fn bound(size: usize, m: &[i128], form: &Lin) -> Option<i128>
     if word < NONE { Some(word) } else { None }
 }
 
-/// The least bound that it shows of the negated form.
+/// The least bound that the matrix shows of the negated form, if it shows one: a number of at most 10^37 in absolute
+/// value.
 pub fn bound_of_negated(size: usize, m: &[i128], form: &Lin) -> Option<i128>
     requires size { size ≤ 8 }
     requires m { IsMatrix size m.now }

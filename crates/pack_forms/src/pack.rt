@@ -16,7 +16,7 @@ pub struct PackView<'a> {
     pub ghost small: { decimals ≤ 37 },
 }
 
-// the place from 0 on of the first cell that is of the same
+// the place from 0 on of the first cell that is of the same item or counter
 fn place_of(cells: &[PackCell], sought: PackCell) -> Option<usize>
     ensures value { result ≡ cell_of (plain_cells cells.now) (plain_cell sought) }
     ensures within { IfSome result (λ k. k < length cells.now) }
@@ -29,7 +29,7 @@ fn place_of(cells: &[PackCell], sought: PackCell) -> Option<usize>
     None
 }
 
-/// The cell of the pack that is of the same, cells counted from 0.
+/// The place of the pack's cell that is of the same item or counter, cells counted from 0.
 pub fn cell_in(pack: &PackView, sought: PackCell) -> Option<usize>
     ensures value { result ≡ cell_of (plain_cells pack.now.cells.now) (plain_cell sought) }
     ensures within { IfSome result (λ k. k < length pack.now.cells.now) }

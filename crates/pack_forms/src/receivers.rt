@@ -93,7 +93,8 @@ pub fn shows_high(
     fits(mode, receiver, decimals, bound_if(size, m, form))
 }
 
-/// Whether the matrix shows that it isn't below the least number.
+/// Whether the matrix shows that an amount of a form isn't below the least number of a receiver, once it is cut or
+/// rounded. The pack's unit has so many decimals.
 pub fn shows_low(
     size: usize,
     m: &[i128],

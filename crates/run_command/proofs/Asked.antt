@@ -90,7 +90,7 @@ module _ (r : Run) where
           let same : h.0 ≡ k.0 = same_Some h.0 k.0 (sym h.1 ∙ k.1) in
           ap Some (one_coming k.0 x y (subst (λ (bytes : List ℕ). ComesTo bytes x) same h.2) k.2)
 
-      -- the answer to it, where it isn't a task
+      -- the answer to what bytes come to, where it isn't a task
       abbrev answered : Option Coming → Option Answer
       answered None = Some (Absent r.source)
       answered (Some (refused cause)) = Some (Refused cause)

@@ -26,7 +26,7 @@ pub record IsTask (bytes : List ℕ) (r : Run) (t : code_task.Task) : Type 0 whe
   pub makes : Makes bytes r (plain_task t)
   pub ready : IsReady t
 
--- why the bytes make none, or want of memory
+-- why the bytes make no task, or want of memory
 abbrev pub IsNoTask : List ℕ → List (List ℕ) → Result Answer Stop → Type 0
 IsNoTask bytes names (Ok (Refused cause)) = IsProfileCause bytes cause
 IsNoTask bytes names (Ok (Usage word)) = BlamesWord bytes names word
