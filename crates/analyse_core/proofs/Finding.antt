@@ -28,7 +28,7 @@ use Rattle.pack_laws.proofs.Flow.{posts_fall}
 use Rattle.pack_choice.specs.Choice.{packs_of}
 use Rattle.claimed_rows.proofs.Fitting.{bounds_are_fit}
 use Rattle.cert_check.specs.OpenPairs.{all_kinds, if_open, is_cleared_by, node_clears_by, open_at}
-use Rattle.cert_check.specs.Claims.{bounds_at, cell_leaks, cells_clear, claims_at, claims_clear, clears_with, is_cleared, leaks, open_of, open_pairs, opens_of, pack_leaks, row_at}
+use Rattle.cert_check.specs.Claims.{bounds_at, cells_clear, claims_at, claims_clear, clears_with, is_cleared, open_of, open_pairs, opens_of, pack_leaks, row_at}
 use Rattle.cert_check.specs.Checking.{Accepts}
 use Rattle.cert_check.proofs.Accepting.{claimed, claimed_back}
 use Rattle.cert_check.proofs.BoundsKept as kept
@@ -36,7 +36,7 @@ use Rattle.cert_check.proofs.LayerLaws.{LayerLaws, layer_laws}
 use Rattle.cert_check.proofs.Leaking.{kept_where_no_leaks}
 use Rattle.analyse_core.specs.Thresholds.{thresholds_of}
 use Rattle.analyse_core.specs.Packs.{ArePacksReady, packs_for, pack_lists, pack_lattice, pack_flow}
-use Rattle.analyse_core.specs.Assignments.{both_clear, is_cleared_by_both, is_cleared_in, IsListedElement, IsPackAssignment, IsThresholdAssignment, MissesNothing, MissesNothingTogether, written_at}
+use Rattle.analyse_core.specs.Assignments.{both_clear, IsListedElement, IsPackAssignment, IsThresholdAssignment, MissesNothing, MissesNothingTogether, written_at}
 use Rattle.analyse_core.specs.Found.{AreFoundBounds, AreFoundCells, IsFound}
 use Rattle.analyse_core.proofs.Allowing.{places_allowed}
 use Rattle.analyse_core.proofs.Fixed.{claimed_listed}

@@ -11,7 +11,7 @@ use Rattle.dom_laws.specs.Flow.{Flow, IsHead, HeadsAreFixed}
 use Rattle.diff_bounds.specs.Matrix.{none, IsMatrix}
 use Rattle.diff_bounds.specs.Order.{IsAtMost}
 use Rattle.diff_bounds.specs.Widening.{AreThresholds}
-use Rattle.diff_bounds.specs.Lattice.{next_threshold, widened_word, widened, matrices}
+use Rattle.diff_bounds.specs.Lattice.{next_threshold, widened_word, widened}
 use Rattle.diff_bounds.proofs.WordByWord.{next_of_all}
 use Rattle.pack_rows.specs.Rows.{words_of, matrices_in, matrices_beside, is_least, packs_lattice}
 use Rattle.pack_rows.proofs.Rows.{packs_are_a_lattice}

@@ -9,7 +9,6 @@ use Rattle.cob_graph.specs.Graphs.{cells_of}
 use Rattle.graph_runs.specs.Sources.{IsSourceGraph}
 use Rattle.dom_laws.specs.Lattice.{Lattice}
 use Rattle.dom_laws.specs.Flow.{Flow, IsNode, IsInductive}
-use Rattle.cell_rows.specs.Elements.{Element}
 use Rattle.cell_rows.specs.Rows.{cells_lattice, element_of}
 use Rattle.cell_steps.specs.Homes.{owns}
 use Rattle.cell_laws.specs.Layer.{cell_flow}

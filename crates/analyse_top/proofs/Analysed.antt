@@ -22,7 +22,7 @@ use Rattle.alarm_report.specs.Alarms.{alarms_of}
 use Rattle.command_words.specs.Commands.{Command, IsCommand, OneReading, analyse, trial}
 use Rattle.analyse_command.specs.Shared.Text.{memory_line, write_fault_line}
 use Rattle.analyse_command.specs.Shared.Profile.{IsProgramOf}
-use Rattle.analyse_command.specs.Shared.Answer.{Answer, Report, CertificateLong, HoldsProgram, answer_text, status_of}
+use Rattle.analyse_command.specs.Shared.Answer.{Answer, Report, CertificateLong, answer_text, status_of}
 use Rattle.analyse_command.specs.Shared.Showing.{Gains, ShowsRefusal}
 use Rattle.analyse_command.specs.Shared.Call.{Call}
 use Rattle.analyse_command.proofs.Shared.Statuses.{above_one, low_status, never_low}

@@ -9,11 +9,10 @@ use Rattle.cob_tree.specs.declared.fault.Open.{Open}
 use Rattle.cob_program.specs.Act.{Program}
 use Rattle.cob_graph.specs.declared.graph.Graph.{Graph}
 use Rattle.decimal_interval.specs.declared.bounds.Interval.{Interval}
-use Rattle.dom_laws.specs.Lattice.{Lattice, IsElement}
+use Rattle.dom_laws.specs.Lattice.{IsElement}
 use Rattle.dom_laws.specs.Flow.{Flow, IsInductive}
-use Rattle.dom_laws.specs.Meaning.{Meaning}
 use Rattle.inductive_pass.specs.Leaks.{HasElements, IsFirstLeak}
-use Rattle.cell_steps.specs.Homes.{homes_of, owns}
+use Rattle.cell_steps.specs.Homes.{homes_of}
 use Rattle.cert_text.specs.View.{Certificate}
 use Rattle.claimed_rows.specs.declared.gap.Gap.{Gap}
 use Rattle.claimed_rows.specs.Claims.{claimed_row, place_at}
@@ -31,7 +30,7 @@ use Rattle.cert_check.specs.declared.ends.CheckEnd.TheVariants as check
 use Rattle.cert_check.specs.declared.ends.Leak.{Leak}
 use Rattle.cert_check.specs.Along.{arrives, led_to}
 use Rattle.cert_check.specs.OpenPairs.{pairs_by}
-use Rattle.cert_check.specs.Claims.{cell_leaks, pack_leaks, row_at, packs_at, pack_sizes, bounds_row, pack_gaps, claims_clear}
+use Rattle.cert_check.specs.Claims.{cell_leaks, pack_leaks, row_at, packs_at, bounds_row, pack_gaps, claims_clear}
 use Rattle.cert_check.specs.Clearing.{TestsTell}
 use Rattle.cert_check.specs.Given.{IsGiven, BoundsAreKept, BoundsLeakFirst}
 use Rattle.cert_check.specs.Checking.{HasShape, Accepts, Refuses}

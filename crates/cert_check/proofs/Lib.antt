@@ -12,4 +12,3 @@ pub mod Answering
 pub mod Asking
 pub mod Noting
 pub mod Sources
-pub mod Pairs

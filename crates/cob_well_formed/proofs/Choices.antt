@@ -4,7 +4,7 @@ use Rattle.std.specs.List.{AllByRecursion}
 use Rattle.cob_tree.specs.declared.operand.Opnd.{Opnd}
 use Rattle.cob_tree.specs.declared.operand.Opnd.TheVariants as opnd
 use Rattle.cob_tree.specs.Items.{each, key}
-use Rattle.cob_tree.specs.Expr.{Expr, MkExpr, Terms, no_terms, more_terms, Term, MkTerm, Facts, no_facts, more_facts, Fact, MkFact, Primary}
+use Rattle.cob_tree.specs.Expr.{Expr, MkExpr, Term, MkTerm, Fact, MkFact, Primary}
 use Rattle.cob_tree.specs.Expr as expr
 use Rattle.cob_tree.specs.Cond.{Cond, MkCond, no_conjs, MkConj, no_negs, MkNeg}
 use Rattle.cob_tree.specs.Cond as cond_

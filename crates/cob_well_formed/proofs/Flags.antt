@@ -23,7 +23,7 @@ use Rattle.cob_data.specs.declared.description.Spot.{Spot}
 use Rattle.cob_data.specs.declared.end.Rule.TheVariants.{L1, L7}
 use Rattle.cob_data.specs.Entries.{Placed, span_of, sender_of, sender_if, only_values, condition, conditions, is_condition, owner_in}
 use Rattle.cob_data.specs.Values.{has_category, at_most}
-use Rattle.cob_data.specs.ItemRules.{elementary_form, is_range_of, is_span_of, are_values_of, is_condition_of, breaks_conditions}
+use Rattle.cob_data.specs.ItemRules.{elementary_form, is_range_of, is_span_of, are_values_of, is_condition_of}
 use Rattle.cob_data.specs.ItemRules as rules
 use Rattle.cob_data.specs.Rules.{Facts, condition_breaks, condition_lines}
 use Rattle.cob_data.specs.Layouts.{laid_items, pair_of, flag_of, layout_in}

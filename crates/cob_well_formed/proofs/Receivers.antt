@@ -23,7 +23,7 @@ use Rattle.cob_runs.specs.Moves.{takes_number}
 use Rattle.cob_runs.specs.Computing.{items_in, items_in_parts, items_in_atom}
 use Rattle.cob_calc.specs.Contents.{bound_at}
 use Rattle.cob_calc.specs.Arithmetic as calc
-use Rattle.cob_calc.specs.Arithmetic.{take_numbers, is_small_rest_at, is_small_rest, are_small_rests, is_sound_remainder, CanCompute}
+use Rattle.cob_calc.specs.Arithmetic.{take_numbers, is_small_rest_at, is_small_rest, are_small_rests, CanCompute}
 use Rattle.cob_typed_exprs.specs.Sizes as sizes
 use Rattle.cob_typed_exprs.specs.Judged.{each_of, if_there}
 use Rattle.cob_typed_exprs.specs.Scope.{Scope, the_item}
@@ -31,7 +31,7 @@ use Rattle.cob_typed_exprs.specs.Scope as scope
 use Rattle.cob_typed_exprs.specs.Kinds as kinds
 use Rattle.cob_typed_exprs.specs.Sums.{numeric_operand, whole_sum}
 use Rattle.cob_typed_verbs.specs.Arithmetic as typed
-use Rattle.cob_typed_verbs.specs.Arithmetic.{Worked, parts_with, sum_with, part_if, one_by_other, may_receive, target, worked, one_receiver, with_remainder, divided, add_to, add_giving, subtract_from, subtract_giving, multiply_by, multiply_giving, divide_into, divide_giving, compute}
+use Rattle.cob_typed_verbs.specs.Arithmetic.{Worked, parts_with, sum_with, part_if, one_by_other, may_receive, target, worked, one_receiver, divided, add_to, add_giving, subtract_from, subtract_giving, multiply_by, multiply_giving, divide_into, divide_giving, compute}
 use Rattle.cob_well_formed.proofs.Keeping.{IsKept, met}
 use Rattle.cob_well_formed.proofs.Amounts.{same_form, AreNumbers, are_all, both_numbers, operand_numbers, whole_numbers}
 

@@ -4,4 +4,3 @@ pub mod Limits
 pub mod Sources
 pub mod Statuses
 pub mod Refusals
-pub mod Checker

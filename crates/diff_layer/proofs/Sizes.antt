@@ -6,7 +6,7 @@ use Rattle.dom_laws.specs.Lattice.{IsElement}
 use Rattle.diff_steps.specs.Packs.{Pack, size_of}
 use Rattle.pack_rows.specs.Rows.{matrices_beside, packs_lattice}
 use Rattle.pack_laws.specs.Layer.{sizes_of, diff_lattice}
-use Rattle.diff_layer.proofs.Rows.{small_sizes, width_is}
+use Rattle.diff_layer.proofs.Rows.{small_sizes}
 
 module _ (sizes : List ℕ) (packs : List Pack) (same : sizes ≡ sizes_of packs) where
   pub small_in : AllByRecursion (λ pack. size_of pack ≤ 8) packs → AllByRecursion (λ n. n ≤ 8) sizes

@@ -28,7 +28,6 @@ use cell_walk::{Kept, KnownItems};
 use cob_program::Program;
 use cob_runs::Cell;
 use dec_num::{Fit, Mode, Scaled, fit};
-use decimal_interval::Interval;
 use linear_form::Lin;
 use pack_forms::{PackView, amount_form, lowered_form, set_form, shows_high, shows_low};
 use result_ranges::Receiver;

@@ -2,7 +2,7 @@
 use crate::part_text::write_part;
 use borrowed_parts::{part_at, part_count};
 use cob_data::Item;
-use cob_graph::{Edge, Graph, Node};
+use cob_graph::{Edge, Graph};
 use cob_program::{Act, Program, Stmt};
 use cob_runs::Cell;
 use cob_tree::Form;
