@@ -65,7 +65,8 @@ fn found_counted<L: Ledger>(alloc: Global, laid: &Laid, blank: Blank) -> Result<
     texts_of(alloc, laid, &cert)
 }
 
-/// The certificate and the report for a source that was read.
+/// What is found for a source that was read: the text of a certificate that holds, and the report of what it leaves
+/// open. An error where memory ran out.
 pub fn found_for(alloc: Global, laid: &Laid) -> Result<Findings, Stop>
     requires { IsOfSource laid.now }
     ensures { MatchResult result (IsFindingFor laid.now) (λ stop. stop ≡ Stop.Memory) }

@@ -24,7 +24,7 @@ use std::alloc::{AllocError, Global};
 use std::sync::ledger::Ledger;
 use widen_solver::{Store, solve};
 
-/// The rows of matrices for no packs.
+/// The rows of matrices where there are no packs: a row without words for each of so many nodes.
 #[derive(Drop)]
 pub struct NoBounds {
     pub nodes: u32,
@@ -41,7 +41,9 @@ impl Rows for NoBounds {
     }
 }
 
-/// The rows of the first layer, solved.
+/// Solves the first layer: a row for each node, with 1 or 0 for whether it is reached and two words for each cell, that
+/// all edges keep, and below all such rows that widening leaves at the heads (Cousot and Cousot 1977). `steps` counts
+/// the transfers. An error where memory ran out.
 pub fn solve_cells<L: Ledger>(
     alloc: Global,
     layer: &CellLayer,
@@ -83,7 +85,9 @@ fn solve_bounds<R: Rows, L: Ledger>(
     Ok(bounds)
 }
 
-/// The rows of the second layer beside those of the first one, solved.
+/// Solves the second layer beside the first one's rows: a row for each node, with a matrix of differences for each
+/// pack, one behind the other (Miné 2001), that all edges keep, and below all such rows that widening leaves at the
+/// heads. `steps` counts the transfers. An error where memory ran out.
 pub fn solve_packs<L: Ledger>(
     alloc: Global,
     program: &Program,

@@ -195,7 +195,10 @@ fn check_all(
     }
 }
 
-/// Checks a certificate for a program and its graph, and lists what it leaves open.
+/// Checks a certificate for a program and its graph: the statements with kinds of fault that it leaves open, by
+/// statement and then by kind, among which is each fault that any run meets (Cousot and Cousot 1977). Else the count
+/// that differs, cells before nodes, or the first edge with a gap and the first gap there, all edges of layer 1 (cells)
+/// before those of layer 2 (packs); or want of memory.
 pub fn check(
     alloc: Global,
     program: &Program,

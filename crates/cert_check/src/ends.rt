@@ -6,7 +6,7 @@ use claimed_rows::Gap;
 use std::alloc::{AllocError, AllocFailed};
 use thiserror::Error;
 
-/// What of a certificate's shape differs from the program's.
+/// Which count of a certificate differs: that of its cells from the program's, or that of its nodes from the graph's.
 #[derive(Clone, Copy, Debug, PartialEq, Eq)]
 pub enum Shape {
     Cells,
@@ -14,7 +14,7 @@ pub enum Shape {
 }
 
 /// An edge, and a place at which what it reaches doesn't lie in its target's claims: of cells in layer 1, of packs in
-/// layer 2.
+/// layer 2. Edge 0 is the entry.
 #[derive(Clone, Copy, Debug, PartialEq, Eq)]
 pub struct Leak {
     pub layer: u8,

@@ -20,7 +20,8 @@ use std::alloc::Global;
 /// The most bytes of a certificate.
 pub const CERTIFICATE_LIMIT: usize = 67_108_864;
 
-/// Answers `check SOURCE CERT`.
+/// Answers `check SOURCE CERT`: for the source's file, then for the certificate's, which is read where the source is of
+/// the profile, and then for both together. An error where a file couldn't be read, or memory ran out.
 pub fn check<'a, F: Files>(
     alloc: Global,
     source: &'a str,
@@ -74,7 +75,8 @@ fn check_bytes<'a>(alloc: Global, laid: &Laid, bytes: &[u8]) -> Result<Answer<'a
     }
 }
 
-/// Answers for a certificate.
+/// Answers for a certificate of a source that was read: the report of the pairs that it leaves open, or the count that
+/// differs, or the first edge at which it isn't inductive. An error where memory ran out.
 pub fn check_certificate<'a>(alloc: Global, laid: &Laid, cert: &Cert) -> Result<Answer<'a>, Stop>
     requires source { IsOfSource laid.now }
     requires allowed { IsAllowed (view cert.now) }

@@ -1,7 +1,8 @@
 //! Gaps between what is reached and what is claimed.
 
-/// The place at which what is reached doesn't lie in what is claimed. Cells, packs, rows and columns go by their
-/// numbers in the certificate.
+/// The place at which what is reached doesn't lie in what is claimed. Cells and packs go by their numbers in the
+/// certificate from 1, rows and columns by their places in the pack's matrix, of which 0 is the number zero. Ends are
+/// in the cell's own units, differences in those of the pack's finest cell.
 #[derive(Clone, Copy, Debug, PartialEq, Eq)]
 pub enum Gap {
     /// The node is claimed never to be reached.

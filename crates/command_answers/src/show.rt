@@ -34,7 +34,8 @@ pub fn show_found<O: Sink>(alloc: Global, found: Result<Answer, Stop>, out: &mut
     }
 }
 
-/// Shows a text. Gives the first status, or the other where a write of the text failed.
+/// Shows a text. Gives the first status where it was shown whole, the other where a write of it failed, and
+/// `OUT_OF_MEMORY` where memory ran out.
 pub fn show_text<O: Sink>(out: &mut O, text: &[u8], whole: u8, failed: u8) -> u8
     ensures { ShowsIfMemory (O.state out.old) (O.state out.new) text.now whole failed result }
 {

@@ -34,7 +34,8 @@ fn with_graph(alloc: Global, bytes: &[u8], program: Program) -> Result<Laid, Ref
     }
 }
 
-/// The program of a source of the profile, with its graph.
+/// The program of a source of the profile, with its graph. Else the first cause why these bytes aren't such a source,
+/// or want of memory.
 pub fn laid_in(alloc: Global, bytes: &[u8]) -> Result<Laid, Refusal>
     ensures { Answers (IsLaid bytes.now) (IsProfileCause bytes.now) result }
 {
@@ -44,7 +45,7 @@ pub fn laid_in(alloc: Global, bytes: &[u8]) -> Result<Laid, Refusal>
     }
 }
 
-/// The answer to a source that isn't read.
+/// The answer to a source that is refused for this cause, or an error where the cause is want of memory.
 pub fn answer_to<'a>(cause: Refusal) -> Result<Answer<'a>, Stop>
     ensures { plain_result result ≡ answer_to cause }
 {
@@ -54,7 +55,8 @@ pub fn answer_to<'a>(cause: Refusal) -> Result<Answer<'a>, Stop>
     }
 }
 
-/// Reads the source of this name. Or else the answer to it, or why there is none.
+/// Reads the source of this name, of at most 1,048,576 bytes: its program and graph. Else the answer where there is no
+/// such file or it isn't a source of the profile, or why there is none: a read that failed, or want of memory.
 pub fn read_source<'a, F: Files>(
     alloc: Global,
     name: &'a str,

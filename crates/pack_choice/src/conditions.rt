@@ -48,7 +48,7 @@ pub fn add_logic(mentions: &mut Vec<Mention>, logic: &Logic) -> Result<(), Alloc
     }
 }
 
-/// Adds those of the conditions of a WHEN.
+/// Adds the items in the relations of the conditions of a WHEN, from left to right.
 pub fn add_tests(mentions: &mut Vec<Mention>, tests: &[Logic]) -> Result<(), AllocError>
     ensures { OnOk result (mentions.new.items ≡ mentions.old.items ++ tests_mentions (map plain_logic tests.now)) }
 {

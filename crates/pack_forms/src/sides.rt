@@ -24,7 +24,8 @@ use cob_program::Sum;
 use linear_form::Lin;
 use sum_ranges::{Ranged, sum_range};
 
-/// The form of a sum less another one.
+/// The form of a sum less another one, over the pack's cells and in its unit (Miné 2001). None where a sum has none, or
+/// where a number of it isn't below 10^37 in absolute value.
 pub fn difference_form(items: &KnownItems, pack: &PackView, left: &Sum, right: &Sum) -> Option<Lin>
     requires unit { HasUnit (program_of items.now).layout pack.now }
     requires fits { CellsFit (owns (program_of items.now)) (known_in items.now) }
@@ -59,7 +60,7 @@ fn is_fine(items: &KnownItems, pack: &PackView, sum: &Sum) -> bool
     }
 }
 
-/// Whether both sums are whole numbers of the pack's unit.
+/// Whether both sums are whole numbers of the pack's unit: each has a range, of no more decimals than the pack.
 pub fn are_fine(items: &KnownItems, pack: &PackView, left: &Sum, right: &Sum) -> bool
     requires unit { HasUnit (program_of items.now).layout pack.now }
     requires fits { CellsFit (owns (program_of items.now)) (known_in items.now) }
@@ -71,7 +72,8 @@ pub fn are_fine(items: &KnownItems, pack: &PackView, left: &Sum, right: &Sum) ->
     is_fine(items, pack, left) && is_fine(items, pack, right)
 }
 
-/// The form of a divisor.
+/// The form of a divisor, over the pack's cells and in its unit. None where it has none, or where a number of it isn't
+/// below 10^37 in absolute value.
 pub fn divisor_form(items: &KnownItems, pack: &PackView, divisor: Divisor) -> Option<Lin>
     requires unit { HasUnit (program_of items.now).layout pack.now }
     requires fits { CellsFit (owns (program_of items.now)) (known_in items.now) }
