@@ -10,7 +10,7 @@ const SOURCE: &str =
 const CERTIFICATE: &str =
     "COBSOUND 1\ncells 1\nnodes 3\npacks 0\nnode 1\nc 1 998 998\nnode 2\nc 1 999 999\nnode 3\nc 1 999 999\nend\n";
 
-// It writes a file, and then shows a text.
+// A program that writes a file, and then shows a text.
 const WRITER: &str =
     "       IDENTIFICATION DIVISION.\n       PROGRAM-ID. W.\n       ENVIRONMENT DIVISION.\n       INPUT-OUTPUT SECTION.\n       FILE-CONTROL.\n       SELECT F ASSIGN TO OUT.\n       DATA DIVISION.\n       FILE SECTION.\n       FD F.\n       01 R PIC X.\n       PROCEDURE DIVISION.\n       OPEN OUTPUT F.\n       WRITE R FROM 'A'.\n       CLOSE F.\n       DISPLAY 'B'.\n";
 
@@ -22,15 +22,15 @@ const HOURS: &str = "H20240131   D00042\0E\\\x02\0\x0cT00001      ";
 
 const PAID: &str = "00042  45.5       965.00TOTAL GROSS       965.00";
 
-// It shows each record of a file that it reads.
+// A program that shows each record of a file that it reads.
 const LISTING: &str =
     "       IDENTIFICATION DIVISION.\n       PROGRAM-ID. L.\n       ENVIRONMENT DIVISION.\n       INPUT-OUTPUT SECTION.\n       FILE-CONTROL.\n       SELECT F ASSIGN TO INP.\n       DATA DIVISION.\n       FILE SECTION.\n       FD F.\n       01 R PIC X(80).\n       WORKING-STORAGE SECTION.\n       77 E PIC X VALUE 'N'.\n       PROCEDURE DIVISION.\n       OPEN INPUT F.\n       PERFORM UNTIL E = 'Y'\n       READ F AT END MOVE 'Y' TO E\n       NOT AT END DISPLAY R\n       END-READ\n       END-PERFORM.\n       CLOSE F.\n";
 
-// It opens a file, and shows the status of that.
+// A program that opens a file, and shows the status of that.
 const OPENER: &str =
     "       IDENTIFICATION DIVISION.\n       PROGRAM-ID. T.\n       ENVIRONMENT DIVISION.\n       INPUT-OUTPUT SECTION.\n       FILE-CONTROL.\n       SELECT F ASSIGN TO INP FILE STATUS IS S.\n       DATA DIVISION.\n       FILE SECTION.\n       FD F.\n       01 R PIC X(80).\n       WORKING-STORAGE SECTION.\n       77 S PIC XX.\n       PROCEDURE DIVISION.\n       OPEN INPUT F.\n       DISPLAY S.\n";
 
-// It reads one record of a file.
+// A program that reads one record of a file.
 const READER: &str =
     "       IDENTIFICATION DIVISION.\n       PROGRAM-ID. R.\n       ENVIRONMENT DIVISION.\n       INPUT-OUTPUT SECTION.\n       FILE-CONTROL.\n       SELECT F ASSIGN TO INP.\n       DATA DIVISION.\n       FILE SECTION.\n       FD F.\n       01 R PIC X(80).\n       PROCEDURE DIVISION.\n       OPEN INPUT F.\n       READ F.\n       CLOSE F.\n";
 

@@ -42,7 +42,7 @@ impl Open {
         Ok(())
     }
 
-    // One before the first product ends none.
+    // An operator before the first product ends none.
     fn take_sign(&mut self, alloc: Global, subtracted: bool) -> Result<(), AllocError> {
         if self.factors.is_empty() {
             self.subtracted = subtracted;
