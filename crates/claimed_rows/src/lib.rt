@@ -28,6 +28,3 @@ pub use matrix_laws::{
     allowed_claims_fit, claimed_rows_are_elements, gaps_are_of_bounds, matrix_gaps_tell_the_order,
     unreached_rows_are_least,
 };
-
-#[cfg(test)]
-mod tests;

@@ -7,7 +7,6 @@ pub mod SameBut
 pub mod SameWords
 pub mod Shown
 pub mod Sizes
-pub mod Trials
 pub mod Units
 pub mod Quotients
 pub mod FormsAgree

@@ -42,6 +42,3 @@ pub use receivers::{fits, shows_high, shows_low};
 pub use senders::set_form;
 pub use sides::{are_fine, difference_form, divisor_form};
 pub use stores::{store_absolute, store_at, store_form, store_value};
-
-#[cfg(test)]
-mod tests;

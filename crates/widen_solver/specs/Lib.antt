@@ -4,5 +4,3 @@ pub mod RowsHeld
 pub mod Slots
 pub mod NodeRows
 pub mod RowLends
-pub mod Levels
-pub mod LevelsLaws

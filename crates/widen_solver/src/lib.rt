@@ -7,8 +7,3 @@ mod node_rows;
 mod store;
 
 pub use store::{Store, solve};
-
-#[cfg(test)]
-mod levels;
-#[cfg(test)]
-mod tests;

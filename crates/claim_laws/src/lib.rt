@@ -1,0 +1,5 @@
+//! Calls the laws of claimed_rows that no program calls.
+#![tactic(auto)]
+
+#[cfg(test)]
+mod tests;
