@@ -4,8 +4,7 @@ use Rattle.std.specs.Prelude.{◌≤ℤ◌, ◌<ℤ◌}
 use Rattle.std.proofs.lemmas.Int.{ints, by_lt_z}
 use Rattle.std.proofs.lemmas.Bool.{cases_eq}
 use Rattle.std.proofs.lemmas.List.{length-replicate, get_or-replicate}
-use Rattle.dom_laws.specs.Sizes.{word}
-use Rattle.bench.specs.Wide.{row_of}
+use Rattle.bench.specs.Wide.{word, row_of}
 
 -- the first words have one level, and the others are as they were
 pub record FilledTo (old row : List ℤ) (level : ℤ) (k : ℕ) : Type 0 where

@@ -1,9 +1,11 @@
 -- The system that is timed: a chain of nodes. A row has 600 words, all the same level from 0 to 9.
-use Rattle.std.specs.Prelude.{◌≡◌, ℕ, ◌+◌, ◌-◌, List, ℤ, pos, ◌-ℤ◌, ◌≤ℤ◌, unsigned_abs, replicate, int_le, if◌then◌else◌}
+use Rattle.std.specs.Prelude.{◌≡◌, ℕ, ◌+◌, ◌-◌, List, ℤ, pos, ◌-ℤ◌, ◌≤ℤ◌, unsigned_abs, slice_index_or, replicate, int_le, if◌then◌else◌}
 use Rattle.std.specs.Int.{int_max}
 use Rattle.dom_laws.specs.Lattice.{Lattice}
 use Rattle.dom_laws.specs.Flow.{Flow}
-use Rattle.dom_laws.specs.Sizes.{word}
+
+abbrev pub word : List ℤ → ℤ
+word row = slice_index_or row 0 (pos 0)
 
 abbrev pub row_of : ℤ → List ℤ
 row_of level = replicate 600 level

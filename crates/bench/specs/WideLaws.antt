@@ -5,8 +5,7 @@ use Rattle.std.proofs.lemmas.Int.{ints, clamps, by_lt_z}
 use Rattle.std.proofs.lemmas.List.{length-replicate}
 use Rattle.dom_laws.specs.Lattice.{IsElement, IsLattice}
 use Rattle.dom_laws.specs.Flow.{IsHead, IsFlow}
-use Rattle.dom_laws.specs.Sizes.{word}
-use Rattle.bench.specs.Wide.{row_of, widened, wide, chain}
+use Rattle.bench.specs.Wide.{word, row_of, widened, wide, chain}
 
 element : (z : ℤ) → pos 0 ≤ℤ z → z ≤ℤ pos 9 → IsElement wide (row_of z)
 element z h k = record { width = length-replicate 600 z; formed = (refl, h, k) }

@@ -1,8 +1,7 @@
 //! The system that is timed: a chain of nodes with wide rows.
 ghost use Rattle.std.specs.Prelude.{◌≡◌, ◌<◌, ◌≤◌, ◌≤ℤ◌, ◌<ℤ◌, ◌↔◌, IsTrue, pos, length, get_or, slice_set};
 ghost use Rattle.std.specs.Int.{int_max};
-ghost use Rattle.dom_laws.specs.Sizes.{word};
-ghost use Rattle.bench.specs.Wide.{row_of, wide, chain};
+ghost use Rattle.bench.specs.Wide.{word, row_of, wide, chain};
 ghost use Rattle.bench.specs.WideLaws.{wide_ordered, chain_flows};
 
 use dom_laws::{Domain, Steps, System};

@@ -17,6 +17,3 @@ pub use laws::rows_are_a_lattice;
 pub use order::leq;
 pub use widening::widen;
 pub use words::{is_reached, known_at, set_known, set_unreached};
-
-#[cfg(test)]
-mod tests;

@@ -1,4 +1,3 @@
 pub mod Ends
 pub mod Quotients
 pub mod Nearest
-pub mod Sizes

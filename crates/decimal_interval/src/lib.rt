@@ -13,6 +13,3 @@ pub use arithmetic::{add_i, hull, mul_i, sub_i};
 pub use bounds::Interval;
 pub use quotient::quot_i;
 pub use widening::widen_i;
-
-#[cfg(test)]
-mod tests;

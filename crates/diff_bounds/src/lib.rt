@@ -19,9 +19,6 @@ pub use laws::{
     stands_above,
 };
 
-#[cfg(test)]
-mod tests;
-
 /// Cells whose differences are tracked together, by their places from 1, in rising order.
 #[derive(Debug, PartialEq, Eq, Drop)]
 pub struct Pack {

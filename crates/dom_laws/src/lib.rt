@@ -4,12 +4,8 @@
 
 mod counter;
 mod laws;
-mod sizes;
 mod traits;
 
 pub use counter::Steps;
 pub use laws::{clears_no_fault, growth_is_bounded, nothing_is_missed, stands_where_reached};
 pub use traits::{Domain, Layer, Rows, System};
-
-#[cfg(test)]
-mod tests;

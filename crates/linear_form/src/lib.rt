@@ -12,6 +12,3 @@ mod small;
 pub use arithmetic::{lin_add, lin_scale};
 pub use form::Lin;
 pub use laws::{narrower_forms_have_narrower_multiples, narrower_forms_have_narrower_sums};
-
-#[cfg(test)]
-mod tests;

@@ -1,6 +1,6 @@
 use Rattle.std.proofs.Common.{◌<◌}
 use Rattle.std.specs.Prelude.{◌≤ℤ◌}
-use Rattle.dom_laws.specs.Sizes.{word}
+use Rattle.bench.specs.Wide.{word}
 use Rattle.bench.proofs.chain.is_below.Given as goal
 
 abbrev pub invariant-loop-k : goal.invariant-loop-k

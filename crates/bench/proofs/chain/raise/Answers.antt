@@ -1,6 +1,6 @@
 use Rattle.std.proofs.Common.{◌≡◌, ◌<◌, ◌∙◌, pos, length, get_or, arith}
 use Rattle.std.specs.Int.{int_max}
-use Rattle.dom_laws.specs.Sizes.{word}
+use Rattle.bench.specs.Wide.{word}
 use Rattle.bench.proofs.Levels.{row_width, word_at, filled_more, filled_all}
 use Rattle.bench.proofs.chain.raise.Goals as goal
 

@@ -1,5 +1,5 @@
 use Rattle.std.specs.Int.{int_max}
-use Rattle.dom_laws.specs.Sizes.{word}
+use Rattle.bench.specs.Wide.{word}
 use Rattle.bench.proofs.Levels.{FilledTo}
 use Rattle.bench.proofs.chain.raise.Given as goal
 

@@ -1,5 +1,0 @@
-use Rattle.diff_bounds.proofs.NoBounds.{IsCleared}
-use Rattle.diff_bounds.proofs.tests.no_bounds.Given as goal
-
-abbrev pub invariant-loop-place : goal.invariant-loop-place
-invariant-loop-place l = IsCleared 3 l.place l.m

@@ -1,0 +1,5 @@
+//! Calls the difference of intervals, which no program takes.
+#![tactic(auto)]
+
+#[cfg(test)]
+mod tests;
