@@ -38,7 +38,7 @@ pub fn compared(
     let Some((rel, rest)) = relation_in(lexemes) else {
         return Err(Halt::Stop(lexemes.len()));
     };
-    let (right, rest) = expr_in(alloc, rest, room)?;
+    let (right, rest) = or_leave!(expr_in(alloc, rest, room));
     Ok((rel, right, rest))
 }
 
@@ -47,7 +47,7 @@ fn asked_in(alloc: Global, lexemes: &[Lexeme], room: u32) -> Result<(Asked, &[Le
     ensures rest { IfOk result (λ x. length x.1.now ≤ length lexemes.now) }
 {
     if relation_in(lexemes).is_some() {
-        let (rel, right, rest) = compared(alloc, lexemes, room)?;
+        let (rel, right, rest) = or_leave!(compared(alloc, lexemes, room));
         return Ok((Asked::Compared { rel, right }, rest));
     }
     match behind(Mark::Numeric, lexemes) {
@@ -66,11 +66,11 @@ fn test_in(alloc: Global, lexemes: &[Lexeme], room: u32) -> Result<(bool, Asked,
 {
     match behind(Mark::Not, lexemes) {
         Some(rest) => {
-            let (asked, rest) = asked_in(alloc, rest, room)?;
+            let (asked, rest) = or_leave!(asked_in(alloc, rest, room));
             Ok((true, asked, rest))
         }
         None => {
-            let (asked, rest) = asked_in(alloc, lexemes, room)?;
+            let (asked, rest) = or_leave!(asked_in(alloc, lexemes, room));
             Ok((false, asked, rest))
         }
     }
@@ -106,8 +106,8 @@ fn expr_behind(
     ensures gives { Gives (λ x. (plain_expr x.0, signs x.1.now)) result (expr_behind (group_at room) (plain_fact first) (signs lexemes.now)) }
     ensures rest { IfOk result (λ x. length x.1.now ≤ length lexemes.now) }
 {
-    let (factors, rest) = factors_in(alloc, lexemes, room)?;
-    let (summands, rest) = summands_in(alloc, rest, room)?;
+    let (factors, rest) = or_leave!(factors_in(alloc, lexemes, room), first);
+    let (summands, rest) = or_leave!(summands_in(alloc, rest, room), first, factors);
     Ok((Expr::of(Term::of(first, factors), summands), rest))
 }
 
@@ -122,9 +122,9 @@ pub fn subject_behind(
     ensures takes { IfOk result (λ x. x.1 ≡ takes_simple (plain_simple x.0) NotRelates) }
     ensures rest { IfOk result (λ x. length x.2.now ≤ length lexemes.now) }
 {
-    let (value, rest) = expr_behind(alloc, first, lexemes, room)?;
+    let (value, rest) = or_leave!(expr_behind(alloc, first, lexemes, room));
     if begins_test(rest) {
-        let (not, asked, rest) = test_in(alloc, rest, room)?;
+        let (not, asked, rest) = or_leave!(test_in(alloc, rest, room), value);
         Ok((tested(value, not, asked), false, rest))
     } else {
         Ok((alone(value), true, rest))

@@ -3,7 +3,7 @@ ghost use Rattle.std.specs.Prelude.{◌≡◌, ◌+◌, length, IfOk, IfSome, If
 ghost use Rattle.cob_lexemes.specs.Lexemes.{plain_symbol};
 ghost use Rattle.cob_lexemes.specs.Classes.{word_symbol};
 ghost use Rattle.cob_lexemes.specs.Steps.{signs, Leads, Lacks};
-ghost use Rattle.cob_parse_expr.specs.Classes.{name_of, const_key, const_as, const_of, mark_symbol, sign_mark, sign_of, scaling_mark, scaling_of, mark_class, mark_of, sign_test_key, sign_test_of, relation_symbol, relation_of, bare_symbol, bare_first};
+ghost use Rattle.cob_parse_expr.specs.Classes.{name_of, const_key, const_as, const_of, mark_symbol, sign_mark, sign_of, scaling_mark, scaling_of, mark_class, mark_of, sign_test_key, sign_test_of, relation_symbol, relation_of, bare_symbol, bare_first, open_mark, close_mark, of_key, not_key, and_key, or_key, numeric_key};
 
 use cob_lexemes::{Lexeme, Symbol, name, next};
 use cob_tree::{Bytes, Const, Keyword, Name, Rel, Scaling, Sign, SignTest};
@@ -61,17 +61,61 @@ pub enum Mark {
     Numeric,
 }
 
+// Each mark is told by a function of its own.
+
+fn is_open(symbol: &Symbol) -> bool
+    ensures { result ≡ is_some (mark_symbol open_mark (plain_symbol symbol.now)) }
+{
+    matches!(symbol, Symbol::Mark(b'('))
+}
+
+fn is_close(symbol: &Symbol) -> bool
+    ensures { result ≡ is_some (mark_symbol close_mark (plain_symbol symbol.now)) }
+{
+    matches!(symbol, Symbol::Mark(b')'))
+}
+
+fn is_of(symbol: &Symbol) -> bool
+    ensures { result ≡ is_some (word_symbol of_key (plain_symbol symbol.now)) }
+{
+    matches!(symbol, Symbol::Key(Keyword::Of))
+}
+
+fn is_not(symbol: &Symbol) -> bool
+    ensures { result ≡ is_some (word_symbol not_key (plain_symbol symbol.now)) }
+{
+    matches!(symbol, Symbol::Key(Keyword::Not))
+}
+
+fn is_and(symbol: &Symbol) -> bool
+    ensures { result ≡ is_some (word_symbol and_key (plain_symbol symbol.now)) }
+{
+    matches!(symbol, Symbol::Key(Keyword::And))
+}
+
+fn is_or(symbol: &Symbol) -> bool
+    ensures { result ≡ is_some (word_symbol or_key (plain_symbol symbol.now)) }
+{
+    matches!(symbol, Symbol::Key(Keyword::Or))
+}
+
+fn is_numeric(symbol: &Symbol) -> bool
+    ensures { result ≡ is_some (word_symbol numeric_key (plain_symbol symbol.now)) }
+{
+    matches!(symbol, Symbol::Key(Keyword::Numeric))
+}
+
 fn is_mark(mark: Mark, symbol: &Symbol) -> bool
     ensures { result ≡ is_some (mark_class mark (plain_symbol symbol.now)) }
 {
     match mark {
-        Mark::Open => matches!(symbol, Symbol::Mark(b'(')),
-        Mark::Close => matches!(symbol, Symbol::Mark(b')')),
-        Mark::Of => matches!(symbol, Symbol::Key(Keyword::Of)),
-        Mark::Not => matches!(symbol, Symbol::Key(Keyword::Not)),
-        Mark::And => matches!(symbol, Symbol::Key(Keyword::And)),
-        Mark::Or => matches!(symbol, Symbol::Key(Keyword::Or)),
-        Mark::Numeric => matches!(symbol, Symbol::Key(Keyword::Numeric)),
+        Mark::Open => is_open(symbol),
+        Mark::Close => is_close(symbol),
+        Mark::Of => is_of(symbol),
+        Mark::Not => is_not(symbol),
+        Mark::And => is_and(symbol),
+        Mark::Or => is_or(symbol),
+        Mark::Numeric => is_numeric(symbol),
     }
 }
 

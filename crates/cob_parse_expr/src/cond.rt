@@ -40,9 +40,12 @@ fn paren(alloc: Global, lexemes: &[Lexeme], room: u32) -> Result<(Cond, &[Lexeme
     if room == 0 {
         return Err(Halt::Deep(lexemes.len()));
     }
-    let (cond, takes_not, rest) = cond_in(alloc, rest, room - 1)?;
+    let (cond, takes_not, rest) = or_leave!(cond_in(alloc, rest, room - 1));
     match behind(Mark::Close, rest) {
-        None => Err(Halt::Stop(unclosed(takes_not, rest))),
+        None => {
+            drop(cond);
+            Err(Halt::Stop(unclosed(takes_not, rest)))
+        }
         Some(rest) => Ok((cond, rest)),
     }
 }
@@ -74,11 +77,11 @@ fn subject(alloc: Global, lexemes: &[Lexeme], room: u32) -> Result<(Simple, bool
 {
     match behind(Mark::Open, lexemes) {
         Some(_) => {
-            let (cond, rest) = paren(alloc, lexemes, room)?;
+            let (cond, rest) = or_leave!(paren(alloc, lexemes, room));
             subject_after(alloc, cond, rest, room)
         }
         None => {
-            let (first, rest) = fact_in(alloc, lexemes, room)?;
+            let (first, rest) = or_leave!(fact_in(alloc, lexemes, room));
             subject_behind(alloc, first, rest, room)
         }
     }
@@ -93,7 +96,7 @@ fn further(alloc: Global, lexemes: &[Lexeme], room: u32) -> Result<(Simple, bool
 {
     match behind(Mark::Not, lexemes) {
         Some(rest) => {
-            let (rel, right, rest) = compared(alloc, rest, room)?;
+            let (rel, right, rest) = or_leave!(compared(alloc, rest, room));
             Ok((abbreviated(true, rel, right), false, rest))
         }
         None => subject(alloc, lexemes, room),
@@ -108,10 +111,10 @@ fn negated(alloc: Global, lexemes: &[Lexeme], room: u32) -> Result<(Neg, bool, &
     ensures rest { IfOk result (λ x. length x.2.now ≤ length lexemes.now) }
 {
     if relation_in(lexemes).is_some() {
-        let (rel, right, rest) = compared(alloc, lexemes, room)?;
+        let (rel, right, rest) = or_leave!(compared(alloc, lexemes, room));
         Ok((bare_relation(true, rel, right), false, rest))
     } else {
-        let (simple, takes_not, rest) = further(alloc, lexemes, room)?;
+        let (simple, takes_not, rest) = or_leave!(further(alloc, lexemes, room));
         Ok((Neg::of(true, simple), takes_not, rest))
     }
 }
@@ -123,10 +126,10 @@ fn plain(alloc: Global, lexemes: &[Lexeme], room: u32) -> Result<(Neg, bool, &[L
     ensures rest { IfOk result (λ x. length x.2.now ≤ length lexemes.now) }
 {
     if relation_in(lexemes).is_some() {
-        let (rel, right, rest) = compared(alloc, lexemes, room)?;
+        let (rel, right, rest) = or_leave!(compared(alloc, lexemes, room));
         Ok((bare_relation(false, rel, right), false, rest))
     } else {
-        let (simple, takes_not, rest) = subject(alloc, lexemes, room)?;
+        let (simple, takes_not, rest) = or_leave!(subject(alloc, lexemes, room));
         Ok((Neg::of(false, simple), takes_not, rest))
     }
 }
@@ -173,8 +176,8 @@ fn conj(alloc: Global, lexemes: &[Lexeme], room: u32) -> Result<(Conj, bool, &[L
     ensures takes { IfOk result (λ x. x.1 ≡ takes_conj (plain_conj x.0) NotRelates) }
     ensures rest { IfOk result (λ x. length x.2.now ≤ length lexemes.now) }
 {
-    let (first, takes_not, rest) = neg(alloc, lexemes, room)?;
-    let (others, takes_not, rest) = negs(alloc, rest, room, takes_not)?;
+    let (first, takes_not, rest) = or_leave!(neg(alloc, lexemes, room));
+    let (others, takes_not, rest) = or_leave!(negs(alloc, rest, room, takes_not), first);
     Ok((Conj::of(first, others), takes_not, rest))
 }
 
@@ -214,7 +217,7 @@ pub fn cond_in(
     ensures takes { IfOk result (λ x. x.1 ≡ takes_cond (plain_cond x.0) NotRelates) }
     ensures rest { IfOk result (λ x. length x.2.now ≤ length lexemes.now) }
 {
-    let (first, takes_not, rest) = conj(alloc, lexemes, room)?;
-    let (others, takes_not, rest) = conjs(alloc, rest, room, takes_not)?;
+    let (first, takes_not, rest) = or_leave!(conj(alloc, lexemes, room));
+    let (others, takes_not, rest) = or_leave!(conjs(alloc, rest, room, takes_not), first);
     Ok((Cond::of(first, others), takes_not, rest))
 }

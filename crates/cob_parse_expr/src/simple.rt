@@ -108,7 +108,10 @@ fn conj_alone(conj: Conj) -> Result<Expr, Conj>
         return Err(conj);
     }
     match neg_alone(conj.first) {
-        Ok(expr) => Ok(expr),
+        Ok(expr) => {
+            drop(conj.others);
+            Ok(expr)
+        }
         Err(first) => Err(Conj::of(first, conj.others)),
     }
 }
@@ -123,7 +126,10 @@ pub fn one_alone(cond: Cond) -> Result<Expr, Cond>
         return Err(cond);
     }
     match conj_alone(cond.first) {
-        Ok(expr) => Ok(expr),
+        Ok(expr) => {
+            drop(cond.others);
+            Ok(expr)
+        }
         Err(first) => Err(Cond::of(first, cond.others)),
     }
 }

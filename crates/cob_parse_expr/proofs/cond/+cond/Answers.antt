@@ -57,27 +57,26 @@ paren-returns-in_default-clause-gives t c = paren_lacks c.args.room (signs c.arg
 pub paren-returns-then-room-eq0-clause-gives : goal.paren-returns-then-room-eq0-clause-gives
 paren-returns-then-room-eq0-clause-gives t c = nested_full paren_at cond_at cond_goes paren_none paren_some c.args.room (signs c.args.lexemes.now) (signs c.in-Some.rest.now) _ c.if-room-eq0.true c.in-Some.ensures.found (signs_length c.args.lexemes.now)
 
-pub paren-returns-in_err-cond-clause-gives : goal.paren-returns-in_err-cond-clause-gives
-paren-returns-in_err-cond-clause-gives t c = gives_wrong _ c.from_residual.result _ c.in_err-cond.field-0.0 c.from_residual.ensures.1
-    (nested_wrong paren_at cond_at cond_goes paren_none paren_some c.args.room c.if-room-eq0.false (signs c.args.lexemes.now) (signs c.in-Some.rest.now) c.in-Some.ensures.found c.in_err-cond.field-0.0 c.in_err-cond.ensures.gives)
+pub paren-returns-in-Err-clause-gives : goal.paren-returns-in-Err-clause-gives
+paren-returns-in-Err-clause-gives t c = nested_wrong paren_at cond_at cond_goes paren_none paren_some c.args.room c.if-room-eq0.false (signs c.args.lexemes.now) (signs c.in-Some.rest.now) c.in-Some.ensures.found c.in-Err.halt c.in-Err.ensures.gives
 
 pub paren-returns-in-None-clause-gives : goal.paren-returns-in-None-clause-gives
-paren-returns-in-None-clause-gives t c = nested_open paren_at cond_at cond_goes paren_none paren_some c.args.room c.if-room-eq0.false (signs c.args.lexemes.now) (signs c.in-Some.rest.now) c.in-Some.ensures.found (plain_cond c.in_ok-cond.cond) (signs c.in_ok-cond.rest.now) _ c.in_ok-cond.ensures.gives c.in-None.ensures.none
-    (c.unclosed.ensures.value ∙ not_unclosed c.in_ok-cond.takes_not (plain_cond c.in_ok-cond.cond) (signs c.in_ok-cond.rest.now) c.in_ok-cond.ensures.takes)
+paren-returns-in-None-clause-gives t c = nested_open paren_at cond_at cond_goes paren_none paren_some c.args.room c.if-room-eq0.false (signs c.args.lexemes.now) (signs c.in-Some.rest.now) c.in-Some.ensures.found (plain_cond c.in-Ok.given.0) (signs c.in-Ok.given.2.now) _ c.in-Ok.ensures.gives c.in-None.ensures.none
+    (c.unclosed.ensures.value ∙ not_unclosed c.in-Ok.given.1 (plain_cond c.in-Ok.given.0) (signs c.in-Ok.given.2.now) c.in-Ok.ensures.takes)
 
 pub paren-returns-in-Some-behind-clause-gives : goal.paren-returns-in-Some-behind-clause-gives
-paren-returns-in-Some-behind-clause-gives t c = nested_closed paren_at cond_at cond_goes paren_none paren_some c.args.room c.if-room-eq0.false (signs c.args.lexemes.now) (signs c.in-Some.rest.now) c.in-Some.ensures.found (plain_cond c.in_ok-cond.cond) (signs c.in_ok-cond.rest.now) (signs c.in-Some-behind.rest.now) c.in_ok-cond.ensures.gives c.in-Some-behind.ensures.found
+paren-returns-in-Some-behind-clause-gives t c = nested_closed paren_at cond_at cond_goes paren_none paren_some c.args.room c.if-room-eq0.false (signs c.args.lexemes.now) (signs c.in-Some.rest.now) c.in-Some.ensures.found (plain_cond c.in-Ok.given.0) (signs c.in-Ok.given.2.now) (signs c.in-Some-behind.rest.now) c.in-Ok.ensures.gives c.in-Some-behind.ensures.found
 
-pub subject-returns-in_ok-cond-in-Some-clause-gives : goal.subject-returns-in_ok-cond-in-Some-clause-gives
-subject-returns-in_ok-cond-in-Some-clause-gives t c = gives_as _ c.subject_after.result _ _
-    (opened_is (paren_at c.args.room) (group_at c.args.room) (signs c.args.lexemes.now) _ (plain_cond c.in_ok-cond-in-Some.cond) c.in-Some.ensures.found (signs c.in_ok-cond-in-Some.rest.now) c.in_ok-cond-in-Some.ensures.gives) c.subject_after.ensures.gives
+pub subject-returns-in-Ok-clause-gives : goal.subject-returns-in-Ok-clause-gives
+subject-returns-in-Ok-clause-gives t c = gives_as _ c.subject_after.result _ _
+    (opened_is (paren_at c.args.room) (group_at c.args.room) (signs c.args.lexemes.now) _ (plain_cond c.in-Ok.given.0) c.in-Some.ensures.found (signs c.in-Ok.given.1.now) c.in-Ok.ensures.gives) c.subject_after.ensures.gives
 
-pub subject-returns-in_ok-first-in-None-clause-gives : goal.subject-returns-in_ok-first-in-None-clause-gives
-subject-returns-in_ok-first-in-None-clause-gives t c = gives_as _ c.subject_behind.result _ _
-    (bare_is (paren_at c.args.room) (group_at c.args.room) (signs c.args.lexemes.now) (signs c.in_ok-first-in-None.rest.now) (plain_fact c.in_ok-first-in-None.first) c.in-None.ensures.none c.in_ok-first-in-None.ensures.gives) c.subject_behind.ensures.gives
+pub subject-returns-in-Ok-fact_in-clause-gives : goal.subject-returns-in-Ok-fact_in-clause-gives
+subject-returns-in-Ok-fact_in-clause-gives t c = gives_as _ c.subject_behind.result _ _
+    (bare_is (paren_at c.args.room) (group_at c.args.room) (signs c.args.lexemes.now) (signs c.in-Ok-fact_in.given.1.now) (plain_fact c.in-Ok-fact_in.given.0) c.in-None.ensures.none c.in-Ok-fact_in.ensures.gives) c.subject_behind.ensures.gives
 
-pub further-returns-in_ok-rel-in-Some-clause-takes : goal.further-returns-in_ok-rel-in-Some-clause-takes
-further-returns-in_ok-rel-in-Some-clause-takes t c = sym (ap (λ (s : Simple). takes_simple s NotRelates) c.abbreviated.ensures ∙ no_not (plain_expr c.in_ok-rel-in-Some.right))
+pub further-returns-in-Ok-clause-takes : goal.further-returns-in-Ok-clause-takes
+further-returns-in-Ok-clause-takes t c = sym (ap (λ (s : Simple). takes_simple s NotRelates) c.abbreviated.ensures ∙ no_not (plain_expr c.in-Ok.given.1))
 
 pub neg-returns-in-Some-clause-gives : goal.neg-returns-in-Some-clause-gives
 neg-returns-in-Some-clause-gives t c = gives_as _ c.negated.result _ _ (behind_not_is (paren_at c.args.room) (group_at c.args.room) (signs c.args.lexemes.now) (signs c.in-Some.rest.now) c.in-Some.ensures.found) c.negated.ensures.gives
@@ -86,15 +85,15 @@ pub neg-returns-in-None-clause-gives : goal.neg-returns-in-None-clause-gives
 neg-returns-in-None-clause-gives t c = gives_as _ c.plain.result _ _ (no_not_is (paren_at c.args.room) (group_at c.args.room) (signs c.args.lexemes.now) c.in-None.ensures.none) c.plain.ensures.gives
 
 pub conj-returns-clause-gives : goal.conj-returns-clause-gives
-conj-returns-clause-gives t c = conj_is (paren_at c.args.room) (group_at c.args.room) (signs c.args.lexemes.now) (signs c.in_ok-first.rest.now) (signs c.in_ok-others.rest.now) (plain_neg c.in_ok-first.first) (map plain_neg c.in_ok-others.others.items) (plain_conj c.of.result) c.in_ok-first.ensures.gives c.in_ok-others.ensures.gives c.of.ensures
+conj-returns-clause-gives t c = conj_is (paren_at c.args.room) (group_at c.args.room) (signs c.args.lexemes.now) (signs c.in-Ok.given.2.now) (signs c.in-Ok-negs.given.2.now) (plain_neg c.in-Ok.given.0) (map plain_neg c.in-Ok-negs.given.0.items) (plain_conj c.of.result) c.in-Ok.ensures.gives c.in-Ok-negs.ensures.gives c.of.ensures
 
 pub conj-returns-clause-takes : goal.conj-returns-clause-takes
-conj-returns-clause-takes t c = c.in_ok-others.ensures.takes ∙ (ap (λ (b : Bool). last_neg b (map plain_neg c.in_ok-others.others.items)) c.in_ok-first.ensures.takes
-    ∙ (sym (conj_takes (plain_neg c.in_ok-first.first) (map plain_neg c.in_ok-others.others.items)) ∙ ap (λ (z : Conj). takes_conj z NotRelates) (sym c.of.ensures)))
+conj-returns-clause-takes t c = c.in-Ok-negs.ensures.takes ∙ (ap (λ (b : Bool). last_neg b (map plain_neg c.in-Ok-negs.given.0.items)) c.in-Ok.ensures.takes
+    ∙ (sym (conj_takes (plain_neg c.in-Ok.given.0) (map plain_neg c.in-Ok-negs.given.0.items)) ∙ ap (λ (z : Conj). takes_conj z NotRelates) (sym c.of.ensures)))
 
 pub cond_in-returns-clause-gives : goal.cond_in-returns-clause-gives
-cond_in-returns-clause-gives t c = cond_is (paren_at c.args.room) (group_at c.args.room) (signs c.args.lexemes.now) (signs c.in_ok-first.rest.now) (signs c.in_ok-others.rest.now) (plain_conj c.in_ok-first.first) (map plain_conj c.in_ok-others.others.items) (plain_cond c.of.result) c.in_ok-first.ensures.gives c.in_ok-others.ensures.gives c.of.ensures
+cond_in-returns-clause-gives t c = cond_is (paren_at c.args.room) (group_at c.args.room) (signs c.args.lexemes.now) (signs c.in-Ok.given.2.now) (signs c.in-Ok-conjs.given.2.now) (plain_conj c.in-Ok.given.0) (map plain_conj c.in-Ok-conjs.given.0.items) (plain_cond c.of.result) c.in-Ok.ensures.gives c.in-Ok-conjs.ensures.gives c.of.ensures
 
 pub cond_in-returns-clause-takes : goal.cond_in-returns-clause-takes
-cond_in-returns-clause-takes t c = c.in_ok-others.ensures.takes ∙ (ap (λ (b : Bool). last_conj b (map plain_conj c.in_ok-others.others.items)) c.in_ok-first.ensures.takes
-    ∙ (sym (cond_takes (plain_conj c.in_ok-first.first) (map plain_conj c.in_ok-others.others.items)) ∙ ap (λ (z : Cond). takes_cond z NotRelates) (sym c.of.ensures)))
+cond_in-returns-clause-takes t c = c.in-Ok-conjs.ensures.takes ∙ (ap (λ (b : Bool). last_conj b (map plain_conj c.in-Ok-conjs.given.0.items)) c.in-Ok.ensures.takes
+    ∙ (sym (cond_takes (plain_conj c.in-Ok.given.0) (map plain_conj c.in-Ok-conjs.given.0.items)) ∙ ap (λ (z : Cond). takes_cond z NotRelates) (sym c.of.ensures)))
