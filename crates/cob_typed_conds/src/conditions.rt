@@ -7,6 +7,7 @@ ghost use Rattle.cob_tree.specs.CondView.{plain_cond, plain_conj, plain_neg, pla
 ghost use Rattle.cob_program.specs.LogicView.{plain_logic, plain_test};
 ghost use Rattle.cob_program.specs.Logic.{test};
 ghost use Rattle.cob_typed_exprs.specs.Judged.{noted};
+ghost use Rattle.cob_typed_exprs.specs.Sums.{lone};
 ghost use Rattle.cob_typed_conds.specs.Operands.{plain_carry};
 ghost use Rattle.cob_typed_conds.specs.Conditions.{denied_if, relation_logic, member_of, member_if, named_condition, Carry, tested_or_not, misplaced, unrelated, related, abbreviated_from, abbreviated_behind, value_alone, name_alone, expression_alone, any_or_one, all_or_one, walk_cond, walk_conjs, walk_conj, walk_negs, walk_neg, walk_simple, numeric_test, signed_test};
 
@@ -14,7 +15,7 @@ use crate::carry::Carry;
 use crate::relations::{misplaced, numeric_test, relation_test, signed_test};
 use cob_data::{Flag, Rule};
 use cob_program::{Logic, Test};
-use cob_tree::{Cond, Conj, Expr, Neg, Opnd, Ref, Rel, Simple};
+use cob_tree::{Cond, Conj, Expr, Neg, Opnd, Ref, Rel, SignTest, Simple};
 use cob_typed_exprs::{Finding, Scope, is_there, lone, one_of_kind};
 use std::alloc::{AllocError, Global};
 
@@ -40,10 +41,13 @@ fn member_of(alloc: Global, flag: Option<&Flag>) -> Result<Test, AllocError>
 {
     match flag {
         None => Ok(Test::Always),
-        Some(flag) => Ok(Test::Member {
-            item: flag.item,
-            ranges: flag.copied_ranges(alloc)?,
-        }),
+        Some(flag) => {
+            let ranges = or_leave!(flag.copied_ranges(alloc));
+            Ok(Test::Member {
+                item: flag.item,
+                ranges,
+            })
+        }
     }
 }
 
@@ -85,7 +89,7 @@ fn relation_logic(
     ensures value { IfOk result (λ logic. plain_logic logic ≡ (relation_logic scope.now (plain_expr left.now) not rel (plain_expr right.now)).value) }
     ensures noted { OnOk result (findings.new.items ≡ noted line findings.old.items (relation_logic scope.now (plain_expr left.now) not rel (plain_expr right.now)).broken) }
 {
-    let relation = relation_test(scope, findings, line, left, rel, right)?;
+    let relation = or_leave!(relation_test(scope, findings, line, left, rel, right));
     tested_or_not(scope.alloc, not, relation)
 }
 
@@ -110,8 +114,10 @@ fn named_condition(
     ensures noted { OnOk result (findings.new.items ≡ noted line findings.old.items (named_condition scope.now reference.now).broken) }
 {
     let something = scope.means_something(reference);
-    let place = one_of_kind(findings, line, Rule::Q6, something, scope.flag(reference))?;
-    Ok(Logic::test(member_if(scope, place)?))
+    let found = scope.flag(reference);
+    let place = or_leave!(one_of_kind(findings, line, Rule::Q6, something, found));
+    let member = or_leave!(member_if(scope, place));
+    Ok(Logic::test(member))
 }
 
 // ---- abbreviations
@@ -126,7 +132,7 @@ fn unrelated<'t>(
     ensures carry { IfOk result (λ x. option_map plain_carry x.1 ≡ (unrelated scope.now (plain_expr expr.now)).carry) }
     ensures noted { OnOk result (findings.new.items ≡ noted line findings.old.items (unrelated scope.now (plain_expr expr.now)).logic.broken) }
 {
-    let nothing = misplaced(scope, findings, line, Rule::Q6, expr)?;
+    let nothing = or_leave!(misplaced(scope, findings, line, Rule::Q6, expr));
     Ok((Logic::test(nothing), None))
 }
 
@@ -141,7 +147,7 @@ fn related<'t>(
     ensures carry { IfOk result (λ x. option_map plain_carry x.1 ≡ (related scope.now carry.entry.denied (plain_expr carry.entry.subject.now) carry.entry.not carry.entry.rel (plain_expr right.now)).carry) }
     ensures noted { OnOk result (findings.new.items ≡ noted line findings.old.items (related scope.now carry.entry.denied (plain_expr carry.entry.subject.now) carry.entry.not carry.entry.rel (plain_expr right.now)).logic.broken) }
 {
-    let logic = relation_logic(
+    let logic = or_leave!(relation_logic(
         scope,
         findings,
         line,
@@ -149,7 +155,7 @@ fn related<'t>(
         carry.not,
         carry.rel,
         right,
-    )?;
+    ));
     Ok((logic, Some(carry)))
 }
 
@@ -242,14 +248,18 @@ fn name_alone<'t>(
     ensures noted { OnOk result (findings.new.items ≡ noted line findings.old.items (name_alone scope.now denied (option_map plain_carry before.entry) (plain_expr expr.now) reference.now).logic.broken) }
 {
     match before {
-        None => Ok((named_condition(scope, findings, line, reference)?, None)),
+        None => {
+            let logic = or_leave!(named_condition(scope, findings, line, reference));
+            Ok((logic, None))
+        }
         Some(before) => {
             if is_there(scope.item(reference)) {
                 abbreviated_from(
                     scope, findings, line, denied, before, before.not, before.rel, expr,
                 )
             } else {
-                Ok((named_condition(scope, findings, line, reference)?, None))
+                let logic = or_leave!(named_condition(scope, findings, line, reference));
+                Ok((logic, None))
             }
         }
     }
@@ -274,6 +284,41 @@ fn expression_alone<'t>(
         }
         Some(Opnd::Const(_)) | None => value_alone(scope, findings, line, denied, before, expr),
     }
+}
+
+// ---- class and sign conditions
+
+fn class_condition<'t>(
+    scope: &Scope,
+    findings: &mut Vec<Finding>,
+    line: u32,
+    not: bool,
+    value: &Expr,
+) -> Result<(Logic, Option<Carry<'t>>), AllocError>
+    ensures value { IfOk result (λ x. plain_logic x.0 ≡ (tested_or_not not (numeric_test scope.now (plain_expr value.now) (lone (plain_expr value.now)))).logic.value) }
+    ensures carry { IfOk result (λ x. option_map plain_carry x.1 ≡ (tested_or_not not (numeric_test scope.now (plain_expr value.now) (lone (plain_expr value.now)))).carry) }
+    ensures noted { OnOk result (findings.new.items ≡ noted line findings.old.items (tested_or_not not (numeric_test scope.now (plain_expr value.now) (lone (plain_expr value.now)))).logic.broken) }
+{
+    let asked = or_leave!(numeric_test(scope, findings, line, value, lone(value)));
+    let logic = or_leave!(tested_or_not(scope.alloc, not, asked));
+    Ok((logic, None))
+}
+
+fn sign_condition<'t>(
+    scope: &Scope,
+    findings: &mut Vec<Finding>,
+    line: u32,
+    not: bool,
+    asked: SignTest,
+    value: &Expr,
+) -> Result<(Logic, Option<Carry<'t>>), AllocError>
+    ensures value { IfOk result (λ x. plain_logic x.0 ≡ (tested_or_not not (signed_test scope.now asked (plain_expr value.now) (lone (plain_expr value.now)))).logic.value) }
+    ensures carry { IfOk result (λ x. option_map plain_carry x.1 ≡ (tested_or_not not (signed_test scope.now asked (plain_expr value.now) (lone (plain_expr value.now)))).carry) }
+    ensures noted { OnOk result (findings.new.items ≡ noted line findings.old.items (tested_or_not not (signed_test scope.now asked (plain_expr value.now) (lone (plain_expr value.now)))).logic.broken) }
+{
+    let asked = or_leave!(signed_test(scope, findings, line, asked, value, lone(value)));
+    let logic = or_leave!(tested_or_not(scope.alloc, not, asked));
+    Ok((logic, None))
 }
 
 // ---- whole conditions
@@ -370,8 +415,16 @@ fn walk_neg<'t>(
     ensures carry { IfOk result (λ x. option_map plain_carry x.1 ≡ (walk_neg scope.now (option_map plain_carry before.entry) (plain_neg neg.now)).carry) }
     ensures noted { OnOk result (findings.new.items ≡ noted line findings.old.items (walk_neg scope.now (option_map plain_carry before.entry) (plain_neg neg.now)).logic.broken) }
 {
-    let (logic, behind) = walk_simple(scope, findings, line, neg.not, before, &neg.simple)?;
-    Ok((denied_if(scope.alloc, neg.not, logic)?, behind))
+    let (logic, behind) = or_leave!(walk_simple(
+        scope,
+        findings,
+        line,
+        neg.not,
+        before,
+        &neg.simple
+    ));
+    let made = or_leave!(denied_if(scope.alloc, neg.not, logic));
+    Ok((made, behind))
 }
 
 #[cycle(walk)]
@@ -388,7 +441,10 @@ fn walk_simple<'t>(
     ensures noted { OnOk result (findings.new.items ≡ noted line findings.old.items (walk_simple scope.now denied (option_map plain_carry before.entry) (plain_simple simple.now)).logic.broken) }
 {
     match simple {
-        Simple::Cond(inner) => Ok((condition(scope, findings, line, inner)?, None)),
+        Simple::Cond(inner) => {
+            let logic = or_leave!(condition(scope, findings, line, inner));
+            Ok((logic, None))
+        }
         Simple::Relation {
             left,
             not,
@@ -406,13 +462,9 @@ fn walk_simple<'t>(
         Simple::Abbreviated { not, rel, right } => {
             abbreviated_behind(scope, findings, line, denied, before, *not, *rel, right)
         }
-        Simple::Numeric { value, not } => {
-            let asked = numeric_test(scope, findings, line, value, lone(value))?;
-            Ok((tested_or_not(scope.alloc, *not, asked)?, None))
-        }
+        Simple::Numeric { value, not } => class_condition(scope, findings, line, *not, value),
         Simple::Sign { value, not, test } => {
-            let asked = signed_test(scope, findings, line, *test, value, lone(value))?;
-            Ok((tested_or_not(scope.alloc, *not, asked)?, None))
+            sign_condition(scope, findings, line, *not, *test, value)
         }
         Simple::Expr(expr) => {
             expression_alone(scope, findings, line, denied, before, expr, lone(expr))

@@ -59,7 +59,10 @@ fn lone_side<'t>(
 {
     match alone {
         None => Ok(Operand::WorkedOut(expr)),
-        Some(operand) => Ok(Operand::Alone(scope.operand(findings, line, operand)?)),
+        Some(operand) => {
+            let value = or_leave!(scope.operand(findings, line, operand));
+            Ok(Operand::Alone(value))
+        }
     }
 }
 
@@ -82,7 +85,10 @@ fn sum_of_side(
     ensures noted { OnOk result (findings.new.items ≡ noted line findings.old.items (sum_of_side scope.now (plain_operand side.entry)).broken) }
 {
     match side {
-        Operand::Alone(value) => one_atom(scope.alloc, atom_of(scope.alloc, value)?),
+        Operand::Alone(value) => {
+            let atom = or_leave!(atom_of(scope.alloc, value));
+            one_atom(scope.alloc, atom)
+        }
         Operand::WorkedOut(expr) => scope.whole_sum(findings, line, expr),
     }
 }
@@ -98,12 +104,8 @@ fn number_test(
     ensures value { IfOk result (λ test. plain_test test ≡ (number_test scope.now (plain_sum left) rel (plain_sum right)).value) }
     ensures noted { OnOk result (findings.new.items ≡ noted line findings.old.items (number_test scope.now (plain_sum left) rel (plain_sum right)).broken) }
 {
-    demand(
-        findings,
-        line,
-        Rule::N5,
-        scope.are_small_sides(&left, &right),
-    )?;
+    let small = scope.are_small_sides(&left, &right);
+    or_leave!(demand(findings, line, Rule::N5, small), left, right);
     Ok(Test::Number { left, rel, right })
 }
 
@@ -118,8 +120,8 @@ fn by_value(
     ensures value { IfOk result (λ test. plain_test test ≡ (by_value scope.now (plain_operand left.entry) rel (plain_operand right.entry)).value) }
     ensures noted { OnOk result (findings.new.items ≡ noted line findings.old.items (by_value scope.now (plain_operand left.entry) rel (plain_operand right.entry)).broken) }
 {
-    let left = sum_of_side(scope, findings, line, left)?;
-    let right = sum_of_side(scope, findings, line, right)?;
+    let left = or_leave!(sum_of_side(scope, findings, line, left), right);
+    let right = or_leave!(sum_of_side(scope, findings, line, right), left);
     number_test(scope, findings, line, left, rel, right)
 }
 
@@ -133,9 +135,9 @@ fn not_at_all(
     ensures value { IfOk result (λ test. plain_test test ≡ (not_at_all scope.now (plain_operand left.entry) (plain_operand right.entry)).value) }
     ensures noted { OnOk result (findings.new.items ≡ noted line findings.old.items (not_at_all scope.now (plain_operand left.entry) (plain_operand right.entry)).broken) }
 {
-    sum_of_side(scope, findings, line, left)?;
-    sum_of_side(scope, findings, line, right)?;
-    note(findings, line, Rule::Q4)?;
+    drop(or_leave!(sum_of_side(scope, findings, line, left), right));
+    drop(or_leave!(sum_of_side(scope, findings, line, right)));
+    or_leave!(note(findings, line, Rule::Q4));
     Ok(Test::Always)
 }
 
@@ -174,9 +176,10 @@ pub fn relation_test(
     ensures value { IfOk result (λ test. plain_test test ≡ (relation_test scope.now (plain_expr left.now) rel (plain_expr right.now)).value) }
     ensures noted { OnOk result (findings.new.items ≡ noted line findings.old.items (relation_test scope.now (plain_expr left.now) rel (plain_expr right.now)).broken) }
 {
-    let first = lone_side(scope, findings, line, left, lone(left))?;
-    let second = lone_side(scope, findings, line, right, lone(right))?;
-    demand(findings, line, Rule::Q4, has_item(left) || has_item(right))?;
+    let first = or_leave!(lone_side(scope, findings, line, left, lone(left)));
+    let second = or_leave!(lone_side(scope, findings, line, right, lone(right)), first);
+    let have_item = has_item(left) || has_item(right);
+    or_leave!(demand(findings, line, Rule::Q4, have_item), first, second);
     let way = compare_sides(side_kind(scope, &first), side_kind(scope, &second));
     compared(scope, findings, line, first, rel, second, way)
 }
@@ -214,8 +217,8 @@ pub fn misplaced(
     ensures value { IfOk result (λ test. plain_test test ≡ (misplaced scope.now rule (plain_expr expr.now) always).value) }
     ensures noted { OnOk result (findings.new.items ≡ noted line findings.old.items (misplaced scope.now rule (plain_expr expr.now) always).broken) }
 {
-    look_over(scope, findings, line, expr, lone(expr))?;
-    note(findings, line, rule)?;
+    or_leave!(look_over(scope, findings, line, expr, lone(expr)));
+    or_leave!(note(findings, line, rule));
     Ok(Test::Always)
 }
 
@@ -228,8 +231,8 @@ fn numeric_item(
     ensures value { IfOk result (λ test. plain_test test ≡ (numeric_item scope.now reference.now).value) }
     ensures noted { OnOk result (findings.new.items ≡ noted line findings.old.items (numeric_item scope.now reference.now).broken) }
 {
-    let place = scope.the_item(findings, line, reference)?;
-    demand(findings, line, Rule::Q5, is_testable(scope.form(place)))?;
+    let place = or_leave!(scope.the_item(findings, line, reference));
+    or_leave!(demand(findings, line, Rule::Q5, is_testable(scope.form(place))));
     Ok(Test::Numeric(place))
 }
 
@@ -260,7 +263,7 @@ fn sign_of(
     ensures value { IfOk result (λ test. plain_test test ≡ (sign_of scope.now asked (plain_sum sum)).value) }
     ensures noted { OnOk result (findings.new.items ≡ noted line findings.old.items (sign_of scope.now asked (plain_sum sum)).broken) }
 {
-    let zero = zero_sum(scope.alloc)?;
+    let zero = or_leave!(zero_sum(scope.alloc), sum);
     number_test(scope, findings, line, sum, sign_relation(asked), zero)
 }
 
@@ -274,9 +277,11 @@ fn sign_of_operand(
     ensures value { IfOk result (λ test. plain_test test ≡ (sign_of_operand scope.now asked given.now).value) }
     ensures noted { OnOk result (findings.new.items ≡ noted line findings.old.items (sign_of_operand scope.now asked given.now).broken) }
 {
-    let value = scope.operand(findings, line, given)?;
-    demand(findings, line, Rule::Q5, scope.is_number(&value))?;
-    let sum = one_atom(scope.alloc, atom_of(scope.alloc, value)?)?;
+    let value = or_leave!(scope.operand(findings, line, given));
+    let number = scope.is_number(&value);
+    or_leave!(demand(findings, line, Rule::Q5, number), value);
+    let atom = or_leave!(atom_of(scope.alloc, value));
+    let sum = or_leave!(one_atom(scope.alloc, atom));
     sign_of(scope, findings, line, asked, sum)
 }
 
@@ -295,7 +300,7 @@ pub fn signed_test(
     match alone {
         Some(operand) => sign_of_operand(scope, findings, line, asked, operand),
         None => {
-            let sum = scope.whole_sum(findings, line, expr)?;
+            let sum = or_leave!(scope.whole_sum(findings, line, expr));
             sign_of(scope, findings, line, asked, sum)
         }
     }

@@ -7,6 +7,7 @@ ghost use Rattle.cob_tree.specs.CondView.{plain_cond, plain_conj, plain_neg, pla
 ghost use Rattle.cob_tree.specs.StmtView.{plain_sel};
 ghost use Rattle.cob_program.specs.LogicView.{plain_logic, plain_test};
 ghost use Rattle.cob_tree.specs.Stmt.{range};
+ghost use Rattle.cob_program.specs.Logic.{test, always};
 ghost use Rattle.cob_data.specs.declared.end.Rule.TheVariants.{Q7};
 ghost use Rattle.cob_typed_exprs.specs.Judged.{noted, one, both};
 ghost use Rattle.cob_typed_conds.specs.Conditions.{walk_cond};
@@ -139,10 +140,11 @@ fn member_test(
     ensures noted { OnOk result (findings.new.items ≡ noted line findings.old.items (member_test scope.now place low high).broken) }
 {
     let comparable = may_equal(scope, place, &low) && may_equal(scope, place, &high);
-    demand(findings, line, Rule::Q7, comparable)?;
+    or_leave!(demand(findings, line, Rule::Q7, comparable), low, high);
+    let ranges = or_leave!(one_range(scope.alloc, low, high));
     Ok(Test::Member {
         item: place,
-        ranges: one_range(scope.alloc, low, high)?,
+        ranges,
     })
 }
 
@@ -160,7 +162,7 @@ fn value_of(
     match alone {
         Some(operand) => scope.operand(findings, line, operand),
         None => {
-            misplaced(scope, findings, line, Rule::Q7, expr)?;
+            drop(or_leave!(misplaced(scope, findings, line, Rule::Q7, expr)));
             Ok(Sender::Zero)
         }
     }
@@ -180,8 +182,8 @@ fn value_test(
 {
     match alone {
         Some(operand) => {
-            let value = scope.operand(findings, line, operand)?;
-            let copy = value.copied(scope.alloc)?;
+            let value = or_leave!(scope.operand(findings, line, operand));
+            let copy = or_leave!(value.copied(scope.alloc), value);
             member_test(scope, findings, line, place, copy, value)
         }
         None => misplaced(scope, findings, line, Rule::Q7, expr),
@@ -198,8 +200,8 @@ fn misplaced_condition(
     ensures value { IfOk result (λ logic. plain_logic logic ≡ (walk_cond scope.now (plain_cond cond.now)).value) }
     ensures noted { OnOk result (findings.new.items ≡ noted line findings.old.items (both (walk_cond scope.now (plain_cond cond.now)).broken (one Q7))) }
 {
-    let logic = condition(scope, findings, line, cond)?;
-    note(findings, line, Rule::Q7)?;
+    let logic = or_leave!(condition(scope, findings, line, cond));
+    or_leave!(note(findings, line, Rule::Q7), logic);
     Ok(logic)
 }
 
@@ -216,11 +218,11 @@ fn choice_of_item(
 {
     match value {
         Value::Plain(expr) => {
-            let test = value_test(scope, findings, line, place, expr, lone(expr))?;
+            let test = or_leave!(value_test(scope, findings, line, place, expr, lone(expr)));
             Ok(Logic::test(test))
         }
         Value::Denied(expr) => {
-            let nothing = misplaced(scope, findings, line, Rule::Q7, expr)?;
+            let nothing = or_leave!(misplaced(scope, findings, line, Rule::Q7, expr));
             Ok(Logic::test(nothing))
         }
         Value::Other => misplaced_condition(scope, findings, line, cond),
@@ -237,8 +239,8 @@ fn range_of_truth(
     ensures value { IfOk result (λ logic. plain_logic logic ≡ (selection scope.now Looked.Truth (range (plain_expr low.now) (plain_expr high.now))).value) }
     ensures noted { OnOk result (findings.new.items ≡ noted line findings.old.items (selection scope.now Looked.Truth (range (plain_expr low.now) (plain_expr high.now))).broken) }
 {
-    look_over(scope, findings, line, low, lone(low))?;
-    let nothing = misplaced(scope, findings, line, Rule::Q7, high)?;
+    or_leave!(look_over(scope, findings, line, low, lone(low)));
+    let nothing = or_leave!(misplaced(scope, findings, line, Rule::Q7, high));
     Ok(Logic::test(nothing))
 }
 
@@ -253,9 +255,52 @@ fn range_of_item(
     ensures value { IfOk result (λ logic. plain_logic logic ≡ (selection scope.now (Looked.Item place) (range (plain_expr low.now) (plain_expr high.now))).value) }
     ensures noted { OnOk result (findings.new.items ≡ noted line findings.old.items (selection scope.now (Looked.Item place) (range (plain_expr low.now) (plain_expr high.now))).broken) }
 {
-    let low = value_of(scope, findings, line, low, lone(low))?;
-    let high = value_of(scope, findings, line, high, lone(high))?;
-    Ok(Logic::test(member_test(scope, findings, line, place, low, high)?))
+    let low = or_leave!(value_of(scope, findings, line, low, lone(low)));
+    let high = or_leave!(value_of(scope, findings, line, high, lone(high)), low);
+    let test = or_leave!(member_test(scope, findings, line, place, low, high));
+    Ok(Logic::test(test))
+}
+
+/// ANY breaks the rule under TRUE.
+fn any_of_truth(findings: &mut Vec<Finding>, line: u32) -> Result<Logic, AllocError>
+    ensures value { IfOk result (λ logic. plain_logic logic ≡ test always) }
+    ensures noted { OnOk result (findings.new.items ≡ noted line findings.old.items (one Q7)) }
+{
+    or_leave!(note(findings, line, Rule::Q7));
+    Ok(Logic::test(Test::Always))
+}
+
+fn selection_of_truth(
+    scope: &Scope,
+    findings: &mut Vec<Finding>,
+    line: u32,
+    choice: &Sel,
+) -> Result<Logic, AllocError>
+    ensures value { IfOk result (λ logic. plain_logic logic ≡ (selection scope.now Looked.Truth (plain_sel choice.now)).value) }
+    ensures noted { OnOk result (findings.new.items ≡ noted line findings.old.items (selection scope.now Looked.Truth (plain_sel choice.now)).broken) }
+{
+    match choice {
+        Sel::Any => any_of_truth(findings, line),
+        Sel::Range(low, high) => range_of_truth(scope, findings, line, low, high),
+        Sel::Cond(cond) => condition(scope, findings, line, cond),
+    }
+}
+
+fn selection_of_item(
+    scope: &Scope,
+    findings: &mut Vec<Finding>,
+    line: u32,
+    place: u32,
+    choice: &Sel,
+) -> Result<Logic, AllocError>
+    ensures value { IfOk result (λ logic. plain_logic logic ≡ (selection scope.now (Looked.Item place) (plain_sel choice.now)).value) }
+    ensures noted { OnOk result (findings.new.items ≡ noted line findings.old.items (selection scope.now (Looked.Item place) (plain_sel choice.now)).broken) }
+{
+    match choice {
+        Sel::Any => Ok(Logic::test(Test::Always)),
+        Sel::Range(low, high) => range_of_item(scope, findings, line, place, low, high),
+        Sel::Cond(cond) => choice_of_item(scope, findings, line, place, cond, value_in(cond)),
+    }
 }
 
 /// What stands behind WHEN: under TRUE a condition; under an item ANY, a value or a range.
@@ -269,19 +314,8 @@ pub fn selection(
     ensures value { IfOk result (λ logic. plain_logic logic ≡ (selection scope.now looked (plain_sel choice.now)).value) }
     ensures noted { OnOk result (findings.new.items ≡ noted line findings.old.items (selection scope.now looked (plain_sel choice.now)).broken) }
 {
-    match (looked, choice) {
-        (Looked::Truth, Sel::Any) => {
-            note(findings, line, Rule::Q7)?;
-            Ok(Logic::test(Test::Always))
-        }
-        (Looked::Truth, Sel::Range(low, high)) => range_of_truth(scope, findings, line, low, high),
-        (Looked::Truth, Sel::Cond(cond)) => condition(scope, findings, line, cond),
-        (Looked::Item(_), Sel::Any) => Ok(Logic::test(Test::Always)),
-        (Looked::Item(place), Sel::Range(low, high)) => {
-            range_of_item(scope, findings, line, place, low, high)
-        }
-        (Looked::Item(place), Sel::Cond(cond)) => {
-            choice_of_item(scope, findings, line, place, cond, value_in(cond))
-        }
+    match looked {
+        Looked::Truth => selection_of_truth(scope, findings, line, choice),
+        Looked::Item(place) => selection_of_item(scope, findings, line, place, choice),
     }
 }

@@ -254,13 +254,9 @@ fn work_for(
     ensures value { IfOk result (λ made. plain_worked made ≡ (worked scope.now how (plain_sum common) receivers.now).value) }
     ensures noted { OnOk result (findings.new.items ≡ noted line findings.old.items (worked scope.now how (plain_sum common) receivers.now).broken) }
 {
-    let targets = targets(scope, findings, line, how, receivers)?;
-    demand(
-        findings,
-        line,
-        Rule::N5,
-        are_small_results(scope, &common, &targets),
-    )?;
+    let targets = or_leave!(targets(scope, findings, line, how, receivers), common);
+    let small = are_small_results(scope, &common, &targets);
+    or_leave!(demand(findings, line, Rule::N5, small), common, targets);
     Ok(Worked {
         common,
         targets,
@@ -279,7 +275,7 @@ pub fn add_to(
     ensures value { IfOk result (λ made. plain_worked made ≡ (add_to scope.now addends.now to.now).value) }
     ensures noted { OnOk result (findings.new.items ≡ noted line findings.old.items (add_to scope.now addends.now to.now).broken) }
 {
-    let common = summed(scope, findings, line, false, addends, None)?;
+    let common = or_leave!(summed(scope, findings, line, false, addends, None));
     work_for(scope, findings, line, How::Plus, common, to)
 }
 
@@ -295,7 +291,7 @@ pub fn add_giving(
     ensures value { IfOk result (λ made. plain_worked made ≡ (add_giving scope.now addends.now (option_copied to.entry) giving.now).value) }
     ensures noted { OnOk result (findings.new.items ≡ noted line findings.old.items (add_giving scope.now addends.now (option_copied to.entry) giving.now).broken) }
 {
-    let common = summed(scope, findings, line, false, addends, to)?;
+    let common = or_leave!(summed(scope, findings, line, false, addends, to));
     work_for(scope, findings, line, How::Whole, common, giving)
 }
 
@@ -310,7 +306,7 @@ pub fn subtract_from(
     ensures value { IfOk result (λ made. plain_worked made ≡ (subtract_from scope.now less.now from.now).value) }
     ensures noted { OnOk result (findings.new.items ≡ noted line findings.old.items (subtract_from scope.now less.now from.now).broken) }
 {
-    let common = summed(scope, findings, line, false, less, None)?;
+    let common = or_leave!(summed(scope, findings, line, false, less, None));
     work_for(scope, findings, line, How::Minus, common, from)
 }
 
@@ -326,7 +322,7 @@ pub fn subtract_giving(
     ensures value { IfOk result (λ made. plain_worked made ≡ (subtract_giving scope.now less.now from.now giving.now).value) }
     ensures noted { OnOk result (findings.new.items ≡ noted line findings.old.items (subtract_giving scope.now less.now from.now giving.now).broken) }
 {
-    let common = summed(scope, findings, line, true, less, Some(from))?;
+    let common = or_leave!(summed(scope, findings, line, true, less, Some(from)));
     work_for(scope, findings, line, How::Whole, common, giving)
 }
 
@@ -341,8 +337,8 @@ pub fn multiply_by(
     ensures value { IfOk result (λ made. plain_worked made ≡ (multiply_by scope.now factor.now by.now).value) }
     ensures noted { OnOk result (findings.new.items ≡ noted line findings.old.items (multiply_by scope.now factor.now by.now).broken) }
 {
-    let atom = scope.numeric_operand(findings, line, factor)?;
-    let common = one_atom(scope.alloc, atom)?;
+    let atom = or_leave!(scope.numeric_operand(findings, line, factor));
+    let common = or_leave!(one_atom(scope.alloc, atom));
     work_for(scope, findings, line, How::Times, common, by)
 }
 
@@ -358,9 +354,9 @@ pub fn multiply_giving(
     ensures value { IfOk result (λ made. plain_worked made ≡ (multiply_giving scope.now factor.now by.now giving.now).value) }
     ensures noted { OnOk result (findings.new.items ≡ noted line findings.old.items (multiply_giving scope.now factor.now by.now giving.now).broken) }
 {
-    let first = scope.numeric_operand(findings, line, factor)?;
-    let second = scope.numeric_operand(findings, line, by)?;
-    let common = one_by_other(scope.alloc, false, first, second)?;
+    let first = or_leave!(scope.numeric_operand(findings, line, factor));
+    let second = or_leave!(scope.numeric_operand(findings, line, by), first);
+    let common = or_leave!(one_by_other(scope.alloc, false, first, second));
     work_for(scope, findings, line, How::Whole, common, giving)
 }
 
@@ -375,8 +371,8 @@ pub fn divide_into(
     ensures value { IfOk result (λ made. plain_worked made ≡ (divide_into scope.now divisor.now into.now).value) }
     ensures noted { OnOk result (findings.new.items ≡ noted line findings.old.items (divide_into scope.now divisor.now into.now).broken) }
 {
-    let atom = scope.numeric_operand(findings, line, divisor)?;
-    let common = one_atom(scope.alloc, atom)?;
+    let atom = or_leave!(scope.numeric_operand(findings, line, divisor));
+    let common = or_leave!(one_atom(scope.alloc, atom));
     work_for(scope, findings, line, How::Under, common, into)
 }
 
@@ -423,7 +419,9 @@ fn with_remainder(
     match remainder {
         None => Ok(worked),
         Some(item) => {
-            let place = remainder_of(scope, findings, line, n, d, giving, &worked.targets, item)?;
+            let targets = &worked.targets;
+            let found = remainder_of(scope, findings, line, n, d, giving, targets, item);
+            let place = or_leave!(found, worked);
             Ok(Worked {
                 common: worked.common,
                 targets: worked.targets,
@@ -450,8 +448,8 @@ fn divided(
 {
     let above = scope.atom_size(&n);
     let below = scope.atom_size(&d);
-    let common = one_by_other(scope.alloc, true, n, d)?;
-    let worked = work_for(scope, findings, line, How::Whole, common, giving)?;
+    let common = or_leave!(one_by_other(scope.alloc, true, n, d));
+    let worked = or_leave!(work_for(scope, findings, line, How::Whole, common, giving));
     with_remainder(
         scope, findings, line, above, below, giving, worked, remainder,
     )
@@ -471,8 +469,8 @@ pub fn divide_giving(
     ensures value { IfOk result (λ made. plain_worked made ≡ (divide_giving scope.now first.now way second.now giving.now (option_copied remainder.entry)).value) }
     ensures noted { OnOk result (findings.new.items ≡ noted line findings.old.items (divide_giving scope.now first.now way second.now giving.now (option_copied remainder.entry)).broken) }
 {
-    let first = scope.numeric_operand(findings, line, first)?;
-    let second = scope.numeric_operand(findings, line, second)?;
+    let first = or_leave!(scope.numeric_operand(findings, line, first));
+    let second = or_leave!(scope.numeric_operand(findings, line, second), first);
     match way {
         Way::Into => divided(scope, findings, line, second, first, giving, remainder),
         Way::By => divided(scope, findings, line, first, second, giving, remainder),
@@ -490,6 +488,6 @@ pub fn compute(
     ensures value { IfOk result (λ made. plain_worked made ≡ (compute scope.now to.now (plain_expr value.now)).value) }
     ensures noted { OnOk result (findings.new.items ≡ noted line findings.old.items (compute scope.now to.now (plain_expr value.now)).broken) }
 {
-    let common = scope.whole_sum(findings, line, value)?;
+    let common = or_leave!(scope.whole_sum(findings, line, value));
     work_for(scope, findings, line, How::Whole, common, to)
 }

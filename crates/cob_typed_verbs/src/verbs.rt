@@ -18,8 +18,9 @@ use std::alloc::{AllocError, Global};
 fn plain_name(alloc: Global, name: &Name) -> Result<Ref, AllocError>
     ensures { IfOk result (λ reference. reference ≡ plain_name name.now) }
 {
+    let name = or_leave!(Name::of(alloc, name.get()));
     Ok(Ref {
-        name: Name::of(alloc, name.get())?,
+        name,
         of: Many::of(Vec::new(alloc)),
     })
 }
@@ -34,6 +35,15 @@ fn first_value(alloc: Global, ranges: &[Pair]) -> Result<Sender, AllocError>
     }
 }
 
+/// A list of one place.
+fn one_place(alloc: Global, place: u32) -> Result<Vec<u32>, AllocError>
+    ensures { IfOk result (λ places. places.items ≡ place ∷ []) }
+{
+    let mut places = Vec::new(alloc);
+    places.push(place)?;
+    Ok(places)
+}
+
 /// SET moves the first value to the item.
 fn set_flag(alloc: Global, flag: Option<&Flag>) -> Result<Act, AllocError>
     ensures { IfOk result (λ act. plain_act act ≡ set_flag (option_copied flag.entry)) }
@@ -41,9 +51,9 @@ fn set_flag(alloc: Global, flag: Option<&Flag>) -> Result<Act, AllocError>
     match flag {
         None => Ok(nothing()),
         Some(flag) => {
-            let mut to = Vec::new(alloc);
-            to.push(flag.item)?;
-            Ok(move_of(first_value(alloc, flag.ranges.get())?, to))
+            let to = or_leave!(one_place(alloc, flag.item));
+            let value = or_leave!(first_value(alloc, flag.ranges.get()), to);
+            Ok(move_of(value, to))
         }
     }
 }
@@ -127,8 +137,8 @@ pub fn move_act(
     ensures value { IfOk result (λ act. plain_act act ≡ (move_act scope.now from.now to.now).value) }
     ensures noted { OnOk result (findings.new.items ≡ noted line findings.old.items (move_act scope.now from.now to.now).broken) }
 {
-    let value = scope.operand(findings, line, from)?;
-    let places = receivers(scope, findings, line, &value, to)?;
+    let value = or_leave!(scope.operand(findings, line, from));
+    let places = or_leave!(receivers(scope, findings, line, &value, to), value);
     Ok(move_of(value, places))
 }
 
@@ -137,7 +147,7 @@ fn set_if(scope: &Scope, place: Option<u32>) -> Result<Act, AllocError>
 {
     match place {
         None => Ok(nothing()),
-        Some(place) => Ok(set_flag(scope.alloc, scope.flag_at(place))?),
+        Some(place) => set_flag(scope.alloc, scope.flag_at(place)),
     }
 }
 
@@ -151,10 +161,12 @@ pub fn set_act(
     ensures value { IfOk result (λ act. plain_act act ≡ (set_act scope.now name.now).value) }
     ensures noted { OnOk result (findings.new.items ≡ noted line findings.old.items (set_act scope.now name.now).broken) }
 {
-    let reference = plain_name(scope.alloc, name)?;
+    let reference = or_leave!(plain_name(scope.alloc, name));
     let something = scope.means_something(&reference);
-    let place = one_of_kind(findings, line, Rule::Q8, something, scope.flag(&reference))?;
-    Ok(set_if(scope, place)?)
+    let found = scope.flag(&reference);
+    drop(reference);
+    let place = or_leave!(one_of_kind(findings, line, Rule::Q8, something, found));
+    set_if(scope, place)
 }
 
 fn values_of(
@@ -183,7 +195,8 @@ pub fn show_act(
     ensures value { IfOk result (λ act. plain_act act ≡ (show_act scope.now operands.now).value) }
     ensures noted { OnOk result (findings.new.items ≡ noted line findings.old.items (show_act scope.now operands.now).broken) }
 {
-    Ok(show_of(values_of(scope, findings, line, operands)?))
+    let values = or_leave!(values_of(scope, findings, line, operands));
+    Ok(show_of(values))
 }
 
 // ---- files
@@ -197,10 +210,10 @@ fn the_file(
     ensures value { IfOk result (λ file. file ≡ (the_file scope.now name.now).value) }
     ensures noted { OnOk result (findings.new.items ≡ noted line findings.old.items (the_file scope.now name.now).broken) }
 {
-    let reference = plain_name(scope.alloc, name)?;
+    let reference = or_leave!(plain_name(scope.alloc, name));
     let something = scope.means_something(&reference);
-    let file = scope.file(name.get());
-    Ok(one_of_kind(findings, line, Rule::Q9, something, file)?)
+    drop(reference);
+    one_of_kind(findings, line, Rule::Q9, something, scope.file(name.get()))
 }
 
 /// Adds the file of this name, where there is one.
@@ -272,7 +285,7 @@ pub fn open_act(
 {
     let mut list = Vec::new(scope.alloc);
     for some in opens {
-        add_openings(scope, findings, line, some, &mut list)?;
+        or_leave!(add_openings(scope, findings, line, some, &mut list), list);
     }
     Ok(open_of(list))
 }
@@ -287,7 +300,8 @@ pub fn close_act(
     ensures value { IfOk result (λ act. plain_act act ≡ (close_act scope.now names.now).value) }
     ensures noted { OnOk result (findings.new.items ≡ noted line findings.old.items (close_act scope.now names.now).broken) }
 {
-    Ok(close_of(the_files(scope, findings, line, names)?))
+    let files = or_leave!(the_files(scope, findings, line, names));
+    Ok(close_of(files))
 }
 
 fn into_of(
@@ -353,16 +367,12 @@ fn from_of(
     ensures value { IfOk result (λ value. value ≡ (from_of scope.now written given.now).value) }
     ensures noted { OnOk result (findings.new.items ≡ noted line findings.old.items (from_of scope.now written given.now).broken) }
 {
-    let value = scope.operand(findings, line, given)?;
+    let value = or_leave!(scope.operand(findings, line, given));
     match written {
         None => Ok(value),
         Some(place) => {
-            demand(
-                findings,
-                line,
-                Rule::Q2,
-                scope.may_move(&value, scope.form(place)),
-            )?;
+            let may = scope.may_move(&value, scope.form(place));
+            or_leave!(demand(findings, line, Rule::Q2, may), value);
             Ok(value)
         }
     }
@@ -380,7 +390,10 @@ fn from_if(
 {
     match given {
         None => Ok(None),
-        Some(given) => Ok(Some(from_of(scope, findings, line, written, given)?)),
+        Some(given) => {
+            let value = or_leave!(from_of(scope, findings, line, written, given));
+            Ok(Some(value))
+        }
     }
 }
 
@@ -396,7 +409,8 @@ pub fn write_act(
     ensures noted { OnOk result (findings.new.items ≡ noted line findings.old.items (write_act scope.now reference.now (option_copied from.entry)).broken) }
 {
     let something = scope.means_something(reference);
-    let record = one_of_kind(findings, line, Rule::Q9, something, scope.record(reference))?;
-    let value = from_if(scope, findings, line, record, from)?;
+    let found = scope.record(reference);
+    let record = or_leave!(one_of_kind(findings, line, Rule::Q9, something, found));
+    let value = or_leave!(from_if(scope, findings, line, record, from));
     Ok(write_of(record.unwrap_or(0), value))
 }

@@ -7,8 +7,8 @@ pub loop-some-preserved : goal.loop-some-preserved
 loop-some-preserved c =
     let l = c.loop-some in
     let x = c.some-item.result in record {
-      value = openings_value c.args.scope.now c.args.opens.now l.some-index x l.list.items c.add_openings.new.list.items _ c.loop-some-test.true c.some-item.is c.in_ok-add_openings.ensures.value l.invariant.value;
-      noted = openings_noted c.args.scope.now c.args.opens.now l.some-index c.args.line x l.findings.items c.add_openings.new.findings.items _ c.loop-some-test.true c.some-item.is c.in_ok-add_openings.ensures.noted l.invariant.noted;
+      value = openings_value c.args.scope.now c.args.opens.now l.some-index x l.list.items c.add_openings.new.list.items _ c.loop-some-test.true c.some-item.is c.in-Ok.ensures.value l.invariant.value;
+      noted = openings_noted c.args.scope.now c.args.opens.now l.some-index c.args.line x l.findings.items c.add_openings.new.findings.items _ c.loop-some-test.true c.some-item.is c.in-Ok.ensures.noted l.invariant.noted;
     }
 
 pub returns-clause-value : goal.returns-clause-value
