@@ -375,7 +375,7 @@ pub fn divide_in(alloc: Global, lexemes: &[Lexeme]) -> Result<(Arithmetic, &[Lex
     ensures gives { Gives (λ x. (plain_arithmetic x.0, signs x.1.now)) result (divide_at (signs lexemes.now)) }
     ensures rest { IfOk result (λ x. length x.1.now ≤ length lexemes.now) }
 {
-    let (first, rest) = opnd_in(alloc, lexemes)?;
+    let (first, rest) = or_leave!(opnd_in(alloc, lexemes));
     match behind(Keyword::Into, rest) {
         Some(rest) => divide_into_in(alloc, first, rest),
         None => divide_by_in(alloc, first, rest),

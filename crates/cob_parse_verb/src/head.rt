@@ -12,7 +12,7 @@ use crate::arithmetic::{Arithmetic, add_in, compute_in, divide_in, multiply_in, 
 use crate::perform::perform_in;
 use crate::select::evaluate_in;
 use crate::simple::{
-    close_in, continued, display_in, exit, go_in, move_in, open_in, read_in, set_in, stop_in,
+    close_in, continue_in, display_in, exit_in, go_in, move_in, open_in, read_in, set_in, stop_in,
     write_in,
 };
 use crate::token::begin_in;
@@ -124,8 +124,8 @@ fn behind_in(
         Start::Evaluate => evaluate_in(alloc, lexemes),
         Start::Perform => perform_in(alloc, lexemes, room),
         Start::Go => go_in(alloc, lexemes),
-        Start::Exit => Ok((exit(), false, lexemes)),
-        Start::Continue => Ok((continued(), false, lexemes)),
+        Start::Exit => exit_in(lexemes),
+        Start::Continue => continue_in(lexemes),
         Start::Stop => stop_in(lexemes),
         Start::Open => open_in(alloc, lexemes),
         Start::Close => close_in(alloc, lexemes),

@@ -84,11 +84,12 @@ fn named_in(alloc: Global, lexemes: &[Lexeme], room: u32) -> Result<(Head, bool,
     ensures takes { IfOk result (λ x. x.1 ≡ takes_behind (plain_head x.0) NotRelates) }
     ensures rest { IfOk result (λ x. length x.2.now ≤ length lexemes.now) }
 {
-    let (name, rest) = name_at(alloc, lexemes)?;
+    let (name, rest) = or_leave!(name_at(alloc, lexemes));
     if !name_goes_on(rest) {
         return Ok((range(name, None, None), false, rest));
     }
     if counts(rest) {
+        drop(name);
         counted_in(alloc, lexemes)
     } else {
         ranged_in(alloc, name, rest, room)

@@ -80,7 +80,7 @@ fn sel_in(alloc: Global, lexemes: &[Lexeme], room: u32) -> Result<(Sel, bool, &[
     if let Some(rest) = behind(Keyword::Any, lexemes) {
         return Ok((Sel::Any, false, rest));
     }
-    let (cond, takes_not, rest) = cond_in(alloc, lexemes, room)?;
+    let (cond, takes_not, rest) = or_leave!(cond_in(alloc, lexemes, room));
     sel_behind(alloc, cond, takes_not, rest, room)
 }
 
@@ -105,11 +105,11 @@ pub fn choices_in(
     ensures takes { IfOk result (λ x. x.1 ≡ takes_listed takes_sel (is Whens) (map plain_sel x.0.items) NotRelates) }
     ensures rest { IfOk result (λ x. length x.2.now ≤ length lexemes.now) }
 {
-    let (first, mut takes_not, mut left) = choice_in(alloc, lexemes, room)?;
+    let (first, mut takes_not, mut left) = or_leave!(choice_in(alloc, lexemes, room));
     let mut choices = Vec::new(alloc);
     choices.push(first)?;
     'choices: while when_begins(left) {
-        let (sel, takes, after) = choice_in(alloc, left, room)?;
+        let (sel, takes, after) = or_leave!(choice_in(alloc, left, room), choices);
         choices.push(sel)?;
         takes_not = takes;
         left = after;

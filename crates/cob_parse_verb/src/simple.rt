@@ -4,7 +4,7 @@ ghost use Rattle.cob_tree.specs.Cues.{NotRelates};
 ghost use Rattle.cob_tree.specs.Stmt.{move, set, display, go, exit, continue, stop_run, open_, close, write};
 ghost use Rattle.cob_lexemes.specs.Steps.{signs, Gives};
 ghost use Rattle.cob_parse_verb.specs.Heads.{done, takes_behind};
-ghost use Rattle.cob_parse_verb.specs.Reading.{move_at, set_at, display_at, go_at, stop_at, open_at, close_at, written_at, write_at, read_at};
+ghost use Rattle.cob_parse_verb.specs.Reading.{move_at, set_at, display_at, go_at, exit_at, continue_at, stop_at, open_at, close_at, written_at, write_at, read_at};
 ghost use Rattle.cob_parse_verb.specs.VerbSteps.{plain_head};
 
 use crate::head::Head;
@@ -40,13 +40,13 @@ fn go(name: Name) -> Head
     Head::Done(Verb::Go(name))
 }
 
-pub fn exit() -> Head
+fn exit() -> Head
     ensures head { plain_head result ≡ done exit }
 {
     Head::Done(Verb::Exit)
 }
 
-pub fn continued() -> Head
+fn continued() -> Head
     ensures head { plain_head result ≡ done continue }
 {
     Head::Done(Verb::Continue)
@@ -120,6 +120,24 @@ pub fn go_in(alloc: Global, lexemes: &[Lexeme]) -> Result<(Head, bool, &[Lexeme]
 {
     let (name, rest) = or_leave!(name_at(alloc, lexemes));
     Ok((go(name), false, rest))
+}
+
+/// EXIT, behind which nothing stands.
+pub fn exit_in(lexemes: &[Lexeme]) -> Result<(Head, bool, &[Lexeme]), Halt>
+    ensures gives { Gives (λ x. (plain_head x.0, signs x.2.now)) result (exit_at (signs lexemes.now)) }
+    ensures takes { IfOk result (λ x. x.1 ≡ takes_behind (plain_head x.0) NotRelates) }
+    ensures rest { IfOk result (λ x. length x.2.now ≤ length lexemes.now) }
+{
+    Ok((exit(), false, lexemes))
+}
+
+/// CONTINUE, behind which nothing stands.
+pub fn continue_in(lexemes: &[Lexeme]) -> Result<(Head, bool, &[Lexeme]), Halt>
+    ensures gives { Gives (λ x. (plain_head x.0, signs x.2.now)) result (continue_at (signs lexemes.now)) }
+    ensures takes { IfOk result (λ x. x.1 ≡ takes_behind (plain_head x.0) NotRelates) }
+    ensures rest { IfOk result (λ x. length x.2.now ≤ length lexemes.now) }
+{
+    Ok((continued(), false, lexemes))
 }
 
 pub fn stop_in(lexemes: &[Lexeme]) -> Result<(Head, bool, &[Lexeme]), Halt>

@@ -6,4 +6,4 @@ use Rattle.cob_parse_verb.proofs.select.sel_in.Goals as goal
 
 pub returns-clause-gives : goal.returns-clause-gives
 returns-clause-gives c = gives_as _ c.sel_behind.result _ _
-    (sel_on_cond c.args.room (signs c.args.lexemes.now) (signs c.in_ok-cond.rest.now) (plain_cond c.in_ok-cond.cond) c.in_default.ensures.none c.in_ok-cond.ensures.gives) c.sel_behind.ensures.gives
+    (sel_on_cond c.args.room (signs c.args.lexemes.now) (signs c.in-Ok.given.2.now) (plain_cond c.in-Ok.given.0) c.in_default.ensures.none c.in-Ok.ensures.gives) c.sel_behind.ensures.gives
