@@ -52,12 +52,16 @@ impl<'a> Names<'a> {
         requires { HasFewPlaces layout.now }
         ensures { IfOk result (λ names. names ≡ layout.now) }
     {
+        let items = or_leave!(items_table(alloc, layout.items.get()));
+        let flags = or_leave!(flags_table(alloc, layout.flags.get()), items);
+        let files = or_leave!(files_table(alloc, layout.files.get()), items, flags);
+        let homes = or_leave!(homes_of(alloc, layout.files.get()), items, flags, files);
         Ok(Names {
             layout,
-            items: items_table(alloc, layout.items.get())?,
-            flags: flags_table(alloc, layout.flags.get())?,
-            files: files_table(alloc, layout.files.get())?,
-            homes: homes_of(alloc, layout.files.get())?,
+            items,
+            flags,
+            files,
+            homes,
         })
     }
 

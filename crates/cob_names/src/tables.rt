@@ -15,7 +15,7 @@ pub fn items_table<'a>(alloc: Global, items: &'a [Item]) -> Result<Table<'a>, Al
 {
     let mut table = Table::new(alloc);
     for item in items {
-        table.add(item.name.as_ref())?;
+        or_leave!(table.add(item.name.as_ref()), table);
     }
     Ok(table)
 }
@@ -27,7 +27,7 @@ pub fn flags_table<'a>(alloc: Global, flags: &'a [Flag]) -> Result<Table<'a>, Al
 {
     let mut table = Table::new(alloc);
     for flag in flags {
-        table.add(Some(&flag.name))?;
+        or_leave!(table.add(Some(&flag.name)), table);
     }
     Ok(table)
 }
@@ -39,7 +39,7 @@ pub fn files_table<'a>(alloc: Global, files: &'a [FileDecl]) -> Result<Table<'a>
 {
     let mut table = Table::new(alloc);
     for file in files {
-        table.add(Some(&file.name))?;
+        or_leave!(table.add(Some(&file.name)), table);
     }
     Ok(table)
 }

@@ -9,4 +9,4 @@ loop-file-init c = c.new-table.ensures (λ place. file_name (slice_get c.args.fi
 pub loop-file-preserved : goal.loop-file-preserved
 loop-file-preserved c =
     let here = slice_get_read c.args.files.now _ c.loop-file.file-index c.file-item.result refl c.loop-file-test.true c.file-item.is in
-    c.in_ok-add.ensures (λ place. file_name (slice_get c.args.files.now place)) c.loop-file.file-index c.loop-file.invariant (rw here)
+    c.in-Ok.ensures (λ place. file_name (slice_get c.args.files.now place)) c.loop-file.file-index c.loop-file.invariant (rw here)

@@ -9,4 +9,4 @@ loop-flag-init c = c.new-table.ensures (λ place. flag_name (slice_get c.args.fl
 pub loop-flag-preserved : goal.loop-flag-preserved
 loop-flag-preserved c =
     let here = slice_get_read c.args.flags.now _ c.loop-flag.flag-index c.flag-item.result refl c.loop-flag-test.true c.flag-item.is in
-    c.in_ok-add.ensures (λ place. flag_name (slice_get c.args.flags.now place)) c.loop-flag.flag-index c.loop-flag.invariant (rw here)
+    c.in-Ok.ensures (λ place. flag_name (slice_get c.args.flags.now place)) c.loop-flag.flag-index c.loop-flag.invariant (rw here)

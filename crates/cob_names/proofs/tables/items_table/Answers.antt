@@ -9,4 +9,4 @@ loop-item-init c = c.new-table.ensures (λ place. item_name (slice_get c.args.it
 pub loop-item-preserved : goal.loop-item-preserved
 loop-item-preserved c =
     let here = slice_get_read c.args.items.now _ c.loop-item.item-index c.item-item.result refl c.loop-item-test.true c.item-item.is in
-    c.in_ok-add.ensures (λ place. item_name (slice_get c.args.items.now place)) c.loop-item.item-index c.loop-item.invariant (rw here (sym c.as_ref.ensures.value))
+    c.in-Ok.ensures (λ place. item_name (slice_get c.args.items.now place)) c.loop-item.item-index c.loop-item.invariant (rw here (sym c.as_ref.ensures.value))

@@ -11,8 +11,8 @@ use Rattle.cob_names.proofs.names.Names.of.Goals as goal
 pub invariant_of-result : goal.invariant_of-result
 invariant_of-result c = record {
   few = c.requires;
-  items_are = subst (λ (xs : List Item). IsTable c.in_ok-items_table.field-0 (λ place. item_name (slice_get xs place)) (length xs)) c.get.ensures c.in_ok-items_table.ensures;
-  flags_are = subst (λ (xs : List Flag). IsTable c.in_ok-flags_table.field-0 (λ place. flag_name (slice_get xs place)) (length xs)) c.get-2.ensures c.in_ok-flags_table.ensures;
-  files_are = subst (λ (xs : List FileDecl). IsTable c.in_ok-files_table.field-0 (λ place. file_name (slice_get xs place)) (length xs)) c.get-3.ensures c.in_ok-files_table.ensures;
-  homes_are = subst (λ (xs : List FileDecl). HasHomes c.in_ok-homes_of.field-0 xs) c.get-4.ensures c.in_ok-homes_of.ensures;
+  items_are = subst (λ (xs : List Item). IsTable c.in-Ok.given (λ place. item_name (slice_get xs place)) (length xs)) c.get.ensures c.in-Ok.ensures;
+  flags_are = subst (λ (xs : List Flag). IsTable c.in-Ok-flags_table.given (λ place. flag_name (slice_get xs place)) (length xs)) c.get-2.ensures c.in-Ok-flags_table.ensures;
+  files_are = subst (λ (xs : List FileDecl). IsTable c.in-Ok-files_table.given (λ place. file_name (slice_get xs place)) (length xs)) c.get-3.ensures c.in-Ok-files_table.ensures;
+  homes_are = subst (λ (xs : List FileDecl). HasHomes c.in-Ok-homes_of.given xs) c.get-4.ensures c.in-Ok-homes_of.ensures;
 }
