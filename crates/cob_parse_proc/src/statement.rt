@@ -253,8 +253,8 @@ fn stmt_in(alloc: Global, lexemes: &[Lexeme], room: u32) -> Result<(Stmt, bool, 
     ensures takes { IfOk result (λ x. x.1 ≡ may (takes_stmt (plain_stmt x.0))) }
     ensures rest { IfOk result (λ x. length x.2.now < length lexemes.now) }
 {
-    let (begin, head, takes_not, rest) = head_in(alloc, lexemes, room)?;
-    let (verb, takes_not, rest) = verb_in(alloc, head, takes_not, rest, room)?;
+    let (begin, head, takes_not, rest) = or_leave!(head_in(alloc, lexemes, room));
+    let (verb, takes_not, rest) = or_leave!(verb_in(alloc, head, takes_not, rest, room));
     Ok((Stmt::of(begin.line, verb), takes_not, rest))
 }
 
@@ -274,10 +274,10 @@ pub fn stmts_in(
         return Err(full(lexemes));
     }
     let mut stmts = with_room(alloc)?;
-    let (first, mut takes_not, mut left) = stmt_in(alloc, lexemes, room - 1)?;
+    let (first, mut takes_not, mut left) = or_leave!(stmt_in(alloc, lexemes, room - 1), stmts);
     stmts.push(first)?;
     'stmts: while starts(left) {
-        let (stmt, takes, rest) = stmt_in(alloc, left, room - 1)?;
+        let (stmt, takes, rest) = or_leave!(stmt_in(alloc, left, room - 1), stmts);
         stmts.push(stmt)?;
         takes_not = takes;
         left = rest;

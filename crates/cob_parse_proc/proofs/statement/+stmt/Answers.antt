@@ -224,21 +224,19 @@ verb_in-returns-in-Read-clause-rest t c = c.with_ends.ensures.rest (length c.arg
 
 -- ---- one statement
 
-pub stmt_in-returns-in_err-begin-clause-gives : goal.stmt_in-returns-in_err-begin-clause-gives
-stmt_in-returns-in_err-begin-clause-gives t c = gives_wrong _ c.from_residual.result _ c.in_err-begin.field-0.0 c.from_residual.ensures.1
-    (stmt_wrong (stmts_at c.args.room) c.args.room (signs c.args.lexemes.now) c.in_err-begin.field-0.0 c.in_err-begin.ensures.gives)
+pub stmt_in-returns-in-Err-clause-gives : goal.stmt_in-returns-in-Err-clause-gives
+stmt_in-returns-in-Err-clause-gives t c = stmt_wrong (stmts_at c.args.room) c.args.room (signs c.args.lexemes.now) c.in-Err.halt c.in-Err.ensures.gives
 
-pub stmt_in-returns-in_err-verb-clause-gives : goal.stmt_in-returns-in_err-verb-clause-gives
-stmt_in-returns-in_err-verb-clause-gives t c = gives_wrong _ c.from_residual-in_err-verb.result _ c.in_err-verb.field-0.0 c.from_residual-in_err-verb.ensures.1
-    (stmt_second (stmts_at c.args.room) c.args.room (signs c.args.lexemes.now) (signs c.in_ok-begin.rest.now) c.in_ok-begin.begin (plain_head c.in_ok-begin.head) c.in_ok-begin.takes_not c.in_ok-begin.ensures.gives c.in_ok-begin.ensures.takes c.in_err-verb.field-0.0 c.in_err-verb.ensures.gives)
+pub stmt_in-returns-in-Err-verb_in-clause-gives : goal.stmt_in-returns-in-Err-verb_in-clause-gives
+stmt_in-returns-in-Err-verb_in-clause-gives t c = stmt_second (stmts_at c.args.room) c.args.room (signs c.args.lexemes.now) (signs c.in-Ok.given.3.now) c.in-Ok.given.0 (plain_head c.in-Ok.given.1) c.in-Ok.given.2 c.in-Ok.ensures.gives c.in-Ok.ensures.takes c.in-Err-verb_in.halt c.in-Err-verb_in.ensures.gives
 
 pub stmt_in-returns-clause-gives : goal.stmt_in-returns-clause-gives
-stmt_in-returns-clause-gives t c = stmt_read (stmts_at c.args.room) c.args.room (signs c.args.lexemes.now) (signs c.in_ok-begin.rest.now) c.in_ok-begin.begin (plain_head c.in_ok-begin.head) c.in_ok-begin.takes_not c.in_ok-begin.ensures.gives c.in_ok-begin.ensures.takes (plain_verb c.in_ok-verb.verb) (signs c.in_ok-verb.rest.now) (plain_stmt c.of.result) c.in_ok-verb.ensures.gives c.of.ensures
+stmt_in-returns-clause-gives t c = stmt_read (stmts_at c.args.room) c.args.room (signs c.args.lexemes.now) (signs c.in-Ok.given.3.now) c.in-Ok.given.0 (plain_head c.in-Ok.given.1) c.in-Ok.given.2 c.in-Ok.ensures.gives c.in-Ok.ensures.takes (plain_verb c.in-Ok-verb_in.given.0) (signs c.in-Ok-verb_in.given.2.now) (plain_stmt c.of.result) c.in-Ok-verb_in.ensures.gives c.of.ensures
 
 pub stmt_in-returns-clause-takes : goal.stmt_in-returns-clause-takes
 stmt_in-returns-clause-takes t c =
-    c.in_ok-verb.ensures.takes
-    ∙ (stmt_takes (stmts_at c.args.room) c.args.room (signs c.args.lexemes.now) (signs c.in_ok-begin.rest.now) c.in_ok-begin.begin (plain_head c.in_ok-begin.head) c.in_ok-begin.takes_not c.in_ok-begin.ensures.gives c.in_ok-begin.ensures.takes (plain_verb c.in_ok-verb.verb) (signs c.in_ok-verb.rest.now) c.in_ok-verb.ensures.gives
+    c.in-Ok-verb_in.ensures.takes
+    ∙ (stmt_takes (stmts_at c.args.room) c.args.room (signs c.args.lexemes.now) (signs c.in-Ok.given.3.now) c.in-Ok.given.0 (plain_head c.in-Ok.given.1) c.in-Ok.given.2 c.in-Ok.ensures.gives c.in-Ok.ensures.takes (plain_verb c.in-Ok-verb_in.given.0) (signs c.in-Ok-verb_in.given.2.now) c.in-Ok-verb_in.ensures.gives
     ∙ sym (ap (λ (s : Stmt). may (takes_stmt s)) c.of.ensures))
 
 -- ---- the statements
@@ -246,31 +244,29 @@ stmt_in-returns-clause-takes t c =
 pub stmts_in-returns-then-room-eq0-clause-gives : goal.stmts_in-returns-then-room-eq0-clause-gives
 stmts_in-returns-then-room-eq0-clause-gives t c = stmts_full c.args.room (signs c.args.lexemes.now) c.full.result c.if-room-eq0.true c.full.ensures
 
-pub stmts_in-returns-in_err-first-clause-gives : goal.stmts_in-returns-in_err-first-clause-gives
-stmts_in-returns-in_err-first-clause-gives t c = gives_wrong _ c.from_residual-in_err-first.result _ c.in_err-first.field-0.0 c.from_residual-in_err-first.ensures.1
-    (fails_as c.in_err-first.field-0.0 _ _ (stmts_some c.args.room (signs c.args.lexemes.now) c.if-room-eq0.false) (listed_wrong (stmt_with (stmts_at (c.args.room - 1)) (c.args.room - 1)) (signs c.args.lexemes.now) c.in_err-first.field-0.0 c.in_err-first.ensures.gives))
+pub stmts_in-returns-in-Err-clause-gives : goal.stmts_in-returns-in-Err-clause-gives
+stmts_in-returns-in-Err-clause-gives t c = fails_as c.in-Err.halt _ _ (stmts_some c.args.room (signs c.args.lexemes.now) c.if-room-eq0.false) (listed_wrong (stmt_with (stmts_at (c.args.room - 1)) (c.args.room - 1)) (signs c.args.lexemes.now) c.in-Err.halt c.in-Err.ensures.gives)
 
 pub stmts_in-stmts-init : goal.stmts_in-stmts-init
 stmts_in-stmts-init t c =
-    let one : map plain_stmt c.push.new.self.items ≡ plain_stmt c.in_ok-first.first ∷ [] = rw (c.in_ok-push.ensures.items, c.in_ok-stmts.ensures) refl in
+    let one : map plain_stmt c.push.new.self.items ≡ plain_stmt c.in-Ok.given.0 ∷ [] = rw (c.in_ok-push.ensures.items, c.in_ok-stmts.ensures) refl in
     record {
-      listed = subst (λ (ss : List Stmt). Listed (stmt_with (stmts_at (c.args.room - 1)) (c.args.room - 1)) ss (signs c.in_ok-first.left.now) (signs c.args.lexemes.now)) (sym one) (listed_first (stmt_with (stmts_at (c.args.room - 1)) (c.args.room - 1)) (signs c.args.lexemes.now) (signs c.in_ok-first.left.now) (plain_stmt c.in_ok-first.first) c.in_ok-first.ensures.gives);
-      takes = c.in_ok-first.ensures.takes ∙ sym (ap (λ (ss : List Stmt). may (takes_stmts (stmts_of ss))) one ∙ stmts_may [] (plain_stmt c.in_ok-first.first));
-      shorter = c.in_ok-first.ensures.rest;
+      listed = subst (λ (ss : List Stmt). Listed (stmt_with (stmts_at (c.args.room - 1)) (c.args.room - 1)) ss (signs c.in-Ok.given.2.now) (signs c.args.lexemes.now)) (sym one) (listed_first (stmt_with (stmts_at (c.args.room - 1)) (c.args.room - 1)) (signs c.args.lexemes.now) (signs c.in-Ok.given.2.now) (plain_stmt c.in-Ok.given.0) c.in-Ok.ensures.gives);
+      takes = c.in-Ok.ensures.takes ∙ sym (ap (λ (ss : List Stmt). may (takes_stmts (stmts_of ss))) one ∙ stmts_may [] (plain_stmt c.in-Ok.given.0));
+      shorter = c.in-Ok.ensures.rest;
     }
 
-pub stmts_in-returns-in_err-stmt-clause-gives : goal.stmts_in-returns-in_err-stmt-clause-gives
-stmts_in-returns-in_err-stmt-clause-gives t c = gives_wrong _ c.from_residual-in_err-stmt.result _ c.in_err-stmt.field-0.0 c.from_residual-in_err-stmt.ensures.1
-    (fails_as c.in_err-stmt.field-0.0 _ _ (stmts_some c.args.room (signs c.args.lexemes.now) c.if-room-eq0.false) (listed_fail (stmt_with (stmts_at (c.args.room - 1)) (c.args.room - 1)) (map plain_stmt c.stmts.stmts.items) (signs c.stmts.left.now) (signs c.args.lexemes.now) c.in_err-stmt.field-0.0 c.stmts.invariant.listed (sym c.starts.ensures ∙ c.stmts-test.true) c.in_err-stmt.ensures.gives))
+pub stmts_in-returns-in-Err-stmt_in-clause-gives : goal.stmts_in-returns-in-Err-stmt_in-clause-gives
+stmts_in-returns-in-Err-stmt_in-clause-gives t c = fails_as c.in-Err-stmt_in.halt _ _ (stmts_some c.args.room (signs c.args.lexemes.now) c.if-room-eq0.false) (listed_fail (stmt_with (stmts_at (c.args.room - 1)) (c.args.room - 1)) (map plain_stmt c.stmts.stmts.items) (signs c.stmts.left.now) (signs c.args.lexemes.now) c.in-Err-stmt_in.halt c.stmts.invariant.listed (sym c.starts.ensures ∙ c.stmts-test.true) c.in-Err-stmt_in.ensures.gives)
 
 pub stmts_in-stmts-preserved : goal.stmts_in-stmts-preserved
 stmts_in-stmts-preserved t c =
-    let pushed : map plain_stmt c.push-in-stmts.new.self.items ≡ map plain_stmt c.stmts.stmts.items ++ plain_stmt c.in_ok-stmt.stmt ∷ [] = rw c.in_ok-push-2.ensures.items (map_push plain_stmt c.stmts.stmts.items c.in_ok-stmt.stmt) in
+    let pushed : map plain_stmt c.push-in-stmts.new.self.items ≡ map plain_stmt c.stmts.stmts.items ++ plain_stmt c.in-Ok-stmt_in.given.0 ∷ [] = rw c.in_ok-push-2.ensures.items (map_push plain_stmt c.stmts.stmts.items c.in-Ok-stmt_in.given.0) in
     record {
-      listed = subst (λ (ss : List Stmt). Listed (stmt_with (stmts_at (c.args.room - 1)) (c.args.room - 1)) ss (signs c.in_ok-stmt.rest.now) (signs c.args.lexemes.now)) (sym pushed)
-          (listed_on (stmt_with (stmts_at (c.args.room - 1)) (c.args.room - 1)) (map plain_stmt c.stmts.stmts.items) (signs c.stmts.left.now) (signs c.args.lexemes.now) (signs c.in_ok-stmt.rest.now) (plain_stmt c.in_ok-stmt.stmt) c.stmts.invariant.listed (sym c.starts.ensures ∙ c.stmts-test.true) c.in_ok-stmt.ensures.gives (simp length-map (omega (arith, c.in_ok-stmt.ensures.rest))));
-      takes = c.in_ok-stmt.ensures.takes ∙ sym (ap (λ (ss : List Stmt). may (takes_stmts (stmts_of ss))) pushed ∙ stmts_may (map plain_stmt c.stmts.stmts.items) (plain_stmt c.in_ok-stmt.stmt));
-      shorter = omega (arith, c.in_ok-stmt.ensures.rest, c.stmts.invariant.shorter);
+      listed = subst (λ (ss : List Stmt). Listed (stmt_with (stmts_at (c.args.room - 1)) (c.args.room - 1)) ss (signs c.in-Ok-stmt_in.given.2.now) (signs c.args.lexemes.now)) (sym pushed)
+          (listed_on (stmt_with (stmts_at (c.args.room - 1)) (c.args.room - 1)) (map plain_stmt c.stmts.stmts.items) (signs c.stmts.left.now) (signs c.args.lexemes.now) (signs c.in-Ok-stmt_in.given.2.now) (plain_stmt c.in-Ok-stmt_in.given.0) c.stmts.invariant.listed (sym c.starts.ensures ∙ c.stmts-test.true) c.in-Ok-stmt_in.ensures.gives (simp length-map (omega (arith, c.in-Ok-stmt_in.ensures.rest))));
+      takes = c.in-Ok-stmt_in.ensures.takes ∙ sym (ap (λ (ss : List Stmt). may (takes_stmts (stmts_of ss))) pushed ∙ stmts_may (map plain_stmt c.stmts.stmts.items) (plain_stmt c.in-Ok-stmt_in.given.0));
+      shorter = omega (arith, c.in-Ok-stmt_in.ensures.rest, c.stmts.invariant.shorter);
     }
 
 pub stmts_in-returns-clause-gives : goal.stmts_in-returns-clause-gives
