@@ -1,9 +1,9 @@
 -- Which operations the nodes of a statement have, by what it does.
-use Rattle.std.specs.Prelude.{◌≡◌, ◌≤◌, ◌<◌, ℕ, Bool, true, false, length, Some, is_some}
+use Rattle.std.specs.Prelude.{◌≡◌, ◌<◌, ℕ, Bool, true, false, length, is_some}
 use Rattle.cob_program.specs.Act.{Turns, times, varying, Act, move, arith, if_, evaluate, perform, go, nothing, stop, open_files, close_files, read, write, show, Program}
 use Rattle.cob_runs.specs.Acts.{file_from}
 use Rattle.cob_runs.specs.Steps.{is_given}
-use Rattle.cob_runs.specs.Effects.{act_at, tests_in_act}
+use Rattle.cob_runs.specs.Effects.{tests_in_act}
 use Rattle.cob_plan.specs.declared.node.Op.{Op}
 use Rattle.cob_plan.specs.declared.node.Op.TheVariants as op
 use Rattle.cob_plan.specs.declared.node.PlanNode.{PlanNode}
@@ -108,7 +108,3 @@ BeginsRead starts o _ = Unit {0}
 pub record IsFitting (p : Program) (s : PlanNode) (a : Act) : Type 0 where
   pub fits : Fits p s.op a
   pub read : BeginsRead s.starts s.op a
-
--- where it has a statement
-abbrev pub FitsIts : Program → PlanNode → Type 0
-FitsIts p s = (a : Act) → 1 ≤ s.statement → act_at p s.statement ≡ Some a → IsFitting p s a
