@@ -6,7 +6,7 @@ use Rattle.cob_program.specs.Act.{Act, move, arith, if_, evaluate, perform, go, 
 use Rattle.cob_interp.specs.declared.parts.Call.TheVariants as call
 use Rattle.cob_interp.specs.Setting.{IsCall}
 use Rattle.cob_plan.specs.declared.node.Op.{Op}
-use Rattle.cob_interp.specs.Doing.{IsPlain, IsQuiet}
+use Rattle.cob_interp.specs.Doing.{IsPlain}
 
 module _ (os : Bor (List Opening)) where
   pub is_open : (a : Act) → IsCall a (call.Open os) → a ≡ open_files os.now
@@ -40,22 +40,6 @@ module _ (fs : Bor (List ℕ)) where
   is_close (write r from) is = absurd is
   is_close (show xs) is = absurd is
 
--- a READ's later nodes
-pub quiet_read : (a : Act) (file : ℕ) → IsCall a (call.Read file) → (o : Op) → IsQuiet o → IsPlain o a
-quiet_read (open_files os) file is o quiet = absurd is
-quiet_read (close_files xs) file is o quiet = absurd is
-quiet_read (read f into end fine) file is o quiet = quiet
-quiet_read (move x places) file is o quiet = absurd is
-quiet_read (arith sum targets remainder size fine) file is o quiet = absurd is
-quiet_read (if_ t held other) file is o quiet = absurd is
-quiet_read (evaluate ws other) file is o quiet = absurd is
-quiet_read (perform body turns) file is o quiet = absurd is
-quiet_read (go para) file is o quiet = absurd is
-quiet_read nothing file is o quiet = absurd is
-quiet_read stop file is o quiet = absurd is
-quiet_read (write r from) file is o quiet = absurd is
-quiet_read (show xs) file is o quiet = absurd is
-
 pub plain_other : (o : Op) (a : Act) → IsCall a call.Other → IsPlain o a
 plain_other o (open_files os) is = absurd is
 plain_other o (close_files xs) is = absurd is
@@ -71,4 +55,4 @@ plain_other o stop is = tt
 plain_other o (write r from) is = tt
 plain_other o (show xs) is = tt
 
-pub ruleset calls = (is_close, quiet_read, plain_other)
+pub ruleset calls = (is_close, plain_other)

@@ -43,3 +43,4 @@ pub mod Emptying
 pub mod RoomLemmas
 pub mod Starting
 mod OpLemmas
+pub mod FitLemmas

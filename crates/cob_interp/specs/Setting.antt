@@ -1,12 +1,18 @@
 -- What holds of a program that is run, its plan and its paths.
-use Rattle.std.specs.Prelude.{◌≡◌, ℕ, true, List, map, String, string_bytes}
+use Rattle.std.specs.Prelude.{◌≡◌, ◌≤◌, ◌<◌, ℕ, suc, Bool, true, false, List, length, map, Some, Result, IfOk, String, string_bytes}
 use Rattle.std.specs.declared.alloc.Global.{Global}
 use Rattle.std.specs.List.{All}
 use Rattle.cob_program.specs.declared.act.Opening.{Opening}
 use Rattle.cob_program.specs.Act.{Act, open_files, close_files, read, Program}
 use Rattle.cob_program.specs.ActView.{plain_act, plain_program}
 use Rattle.cob_plan.specs.Plan.{ArePlanNodes, IsPlanNode, IsStatement}
-use Rattle.cob_plan.specs.Fitting.{IsFitting, FitsIts}
+use Rattle.cob_plan.specs.declared.node.Op.{Op}
+use Rattle.cob_plan.specs.Fitting.{IsFitting}
+use Rattle.cob_plan.specs.Stepping as stepping
+use Rattle.cob_plan.specs.Stepping.{OpLeadsOn, HasSteps}
+use Rattle.cob_graph.specs.Lookup.{node_at}
+use Rattle.cob_runs.specs.Effects.{act_at}
+use Rattle.cob_interp.specs.declared.ends.RunEnd.{RunEnd}
 use Rattle.cob_interp.specs.declared.parts.Call.{Call}
 use Rattle.cob_interp.specs.declared.parts.Call.TheVariants as call
 use Rattle.cob_interp.specs.declared.setting.Setting.{Setting}
@@ -24,7 +30,7 @@ paths_of s = texts s.paths.now
 
 pub record IsReady (s : Setting) : Type 0 where
   pub nodes : ArePlanNodes s.graph.now s.plan.nodes.items
-  pub fits : All (FitsIts (program_of s)) s.plan.nodes.items
+  pub steps : HasSteps (program_of s) s.plan.nodes.items s.plan.statements.items
   pub statements : All (IsStatement (program_of s)) s.plan.statements.items
   pub distinct : AreDistinct (paths_of s)
 
@@ -39,6 +45,32 @@ pub record IsPlace (s : Setting) (node : ℕ) (x : Place) : Type 0 where
   pub statement : IsStatement (program_of s) x.statement.now
   pub fits : IsFitting (program_of s) x.plan_node.now (plain_act x.statement.now.act.now)
   pub number : x.statement.now.number ≡ x.plan_node.now.statement
+
+-- It lies before the last node, and leads on.
+pub record FitsPlace (s : Setting) (node : ℕ) (x : Place) : Type 0 where
+  pub above : 1 ≤ node
+  pub below : node < length s.plan.nodes.items
+  pub at : node_at s.plan.nodes.items node ≡ Some x.plan_node.now
+  pub leads : OpLeadsOn s.plan.nodes.items node x.plan_node.now.statement x.plan_node.now.op
+
+-- the node that is answered is one to which a node of a statement leads
+abbrev pub LeadsOn : Setting → ℕ → ℕ → Result ℕ RunEnd → Type 0
+LeadsOn s from statement result = IfOk result (λ next. stepping.LeadsOn s.plan.nodes.items statement (suc from) next)
+
+-- or one to which an operation leads
+abbrev pub LeadsBy : Setting → Op → Result ℕ RunEnd → Type 0
+LeadsBy s o result =
+    (from statement : ℕ) → OpLeadsOn s.plan.nodes.items from statement o → LeadsOn s from statement result
+
+-- an act that neither opens nor closes files
+abbrev pub is_uncalled : Act → Bool
+is_uncalled (open_files os) = false
+is_uncalled (close_files fs) = false
+is_uncalled _ = true
+
+-- the statement with a number neither opens nor closes files
+abbrev pub IsUncalled : Setting → ℕ → Type 0
+IsUncalled s statement = (a : Act) → act_at (program_of s) statement ≡ Some a → is_uncalled a ≡ true
 
 -- A place has the plan's node with a number, at which a step begins, and that node's statement.
 pub record StartsAt (s : Setting) (node : ℕ) (x : Place) : Type 0 where

@@ -5,7 +5,7 @@ ghost use Rattle.cob_program.specs.Act.{open_files, close_files};
 ghost use Rattle.cob_program.specs.ActView.{plain_act};
 ghost use Rattle.cob_interp.specs.Ends.{UnlessRefused};
 ghost use Rattle.cob_interp.specs.Running.{Outside, outside};
-ghost use Rattle.cob_interp.specs.Setting.{IsReady, IsPlace, IsPlaced, paths_of};
+ghost use Rattle.cob_interp.specs.Setting.{IsReady, IsPlace, IsPlaced, LeadsBy, paths_of};
 ghost use Rattle.cob_interp.specs.Meeting.{IfFailed};
 ghost use Rattle.cob_interp.specs.Touching.{Touches, ClosesOnly, makes_none};
 ghost use Rattle.cob_interp.specs.Doing.{IsPlain, halted, DoesPart, Leads};
@@ -73,6 +73,7 @@ pub fn do_plain(
         → Leads setting.now budget step node now now world.old.world world.new.world result }
     ensures places { UnlessRefused result (KeepsPlaces world.old.world.files world.new.world.files) }
     ensures fine { IfFailed result ⊥ }
+    ensures on { LeadsBy setting.now place.now.plan_node.now.op result }
 {
     do_part(alloc, setting, place, world, step)
 }
@@ -110,6 +111,7 @@ pub fn do_close<F: Files>(
         (F.state files.new) }
     ensures closes { IfOk result (λ _. ClosesOnly (paths_of setting.now) (F.state files.old) (F.state files.new)
         world.old.world world.new.world) }
+    ensures on { LeadsBy setting.now place.now.plan_node.now.op result }
 {
     let Op::Close { file, .. } = place.plan_node.op else {
         unreachable!();

@@ -4,7 +4,7 @@ ghost use Rattle.batch_io.specs.SinkState.{SinkState};
 ghost use Rattle.cob_program.specs.Act.{open_files};
 ghost use Rattle.cob_program.specs.ActView.{plain_act};
 ghost use Rattle.cob_interp.specs.Running.{outside};
-ghost use Rattle.cob_interp.specs.Setting.{IsReady, IsPlace, IsPlaced, paths_of};
+ghost use Rattle.cob_interp.specs.Setting.{IsReady, IsPlace, IsPlaced, LeadsBy, paths_of};
 ghost use Rattle.cob_interp.specs.Meeting.{IsMetBy};
 ghost use Rattle.cob_interp.specs.Touching.{Makes, OpensOnly, makes_in};
 ghost use Rattle.cob_interp.specs.Tracking.{AreLeft, AreOpen, ArePlaced, Tracks};
@@ -91,6 +91,7 @@ pub fn do_open<F: Files>(
         (F.state files.old) (F.state files.new) }
     ensures opens { IfOk result (λ _. OpensOnly world.old.world world.new.world) }
     ensures met { IsMetBy (open_files openings.now) result }
+    ensures on { LeadsBy setting.now place.now.plan_node.now.op result }
 {
     let Op::Open { file, .. } = place.plan_node.op else {
         unreachable!();

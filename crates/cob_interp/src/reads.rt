@@ -9,7 +9,7 @@ ghost use Rattle.cob_interp.specs.Doing.{ReadsPart};
 ghost use Rattle.cob_interp.specs.Meeting.{FailsBy, IfFailed};
 ghost use Rattle.cob_interp.specs.Readying.{GivesWindow, IsRestOr, IsReadOn, settled};
 ghost use Rattle.cob_interp.specs.Running.{Outside, outside, Stands, Arrives};
-ghost use Rattle.cob_interp.specs.Setting.{IsReady, StartsAt, IsCall, IsPlaced, program_of, paths_of};
+ghost use Rattle.cob_interp.specs.Setting.{IsReady, StartsAt, IsCall, IsPlaced, LeadsBy, program_of, paths_of};
 ghost use Rattle.cob_interp.specs.Tracking.{IsHeldFor, AreLeft, AreOpen, ArePlaced, Tracks};
 
 use crate::ends::RunEnd;
@@ -119,6 +119,7 @@ fn do_window<F: Files>(
         world.old.world world.new.world result }
     ensures fault { FailsBy false result }
     ensures still { IfFailed result (world.new.world ≡ world.old.world) }
+    ensures on { LeadsBy setting.now place.now.plan_node.now.op result }
 {
     let Some(size) = setting.size(file as usize) else {
         return Err(RunEnd::Memory);
@@ -159,6 +160,7 @@ pub fn do_read<F: Files>(
         (outside (F.state files.new) sink) world.new.world step result }
     ensures fault { FailsBy false result }
     ensures still { IfFailed result (world.new.world ≡ world.old.world) }
+    ensures on { LeadsBy setting.now place.now.plan_node.now.op result }
 {
     let Op::Read { .. } = place.plan_node.op else {
         unreachable!();

@@ -1,8 +1,9 @@
 //! A program that is run, with its plan and the paths of its files.
-ghost use Rattle.std.specs.Prelude.{◌≡◌, ◌==◌, ℕ, false, Some, None, IfSome};
+ghost use Rattle.std.specs.Prelude.{◌≡◌, ◌==◌, ◌<◌, ◌≤◌, ℕ, false, Some, None, IfSome, length};
 ghost use Rattle.cob_graph.specs.declared.graph.Node.{Node};
 ghost use Rattle.cob_graph.specs.Lookup.{node_at, final_in};
-ghost use Rattle.cob_interp.specs.Setting.{IsReady, IsPlace, StartsAt};
+ghost use Rattle.cob_plan.specs.Stepping.{rests};
+ghost use Rattle.cob_interp.specs.Setting.{IsReady, IsPlace, FitsPlace};
 ghost use Rattle.cob_interp.specs.Readying.{IsDeclared, IsPath, IsSize};
 
 use cob_graph::Graph;
@@ -36,37 +37,32 @@ impl<'b> Setting<'b> {
     /// Whether no step goes on at a node: one begins there, or the run has ended, or there is no such node.
     pub fn rests_at(&self, node: u32) -> bool
         requires { IsReady self.now }
-        ensures { result ≡ false → (x : Node) → node_at self.now.graph.now.nodes node ≡ Some x → x.starts ≡ false }
+        ensures same { result ≡ rests self.now.plan.nodes.items node }
+        ensures graph { result ≡ false → (x : Node) → node_at self.now.graph.now.nodes node ≡ Some x → x.starts ≡ false }
     {
         match self.plan.node(node) {
             None => true,
-            Some(plan_node) => plan_node.starts || self.is_final(node),
+            Some(plan_node) => plan_node.starts || node as usize == self.plan.nodes.len(),
         }
     }
 
     /// A node that isn't the last one, with its statement.
-    pub fn place(&self, node: u32) -> Option<Place<'_, 'b>>
-        requires { IsReady self.now }
-        ensures { IfSome result (λ x. IsPlace self.now node x) }
+    pub fn place(&self, node: u32) -> Place<'_, 'b>
+        requires ready { IsReady self.now }
+        requires above { 1 ≤ node }
+        requires below { node < length self.now.plan.nodes.items }
+        ensures is { IsPlace self.now node result }
+        ensures fits { FitsPlace self.now node result }
     {
-        let plan_node = self.plan.node(node)?;
-        let statement = self.plan.statement(plan_node.statement)?;
-        Some(Place {
-            plan_node,
-            statement,
-        })
-    }
-
-    /// A node at which a step begins, with its statement.
-    pub fn start(&self, node: u32) -> Option<Place<'_, 'b>>
-        requires { IsReady self.now }
-        ensures { IfSome result (λ x. StartsAt self.now node x) }
-    {
-        let place = self.place(node)?;
-        if place.plan_node.starts {
-            Some(place)
-        } else {
-            None
+        match self.plan.node(node) {
+            None => unreachable!(),
+            Some(plan_node) => match self.plan.statement(plan_node.statement) {
+                None => unreachable!(),
+                Some(statement) => Place {
+                    plan_node,
+                    statement,
+                },
+            },
         }
     }
 

@@ -1,19 +1,19 @@
 //! A step of the run: all that its statement does, from the node at which it begins to the next such node.
-ghost use Rattle.std.specs.Prelude.{◌≡◌, ◌+◌, ◌<◌, ℕ, false, IfOk, Some, length};
+ghost use Rattle.std.specs.Prelude.{◌≡◌, ◌+◌, ◌<◌, ℕ, true, false, IfOk, Some};
 ghost use Rattle.batch_io.specs.FilesState.{known_bytes};
 ghost use Rattle.batch_io.specs.SinkState.{SinkState};
-ghost use Rattle.cob_program.specs.Act.{open_files};
+ghost use Rattle.cob_program.specs.Act.{open_files, close_files};
 ghost use Rattle.cob_program.specs.ActView.{plain_act};
-ghost use Rattle.cob_plan.specs.declared.node.Op.{Op};
 ghost use Rattle.cob_runs.specs.Effects.{act_at};
 ghost use Rattle.cob_interp.specs.declared.parts.Call.TheVariants as call;
 ghost use Rattle.cob_interp.specs.Ends.{UnlessRefused};
 ghost use Rattle.cob_interp.specs.Running.{Outside, outside, Stands, Arrives};
-ghost use Rattle.cob_interp.specs.Setting.{IsReady, IsPlace, IsPlaced, StartsAt, IsCall, program_of, paths_of};
+ghost use Rattle.cob_interp.specs.Setting.{IsReady, IsPlace, StartsAt, FitsPlace, LeadsOn, IsUncalled, IsCall, is_uncalled, program_of, paths_of};
+ghost use Rattle.cob_plan.specs.Stepping.{rests, IsWithin, IsRest};
 ghost use Rattle.cob_interp.specs.Meeting.{FailsBy, IfFailed, IsMetBy, shows_first};
 ghost use Rattle.cob_interp.specs.Touching.{Touches, Makes, ClosesOnly, OpensOnly, makes_by, makes_in, makes_none};
 ghost use Rattle.cob_interp.specs.Tracking.{AreLeft, AreOpen, ArePlaced, KeepsPlaces, Tracks};
-ghost use Rattle.cob_interp.specs.Doing.{IsPlain, IsQuiet, Leads};
+ghost use Rattle.cob_interp.specs.Doing.{IsPlain, Leads};
 
 use crate::ends::RunEnd;
 use crate::handles::Handles;
@@ -23,60 +23,33 @@ use crate::parts::{Call, call_of};
 use crate::reads::do_read;
 use crate::setting::{Place, Setting};
 use batch_io::Files;
-use cob_plan::Op;
 use cob_program::Opening;
 use cob_world::World;
 use std::alloc::Global;
 
-/// Does the part of a READ's later node, where no file is read.
-fn do_quiet(
-    alloc: Global,
-    setting: &Setting,
-    place: &Place,
-    world: &mut World,
-    step: u64,
-) -> Result<u32, RunEnd>
-    requires ready { IsReady setting.now }
-    requires runs { world.old.program ≡ setting.now.program.now }
-    requires placed { IsPlaced setting.now place.now }
-    requires reads { (op : Op) → IsQuiet op → IsPlain op (plain_act place.now.statement.now.act.now) }
-    ensures kept { world.new.program ≡ world.old.program }
-    ensures leads { (now : Outside) (node budget : ℕ) → IsPlace setting.now node place.now
-        → Leads setting.now budget step node now now world.old.world world.new.world result }
-    ensures places { UnlessRefused result (KeepsPlaces world.old.world.files world.new.world.files) }
-    ensures fine { IfFailed result ⊥ }
-{
-    match place.plan_node.op {
-        Op::Skip { .. } | Op::Assign { .. } => do_plain(alloc, setting, place, world, step),
-        _ => Err(RunEnd::Memory),
-    }
-}
-
 /// Does the part of a node of a step that is underway, where no file is opened, closed or read. Answers the next node.
-#[tactic(auto, using(crate::proofs::CallLemmas::calls))]
 fn do_node(
     alloc: Global,
     setting: &Setting,
     world: &mut World,
     node: u32,
+    statement: u32,
     step: u64,
 ) -> Result<u32, RunEnd>
     requires ready { IsReady setting.now }
     requires runs { world.old.program ≡ setting.now.program.now }
+    requires within { IsWithin setting.now.plan.nodes.items node statement }
+    requires goes { rests setting.now.plan.nodes.items node ≡ false }
+    requires uncalled { IsUncalled setting.now statement }
     ensures kept { world.new.program ≡ world.old.program }
     ensures leads { (now : Outside) (budget : ℕ)
         → Leads setting.now budget step node now now world.old.world world.new.world result }
     ensures places { UnlessRefused result (KeepsPlaces world.old.world.files world.new.world.files) }
     ensures fine { IfFailed result ⊥ }
+    ensures on { LeadsOn setting.now node statement result }
 {
-    let Some(place) = setting.place(node) else {
-        return Err(RunEnd::Memory);
-    };
-    match call_of(place.statement.act) {
-        Call::Open(_) | Call::Close(_) => Err(RunEnd::Memory),
-        Call::Read(_) => do_quiet(alloc, setting, &place, world, step),
-        Call::Other => do_plain(alloc, setting, &place, world, step),
-    }
+    let place = setting.place(node);
+    do_plain(alloc, setting, &place, world, step)
 }
 
 /// Goes on in a step that is underway, where no file is opened, closed or read, until another begins or the run
@@ -87,10 +60,15 @@ fn go_through(
     setting: &Setting,
     world: &mut World,
     node: u32,
+    statement: u32,
     step: u64,
 ) -> Result<u32, RunEnd>
     requires ready { IsReady setting.now }
     requires runs { world.old.program ≡ setting.now.program.now }
+    requires within { IsWithin setting.now.plan.nodes.items node statement }
+    requires goes { rests setting.now.plan.nodes.items node ≡ false }
+    requires uncalled { IsUncalled setting.now statement }
+    ensures rest { IfOk result (λ next. IsRest setting.now.plan.nodes.items next) }
     ensures kept { world.new.program ≡ world.old.program }
     ensures leads { (now : Outside) (budget : ℕ)
         → Leads setting.now budget step node now now world.old.world world.new.world result }
@@ -98,13 +76,13 @@ fn go_through(
     ensures fine { IfFailed result ⊥ }
 {
     let mut at = node;
-    for _ in 0..setting.plan.nodes.len() {
-        at = do_node(alloc, setting, world, at, step)?;
+    for _part in 0..setting.plan.nodes.len() {
+        at = do_node(alloc, setting, world, at, statement, step)?;
         if setting.rests_at(at) {
             return Ok(at);
         }
     }
-    Err(RunEnd::Memory)
+    unreachable!()
 }
 
 /// Does all of a step from the place at which it begins, of a statement that opens, closes and reads no file.
@@ -121,7 +99,10 @@ fn go(
     requires ready { IsReady setting.now }
     requires runs { world.old.program ≡ setting.now.program.now }
     requires place { IsPlace setting.now node place.now }
+    requires fits { FitsPlace setting.now node place.now }
+    requires uncalled { is_uncalled (plain_act place.now.statement.now.act.now) ≡ true }
     requires plain { IsPlain place.now.plan_node.now.op (plain_act place.now.statement.now.act.now) }
+    ensures rest { IfOk result (λ next. IsRest setting.now.plan.nodes.items next) }
     ensures kept { world.new.program ≡ world.old.program }
     ensures leads { (now : Outside) (budget : ℕ)
         → Leads setting.now budget step node now now world.old.world world.new.world result }
@@ -132,7 +113,7 @@ fn go(
     if setting.rests_at(next) {
         return Ok(next);
     }
-    go_through(alloc, setting, world, next, step)
+    go_through(alloc, setting, world, next, place.plan_node.statement, step)
 }
 
 /// Opens the next file of an OPEN that is underway. Answers the next node.
@@ -149,10 +130,12 @@ fn open_next<F: Files>(
 ) -> Result<u32, RunEnd>
     requires ready { IsReady setting.now }
     requires runs { world.old.program ≡ setting.now.program.now }
+    requires within { IsWithin setting.now.plan.nodes.items node statement }
     requires its { act_at (program_of setting.now) statement ≡ Some (open_files openings.now) }
     requires live { AreOpen (F.state files.old) handles.old }
     requires placed { ArePlaced (paths_of setting.now) (F.state files.old) handles.old world.old.world.files }
     ensures kept { world.new.program ≡ world.old.program }
+    ensures on { LeadsOn setting.now node statement result }
     ensures tracks { Tracks (F.state files.old) (F.state files.new) handles.old handles.new }
     ensures placed { AreLeft (paths_of setting.now) (F.state files.new) handles.new world.new.world.files result }
     ensures leads { (sink : SinkState) (budget : ℕ) → Leads setting.now budget step node
@@ -162,12 +145,7 @@ fn open_next<F: Files>(
     ensures opens { IfOk result (λ _. OpensOnly world.old.world world.new.world) }
     ensures met { IsMetBy (open_files openings.now) result }
 {
-    let Some(place) = setting.place(node) else {
-        return Err(RunEnd::Memory);
-    };
-    if place.plan_node.statement != statement {
-        return Err(RunEnd::Memory);
-    }
+    let place = setting.place(node);
     do_open(
         alloc, setting, files, handles, &place, openings, world, step,
     )
@@ -187,10 +165,12 @@ fn open_all<F: Files>(
 ) -> Result<u32, RunEnd>
     requires ready { IsReady setting.now }
     requires runs { world.old.program ≡ setting.now.program.now }
+    requires within { IsWithin setting.now.plan.nodes.items node statement }
     requires its { act_at (program_of setting.now) statement ≡ Some (open_files openings.now) }
     requires live { AreOpen (F.state files.old) handles.old }
     requires placed { ArePlaced (paths_of setting.now) (F.state files.old) handles.old world.old.world.files }
     ensures kept { world.new.program ≡ world.old.program }
+    ensures rest { IfOk result (λ next. IsRest setting.now.plan.nodes.items next) }
     ensures tracks { Tracks (F.state files.old) (F.state files.new) handles.old handles.new }
     ensures placed { AreLeft (paths_of setting.now) (F.state files.new) handles.new world.new.world.files result }
     ensures leads { (sink : SinkState) (budget : ℕ) → Leads setting.now budget step node
@@ -200,7 +180,7 @@ fn open_all<F: Files>(
     ensures met { IsMetBy (open_files openings.now) result }
 {
     let mut at = node;
-    for _ in 0..setting.plan.nodes.len() {
+    for _turn in 0..setting.plan.nodes.len() {
         at = open_next(
             alloc, setting, files, handles, world, at, statement, openings, step,
         )?;
@@ -208,11 +188,10 @@ fn open_all<F: Files>(
             return Ok(at);
         }
     }
-    Err(RunEnd::Memory)
+    unreachable!()
 }
 
 /// Closes the next file of a CLOSE that is underway. Answers the next node.
-#[tactic(auto, using(crate::proofs::CallLemmas::calls))]
 fn close_next<F: Files>(
     alloc: Global,
     setting: &Setting,
@@ -220,13 +199,18 @@ fn close_next<F: Files>(
     handles: &mut Handles,
     world: &mut World,
     node: u32,
+    statement: u32,
+    closed: &[u32],
     step: u64,
 ) -> Result<u32, RunEnd>
     requires ready { IsReady setting.now }
     requires runs { world.old.program ≡ setting.now.program.now }
+    requires within { IsWithin setting.now.plan.nodes.items node statement }
+    requires its { act_at (program_of setting.now) statement ≡ Some (close_files closed.now) }
     requires live { AreOpen (F.state files.old) handles.old }
     requires placed { ArePlaced (paths_of setting.now) (F.state files.old) handles.old world.old.world.files }
     ensures kept { world.new.program ≡ world.old.program }
+    ensures on { LeadsOn setting.now node statement result }
     ensures tracks { Tracks (F.state files.old) (F.state files.new) handles.old handles.new }
     ensures placed { AreLeft (paths_of setting.now) (F.state files.new) handles.new world.new.world.files result }
     ensures leads { (sink : SinkState) (budget : ℕ) → Leads setting.now budget step node
@@ -236,15 +220,8 @@ fn close_next<F: Files>(
     ensures closes { IfOk result (λ _. ClosesOnly (paths_of setting.now) (F.state files.old) (F.state files.new)
         world.old.world world.new.world) }
 {
-    let Some(place) = setting.place(node) else {
-        return Err(RunEnd::Memory);
-    };
-    match call_of(place.statement.act) {
-        Call::Close(closed) => do_close(
-            alloc, setting, files, handles, &place, closed, world, step,
-        ),
-        Call::Open(_) | Call::Read(_) | Call::Other => Err(RunEnd::Memory),
-    }
+    let place = setting.place(node);
+    do_close(alloc, setting, files, handles, &place, closed, world, step)
 }
 
 /// Closes the files of a CLOSE, from its first node on. Answers the node behind it.
@@ -255,13 +232,18 @@ fn close_all<F: Files>(
     handles: &mut Handles,
     world: &mut World,
     node: u32,
+    statement: u32,
+    closed: &[u32],
     step: u64,
 ) -> Result<u32, RunEnd>
     requires ready { IsReady setting.now }
     requires runs { world.old.program ≡ setting.now.program.now }
+    requires within { IsWithin setting.now.plan.nodes.items node statement }
+    requires its { act_at (program_of setting.now) statement ≡ Some (close_files closed.now) }
     requires live { AreOpen (F.state files.old) handles.old }
     requires placed { ArePlaced (paths_of setting.now) (F.state files.old) handles.old world.old.world.files }
     ensures kept { world.new.program ≡ world.old.program }
+    ensures rest { IfOk result (λ next. IsRest setting.now.plan.nodes.items next) }
     ensures tracks { Tracks (F.state files.old) (F.state files.new) handles.old handles.new }
     ensures placed { AreLeft (paths_of setting.now) (F.state files.new) handles.new world.new.world.files result }
     ensures leads { (sink : SinkState) (budget : ℕ) → Leads setting.now budget step node
@@ -270,13 +252,15 @@ fn close_all<F: Files>(
         (F.state files.new) }
 {
     let mut at = node;
-    for _ in 0..setting.plan.nodes.len() {
-        at = close_next(alloc, setting, files, handles, world, at, step)?;
+    for _turn in 0..setting.plan.nodes.len() {
+        at = close_next(
+            alloc, setting, files, handles, world, at, statement, closed, step,
+        )?;
         if setting.rests_at(at) {
             return Ok(at);
         }
     }
-    Err(RunEnd::Memory)
+    unreachable!()
 }
 
 /// Does all of a READ's step from the place at which it begins. Answers the node behind it.
@@ -294,10 +278,12 @@ fn go_read<F: Files>(
     requires ready { IsReady setting.now }
     requires runs { world.old.program ≡ setting.now.program.now }
     requires starts { StartsAt setting.now node place.now }
+    requires fits { FitsPlace setting.now node place.now }
     requires reads { IsCall (plain_act place.now.statement.now.act.now) (call.Read file) }
     requires live { AreOpen (F.state files.old) handles.old }
     requires placed { ArePlaced (paths_of setting.now) (F.state files.old) handles.old world.old.world.files }
     ensures kept { world.new.program ≡ world.old.program }
+    ensures rest { IfOk result (λ next. IsRest setting.now.plan.nodes.items next) }
     ensures tracks { Tracks (F.state files.old) (F.state files.new) handles.old handles.new }
     ensures placed { AreLeft (paths_of setting.now) (F.state files.new) handles.new world.new.world.files result }
     ensures same { known_bytes (F.state files.new) ≡ known_bytes (F.state files.old) }
@@ -315,7 +301,7 @@ fn go_read<F: Files>(
     if setting.rests_at(next) {
         return Ok(next);
     }
-    go_through(alloc, setting, world, next, step)
+    go_through(alloc, setting, world, next, place.plan_node.statement, step)
 }
 
 /// Takes a step from a node at which it begins. Answers the node behind it.
@@ -333,9 +319,11 @@ pub fn take_step<F: Files>(
     requires ready { IsReady setting.now }
     requires runs { world.old.program ≡ setting.now.program.now }
     requires starts { StartsAt setting.now node place.now }
+    requires fits { FitsPlace setting.now node place.now }
     requires live { AreOpen (F.state files.old) handles.old }
     requires placed { ArePlaced (paths_of setting.now) (F.state files.old) handles.old world.old.world.files }
     ensures kept { world.new.program ≡ world.old.program }
+    ensures rest { IfOk result (λ next. IsRest setting.now.plan.nodes.items next) }
     ensures tracks { Tracks (F.state files.old) (F.state files.new) handles.old handles.new }
     ensures placed { AreLeft (paths_of setting.now) (F.state files.new) handles.new world.new.world.files result }
     ensures takes { (sink : SinkState) (budget steps : ℕ) (start : Outside) → step ≡ steps + 1 → steps < budget
@@ -362,7 +350,17 @@ pub fn take_step<F: Files>(
             openings,
             step,
         ),
-        Call::Close(_) => close_all(alloc, setting, files, handles, world, node, step),
+        Call::Close(closed) => close_all(
+            alloc,
+            setting,
+            files,
+            handles,
+            world,
+            node,
+            place.plan_node.statement,
+            closed,
+            step,
+        ),
         Call::Read(file) => go_read(
             alloc, setting, files, handles, world, place, node, file, step,
         ),

@@ -6,9 +6,10 @@ ghost use Rattle.cob_program.specs.ActView.{plain_act};
 ghost use Rattle.cob_runs.specs.Acts.{decl_at};
 ghost use Rattle.cob_runs.specs.State as state;
 ghost use Rattle.cob_interp.specs.Running.{Outside, outside, Stands, Arrives, IsAt, GoesOn, HaltsOff};
-ghost use Rattle.cob_interp.specs.Setting.{IsReady, StartsAt, program_of, paths_of};
+ghost use Rattle.cob_interp.specs.Setting.{IsReady, StartsAt, FitsPlace, program_of, paths_of};
 ghost use Rattle.cob_interp.specs.Readying.{IsRefusal, Sees};
 ghost use Rattle.cob_interp.specs.Meeting.{IfFailed, IsMetBy, ShowsRest, is_failure, shows_first};
+ghost use Rattle.cob_plan.specs.Stepping.{IsRest};
 ghost use Rattle.cob_interp.specs.Rooms.{HasRoom, HasRoomFor, written_by};
 ghost use Rattle.cob_interp.specs.Touching.{Touches, makes_by, makes_none};
 ghost use Rattle.cob_interp.specs.Tracking.{AreLeft, AreOpen, ArePlaced, KeepsPlaces, Tracks};
@@ -192,9 +193,11 @@ fn take_roomy_step<F: Files>(
     requires ready { IsReady setting.now }
     requires runs { world.old.program ≡ setting.now.program.now }
     requires starts { StartsAt setting.now node place.now }
+    requires fits { FitsPlace setting.now node place.now }
     requires live { AreOpen (F.state files.old) handles.old }
     requires placed { ArePlaced (paths_of setting.now) (F.state files.old) handles.old world.old.world.files }
     ensures kept { world.new.program ≡ world.old.program }
+    ensures rest { IfOk result (λ next. IsRest setting.now.plan.nodes.items next) }
     ensures tracks { Tracks (F.state files.old) (F.state files.new) handles.old handles.new }
     ensures placed { AreLeft (paths_of setting.now) (F.state files.new) handles.new world.new.world.files result }
     ensures takes { (sink : SinkState) (budget steps : ℕ) (start : Outside) → step ≡ steps + 1 → steps < budget
@@ -225,10 +228,13 @@ fn go_on<F: Files, O: Sink>(
     step: u64,
 ) -> Result<u32, Halt>
     requires ready { IsReady setting.now }
+    requires rest { IsRest setting.now.plan.nodes.items node }
+    requires below { node < length setting.now.plan.nodes.items }
     requires runs { world.old.program ≡ setting.now.program.now }
     requires live { AreOpen (F.state files.old) handles.old }
     requires placed { ArePlaced (paths_of setting.now) (F.state files.old) handles.old world.old.world.files }
     ensures kept { world.new.program ≡ world.old.program }
+    ensures rest { IfOk result (λ next. IsRest setting.now.plan.nodes.items next) }
     ensures tracks { Tracks (F.state files.old) (F.state files.new) handles.old handles.new }
     ensures placed { AreLeft (paths_of setting.now) (F.state files.new) handles.new world.new.world.files
         (as_result result) }
@@ -239,9 +245,7 @@ fn go_on<F: Files, O: Sink>(
         (outside (F.state files.new) (O.state out.new)) world.new.world step (as_result result) }
     ensures sink { TellsBySink (O.state out.old) (O.state out.new) result }
 {
-    let Some(place) = setting.start(node) else {
-        return Err(Halt::End(RunEnd::Memory));
-    };
+    let place = setting.place(node);
     match flush_before(&place, world, out) {
         Err(end) => Err(Halt::Sink(end)),
         Ok(()) => match take_roomy_step(alloc, setting, files, handles, world, &place, node, step) {
@@ -253,7 +257,8 @@ fn go_on<F: Files, O: Sink>(
 
 /// The end of a run whose budget is spent at a node.
 fn end_at(setting: &Setting, node: u32, budget: u64) -> Result<Ended, RunEnd>
-    requires { IsReady setting.now }
+    requires ready { IsReady setting.now }
+    requires rest { IsRest setting.now.plan.nodes.items node }
     ensures { (start now : Outside) (w : state.World)
         → IsAt (program_of setting.now) setting.now.graph.now (paths_of setting.now) budget start now w budget node
         → HaltsOff (program_of setting.now) setting.now.graph.now (paths_of setting.now) budget start now w result }
@@ -261,10 +266,7 @@ fn end_at(setting: &Setting, node: u32, budget: u64) -> Result<Ended, RunEnd>
     if setting.is_final(node) {
         return Ok(Ended { steps: budget });
     }
-    match setting.start(node) {
-        Some(_) => Err(RunEnd::StepsSpent(budget)),
-        None => Err(RunEnd::Memory),
-    }
+    Err(RunEnd::StepsSpent(budget))
 }
 
 /// Runs from the first node until the run ends or the budget of steps is spent.

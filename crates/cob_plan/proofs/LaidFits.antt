@@ -16,14 +16,14 @@ use Rattle.cob_runs.specs.Effects as effects
 use Rattle.cob_graph.specs.Laid.{MkLaid, LaidList, no_laid, more_laid, LaidPhrase, no_phrase, a_phrase, LaidAct, moving, showing, skipping, going, ending, computing, deciding, choosing, performing, opening, closing, reading, writing, LaidWhens, no_laid_whens, more_laid_whens, LaidBody, own_list, copy, LaidParas, no_laid_paras, more_laid_paras, tests_in, tests_among}
 use Rattle.cob_graph.specs.Nodes.{Noded, Copied, node, test_edges, logic_nodes, all_nodes, any_nodes, open_nodes, close_nodes, read_nodes, write_nodes, size_edges, loop_before, loop_behind, copied_in, list_nodes, phrase_nodes, whens_nodes, body_nodes, paras_nodes, act_nodes}
 use Rattle.cob_graph.specs.Copies.{AreLaid, IsLaidPhrase, IsLaidAct, AreLaidWhens, IsLaidBody, AreLaidParas, file_of}
-use Rattle.cob_graph.specs.Graphs as graphs
-use Rattle.cob_graph.specs.Graphs.{final_of, final_node, main_copy, last_para}
+use Rattle.cob_graph.specs.Graphs.{final_of, main_copy, last_para, IsMainCopy}
 use Rattle.cob_graph.specs.WellFormed.{AreWellFormed, IsWellFormedPhrase, IsWellFormedAct, AreWellFormedWhens, IsWellFormedBody, IsWellFormed}
 use Rattle.cob_plan.specs.declared.node.Op.{Op}
 use Rattle.cob_plan.specs.declared.node.Op.TheVariants as op
 use Rattle.cob_plan.specs.Plan.{op_edges}
 use Rattle.cob_plan.specs.Fitting.{Tests, Skips, Fits, BeginsRead}
 use Rattle.cob_plan.proofs.ParaLemmas.{para_whole}
+use Rattle.cob_plan.proofs.LaidSteps.{step_nodes}
 
 -- ---- how many simple conditions
 
@@ -50,8 +50,8 @@ module _ (p : Program) where
   pub record IsFit (x : Noded) : Type 0 where
     pub op : Op
     pub out : op_edges op ≡ x.out
-    pub fits : (a : Act) → 1 ≤ x.statement → act_at p x.statement ≡ Some a → Fits p op a
-    pub read : (a : Act) → 1 ≤ x.statement → act_at p x.statement ≡ Some a → BeginsRead x.starts op a
+    pub fits : (a : Act) → act_at p x.statement ≡ Some a → Fits p op a
+    pub read : (a : Act) → act_at p x.statement ≡ Some a → BeginsRead x.starts op a
 
   abbrev pub EachFits : List Noded → Type 0
   EachFits [] = Unit {0}
@@ -80,8 +80,8 @@ module _ (p : Program) where
     by_op starts o f r = record {
       op = o;
       out = refl;
-      fits = λ b _ its_b. subst (Fits p o) (same_Some a b (sym its ∙ its_b)) f;
-      read = λ b _ its_b. subst (BeginsRead starts o) (same_Some a b (sym its ∙ its_b)) r;
+      fits = λ b its_b. subst (Fits p o) (same_Some a b (sym its ∙ its_b)) f;
+      read = λ b its_b. subst (BeginsRead starts o) (same_Some a b (sym its ∙ its_b)) r;
     }
 
     -- it may lead on alone, and is no READ
@@ -332,14 +332,5 @@ module _ (p : Program) where
       act_fits c lo hi (perform body turns) x number at next l its w = absurd l
       act_fits c lo hi (read f into end_ fine) x number at next l its w = absurd l
 
-    final_fits : IsFit final_node
-    final_fits = record {
-      op = op.Final;
-      out = refl;
-      fits = λ a positive its. absurd (omega (arith, positive));
-      read = λ a positive its. absurd (omega (arith, positive));
-    }
-
-    pub program_fits : (ps : LaidParas) → graphs.IsMainCopy p ps → AreFit (graphs.all_nodes p ps)
-    program_fits ps laid =
-        append_fit _ _ (paras_fit (main_copy p ps) 0 (last_para p) 0 _ ps 1 (final_of ps) laid) (one_fit final_node final_fits)
+    pub program_fits : (ps : LaidParas) → IsMainCopy p ps → AreFit (step_nodes p ps)
+    program_fits ps laid = paras_fit (main_copy p ps) 0 (last_para p) 0 _ ps 1 (final_of ps) laid

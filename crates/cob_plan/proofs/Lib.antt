@@ -6,6 +6,7 @@ mod LaidNodes
 mod ParaLemmas
 mod LaidFits
 mod LaidSteps
+mod Among
 mod Listings
 mod Stepped
 mod Planned

@@ -1,25 +1,23 @@
 -- A plan's nodes have operations of their statements.
-use Rattle.std.proofs.Common.{◌≡◌, ◌≤◌, ℕ, zero, suc, List, [], ◌∷◌, get_or, refl, sym, ap, ◌∙◌, subst}
-use Rattle.std.specs.Prelude.{slice_get, Option, Some, None, IfSome}
-use Rattle.std.specs.Borrow.{Bor}
-use Rattle.std.specs.Option.{option_copied}
-use Rattle.std.specs.List.{All}
-use Rattle.std.proofs.lemmas.Option.{same_Some, none-some, slice_get-get_or, slice_get_within}
-use Rattle.cob_program.specs.Act.{Program}
+use Rattle.std.proofs.Common.{◌≡◌, ℕ, zero, suc, List, [], ◌∷◌, ◌++◌, refl, sym, ap, ◌∙◌, subst}
+use Rattle.std.specs.Prelude.{slice_get, Option, Some, None}
+use Rattle.std.proofs.lemmas.Option.{same_Some, none-some}
+use Rattle.cob_program.specs.Act.{Act, Program}
 use Rattle.cob_runs.specs.declared.action.Action.{Action}
 use Rattle.cob_runs.specs.declared.action.Action.TheVariants as action
 use Rattle.cob_runs.specs.Effects.{act_at}
 use Rattle.cob_graph.specs.declared.graph.Graph.{Graph}
 use Rattle.cob_graph.specs.Nodes.{Noded}
-use Rattle.cob_graph.specs.Graphs.{all_nodes, IsGraph}
+use Rattle.cob_graph.specs.Graphs.{all_nodes, final_node, IsGraph}
 use Rattle.cob_graph.specs.WellFormed.{IsWellFormed}
 use Rattle.cob_plan.specs.declared.node.Op.{Op}
 use Rattle.cob_plan.specs.declared.node.Op.TheVariants as op
 use Rattle.cob_plan.specs.declared.node.PlanNode.{PlanNode}
 use Rattle.cob_plan.specs.Plan.{op_edges}
-use Rattle.cob_plan.specs.Fitting.{Fits, BeginsRead, FitsIts}
-use Rattle.cob_plan.specs.Nodes.{IsLaidOut, IsNoded, AreNoded}
+use Rattle.cob_plan.specs.Fitting.{Fits, BeginsRead, IsFitting}
+use Rattle.cob_plan.specs.Nodes.{AreOfOne, IsLaidOut, IsNoded}
 use Rattle.cob_plan.proofs.LaidNodes.{ways_of_op}
+use Rattle.cob_plan.proofs.LaidSteps.{step_nodes}
 use Rattle.cob_plan.proofs.LaidFits.{IsFit, EachFits, program_fits}
 
 -- ---- an operation is known by its edges
@@ -82,41 +80,38 @@ fits_at p [] k x t e = absurd (none-some x e)
 fits_at p (y ∷ ns) zero x t e = subst (IsFit p) (same_Some y x e) t.0
 fits_at p (y ∷ ns) (suc k) x t e = fits_at p ns k x t.1 e
 
+-- all nodes have the ways of an operation, the last one none
+ways_at : (p : Program) (ns : List Noded) (k : ℕ) (x : Noded) → EachFits p ns → slice_get (ns ++ final_node ∷ []) k ≡ Some x →
+    AreOfOne x.out
+ways_at p [] zero x t e = subst (λ (y : Noded). AreOfOne y.out) (same_Some final_node x e) tt
+ways_at p [] (suc k) x t e = absurd (none-some x e)
+ways_at p (y ∷ ns) zero x t e = subst (λ (z : Noded). AreOfOne z.out) (same_Some y x e) (ways_of_op t.0.op y.out t.0.out)
+ways_at p (y ∷ ns) (suc k) x t e = ways_at p ns k x t.1 e
+
 module _ (p : Program) (g : Graph) (whole : IsWellFormed p) (is : IsGraph p g) where
   abbrev pub laid_nodes : List Noded
   laid_nodes = all_nodes p is.copies
 
-  each_fits : (i : ℕ) (x : Noded) → slice_get laid_nodes i ≡ Some x → IsFit p x
-  each_fits i x e = fits_at p laid_nodes i x (program_fits p whole is.copies is.laid).each e
+  abbrev all_fit : EachFits p (step_nodes p is.copies)
+  all_fit = (program_fits p whole is.copies is.laid).each
 
   pub laid_out : IsLaidOut g laid_nodes
   laid_out = record {
     nodes = is.nodes;
     edges = is.edges;
-    each = λ i x e. ways_of_op (each_fits i x e).op x.out (each_fits i x e).out;
+    each = λ i x e. ways_at p (step_nodes p is.copies) i x all_fit e;
   }
 
-  node_fits : (x : Noded) (s : PlanNode) → IsFit p x → IsNoded x s → FitsIts p s
-  node_fits x s fit node = λ a positive its.
-      let same : fit.op ≡ s.op = one_op fit.op s.op (fit.out ∙ sym node.edges) in
-      let above = subst (λ n. 1 ≤ n) node.statement positive in
-      let at = ap (act_at p) (sym node.statement) ∙ its in
-      record {
-        fits = subst (λ o. Fits p o a) same (fit.fits a above at);
-        read = subst (λ o. BeginsRead s.starts o a) same (subst (λ b. BeginsRead b fit.op a) (sym node.starts)
-            (fit.read a above at));
-      }
+  pub laid_fits : (i : ℕ) (x : Noded) → slice_get (step_nodes p is.copies) i ≡ Some x → IsFit p x
+  laid_fits i x e = fits_at p (step_nodes p is.copies) i x all_fit e
 
-  pub nodes_fit : (nodes : List PlanNode) → AreNoded laid_nodes nodes → All (FitsIts p) nodes
-  nodes_fit nodes are = λ k d within.
-      let found = are.each k (get_or nodes k d) (slice_get-get_or nodes k d within) in
-      node_fits found.0 (get_or nodes k d) (each_fits k found.0 found.1) found.2
-
--- one that is looked up
-pub fits_there : (p : Program) (nodes : List PlanNode) (r : Option (Bor PlanNode)) (i : ℕ) → All (FitsIts p) nodes →
-    option_copied r ≡ slice_get nodes i → IfSome r (λ s. FitsIts p s.now)
-fits_there p nodes None i each is = tt
-fits_there p nodes (Some s) i each is =
-    let found = sym is in
-    let within = slice_get_within nodes i s.now found in
-    subst (FitsIts p) (same_Some _ s.now (sym (slice_get-get_or nodes i s.now within) ∙ found)) (each i s.now within)
+pub node_fits : (p : Program) (x : Noded) (s : PlanNode) → IsFit p x → IsNoded x s → (a : Act) →
+    act_at p s.statement ≡ Some a → IsFitting p s a
+node_fits p x s fit node a its =
+    let same : fit.op ≡ s.op = one_op fit.op s.op (fit.out ∙ sym node.edges) in
+    let at = ap (act_at p) (sym node.statement) ∙ its in
+    record {
+      fits = subst (λ o. Fits p o a) same (fit.fits a at);
+      read = subst (λ o. BeginsRead s.starts o a) same (subst (λ b. BeginsRead b fit.op a) (sym node.starts)
+          (fit.read a at));
+    }

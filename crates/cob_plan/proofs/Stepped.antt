@@ -3,7 +3,7 @@ use Rattle.std.proofs.Common.{◌≡◌, ◌≤◌, ◌<◌, ◌==◌, ◌⊎◌
 use Rattle.std.specs.Prelude.{slice_get, Contains, ◌||◌}
 use Rattle.std.proofs.lemmas.List.{length-map}
 use Rattle.std.proofs.lemmas.Option.{same_Some, none-some, slice_get_within}
-use Rattle.cob_program.specs.Act.{Program}
+use Rattle.cob_program.specs.Act.{Act, Program}
 use Rattle.cob_runs.specs.declared.action.Action.{Action}
 use Rattle.cob_runs.specs.Effects.{act_at}
 use Rattle.cob_graph.specs.declared.graph.Graph.{Graph}
@@ -16,11 +16,13 @@ use Rattle.cob_graph.proofs.Lengths.{length-paras}
 use Rattle.cob_plan.specs.declared.node.PlanNode.{PlanNode}
 use Rattle.cob_plan.specs.declared.statement.Statement.{Statement}
 use Rattle.cob_plan.specs.Listing.{plain_statements, listed}
-use Rattle.cob_plan.specs.Plan.{op_edges, ArePlanNodes}
+use Rattle.cob_plan.specs.Plan.{ArePlanNodes}
+use Rattle.cob_plan.specs.Fitting.{IsFitting}
 use Rattle.cob_plan.specs.Nodes.{IsNoded, AreNoded}
-use Rattle.cob_plan.specs.Stepping.{IsListed, rests_in, IsRest, IsWithin, LeadsOn, LeadsAllOn, HasSteps}
+use Rattle.cob_plan.specs.Stepping.{IsListed, rests_in, IsRest, IsWithin, LeadsOn, OpLeadsOn, HasSteps}
 use Rattle.cob_plan.proofs.LaidSteps.{Rests, IsOf, Goes, AllGo, IsLed, EachLed, step_nodes, program_led, program_begins}
 use Rattle.cob_plan.proofs.Listings.{is_listed}
+use Rattle.cob_plan.proofs.Planned.{laid_fits, node_fits}
 
 -- ---- lists
 
@@ -156,7 +158,8 @@ module _ (p : Program) (g : Graph) (kept : IsWellFormed p) (graph : IsGraph p g)
       subst (λ (n : ℕ). IsLed p get final n x) (omega arith)
       (led_at p get final steps 1 i x (program_led p ps graph.laid kept).each laid)
 
-  node_leads : (n : ℕ) (s : PlanNode) → node_at nodes n ≡ Some s → n < length nodes → LeadsAllOn nodes n s
+  node_leads : (n : ℕ) (s : PlanNode) → node_at nodes n ≡ Some s → n < length nodes →
+      OpLeadsOn nodes n s.statement s.op
   node_leads zero s e l = absurd (none-some s e)
   node_leads (suc i) s e l = λ a to out.
       let own = own_laid i s e (omega (arith, l, counted, many)) in
@@ -165,6 +168,13 @@ module _ (p : Program) (g : Graph) (kept : IsWellFormed p) (graph : IsGraph p g)
       let goes = goes_out p get final own.0.statement (suc i + 1) own.0.out a to led.goes there in
       subst (λ (number : ℕ). LeadsOn nodes number (suc (suc i)) to) (sym own.2.statement)
       (leads_on own.0.statement (suc i + 1) (suc (suc i)) to (omega arith) goes)
+
+  node_does : (n : ℕ) (s : PlanNode) → node_at nodes n ≡ Some s → n < length nodes → (a : Act) →
+      act_at p s.statement ≡ Some a → IsFitting p s a
+  node_does zero s e l a its = absurd (none-some s e)
+  node_does (suc i) s e l a its =
+      let own = own_laid i s e (omega (arith, l, counted, many)) in
+      node_fits p own.0 s (laid_fits p g kept graph i own.0 own.1) own.2 a its
 
   module _ (statements : List Statement) (is : plain_statements statements ≡ listed p) where
     node_listed : (n : ℕ) (s : PlanNode) → node_at nodes n ≡ Some s → n < length nodes →
@@ -176,9 +186,10 @@ module _ (p : Program) (g : Graph) (kept : IsWellFormed p) (graph : IsGraph p g)
         is_listed p statements s.statement led.act is
         (subst (λ (number : ℕ). act_at p number ≡ Some led.act) (sym own.2.statement) led.its)
 
-    pub has_steps : HasSteps nodes statements
+    pub has_steps : HasSteps p nodes statements
     has_steps = record {
       first = is_rest 1 (program_begins p ps graph.laid kept);
       leads = node_leads;
       listed = node_listed;
+      fits = node_does;
     }

@@ -1,9 +1,9 @@
 -- Which operations the nodes of a statement have, by what it does.
-use Rattle.std.specs.Prelude.{◌≡◌, ◌≤◌, ◌<◌, ℕ, Bool, true, false, length, Some, is_some}
+use Rattle.std.specs.Prelude.{◌≡◌, ◌<◌, ℕ, Bool, true, false, length, is_some}
 use Rattle.cob_program.specs.Act.{Turns, times, varying, Act, move, arith, if_, evaluate, perform, go, nothing, stop, open_files, close_files, read, write, show, Program}
 use Rattle.cob_runs.specs.Acts.{file_from}
 use Rattle.cob_runs.specs.Steps.{is_given}
-use Rattle.cob_runs.specs.Effects.{act_at, tests_in_act}
+use Rattle.cob_runs.specs.Effects.{tests_in_act}
 use Rattle.cob_plan.specs.declared.node.Op.{Op}
 use Rattle.cob_plan.specs.declared.node.Op.TheVariants as op
 use Rattle.cob_plan.specs.declared.node.PlanNode.{PlanNode}
@@ -18,7 +18,7 @@ abbrev pub IsTimes : Turns → Type 0
 IsTimes (times x) = Unit {0}
 IsTimes _ = ⊥
 
--- the statement does nothing but lead on
+-- it does nothing but lead on
 abbrev pub Skips : Act → Type 0
 Skips (if_ t held other) = Unit {0}
 Skips (evaluate ws other) = Unit {0}
@@ -50,7 +50,7 @@ Computes (arith s targets remainder size fine) = Unit {0}
 Computes (perform body turns) = IsVarying turns
 Computes _ = ⊥
 
--- whether the statement's size error is left to its phrase
+-- whether its size error is left to its phrase
 abbrev pub HandlesSize : Bool → Act → Type 0
 HandlesSize handles (arith s targets remainder size fine) = is_given size ≡ handles
 HandlesSize handles _ = handles ≡ false
@@ -108,7 +108,3 @@ BeginsRead starts o _ = Unit {0}
 pub record IsFitting (p : Program) (s : PlanNode) (a : Act) : Type 0 where
   pub fits : Fits p s.op a
   pub read : BeginsRead s.starts s.op a
-
--- the node fits its statement, where it has one
-abbrev pub FitsIts : Program → PlanNode → Type 0
-FitsIts p s = (a : Act) → 1 ≤ s.statement → act_at p s.statement ≡ Some a → IsFitting p s a

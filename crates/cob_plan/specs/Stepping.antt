@@ -1,10 +1,14 @@
 -- How the nodes of a plan make up steps: from a node at which one begins, onward among the nodes of its statement.
 use Rattle.std.specs.Prelude.{◌≡◌, ◌≤◌, ◌<◌, ◌⊎◌, ◌==◌, ◌||◌, ℕ, suc, Bool, true, List, length, Contains, slice_get, Option, Some, None}
+use Rattle.cob_program.specs.Act.{Act, Program}
 use Rattle.cob_runs.specs.declared.action.Action.{Action}
+use Rattle.cob_runs.specs.Effects.{act_at}
 use Rattle.cob_graph.specs.Lookup.{node_at}
+use Rattle.cob_plan.specs.declared.node.Op.{Op}
 use Rattle.cob_plan.specs.declared.node.PlanNode.{PlanNode}
 use Rattle.cob_plan.specs.declared.statement.Statement.{Statement}
 use Rattle.cob_plan.specs.Plan.{op_edges}
+use Rattle.cob_plan.specs.Fitting.{IsFitting}
 
 -- one of the statements has the number
 pub record IsListed (statements : List Statement) (number : ℕ) : Type 0 where
@@ -38,12 +42,15 @@ module _ (nodes : List PlanNode) where
   pub record LeadsOn (statement from to : ℕ) : Type 0 where
     pub on : IsRest to ⊎ ((from ≤ to) × IsWithin to statement)
 
-  -- each way on from a node leads onward
-  abbrev pub LeadsAllOn : ℕ → PlanNode → Type 0
-  LeadsAllOn n s = (a : Action) (to : ℕ) → Contains (op_edges s.op) (a, to) → LeadsOn s.statement (suc n) to
+  -- each way on from a node with an operation does
+  abbrev pub OpLeadsOn : ℕ → ℕ → Op → Type 0
+  OpLeadsOn from statement o = (a : Action) (to : ℕ) → Contains (op_edges o) (a, to) → LeadsOn statement (suc from) to
 
--- A step begins at the first node, if it isn't the last one too; each node but the last has its statement, and leads onward.
-pub record HasSteps (nodes : List PlanNode) (statements : List Statement) : Type 0 where
+-- A step begins at the first node, if it isn't the last one too; each node but the last has its statement, does a part of
+-- it, and leads onward.
+pub record HasSteps (p : Program) (nodes : List PlanNode) (statements : List Statement) : Type 0 where
   pub first : IsRest nodes 1
-  pub leads : (n : ℕ) (s : PlanNode) → node_at nodes n ≡ Some s → n < length nodes → LeadsAllOn nodes n s
+  pub leads : (n : ℕ) (s : PlanNode) → node_at nodes n ≡ Some s → n < length nodes → OpLeadsOn nodes n s.statement s.op
   pub listed : (n : ℕ) (s : PlanNode) → node_at nodes n ≡ Some s → n < length nodes → IsListed statements s.statement
+  pub fits : (n : ℕ) (s : PlanNode) → node_at nodes n ≡ Some s → n < length nodes → (a : Act) → act_at p s.statement ≡ Some a
+      → IsFitting p s a

@@ -1,5 +1,5 @@
 //! A program and its graph as the interpreter walks them.
-ghost use Rattle.std.specs.Prelude.{◌≡◌, ◌≤◌, slice_get, IfSome, IfOk};
+ghost use Rattle.std.specs.Prelude.{◌≡◌, true, slice_get, is_some, Contains, IfSome, IfOk};
 ghost use Rattle.std.specs.List.{All};
 ghost use Rattle.std.specs.Option.{option_copied};
 ghost use Rattle.cob_program.specs.Act as act;
@@ -9,8 +9,8 @@ ghost use Rattle.cob_graph.specs.Graphs.{IsGraph};
 ghost use Rattle.cob_graph.specs.WellFormed.{IsWellFormed};
 ghost use Rattle.cob_world.specs.Doing.{CanDoProgram};
 ghost use Rattle.cob_plan.specs.Plan.{ArePlanNodes, IsPlanNode, IsStatement};
-ghost use Rattle.cob_plan.specs.Fitting.{FitsIts};
-ghost use Rattle.cob_plan.specs.Stepping.{HasSteps};
+ghost use Rattle.cob_graph.specs.Lookup.{node_at};
+ghost use Rattle.cob_plan.specs.Stepping.{IsListed, HasSteps};
 
 use crate::listing::statements_of;
 use crate::node::PlanNode;
@@ -33,6 +33,23 @@ fn node_at_place(nodes: &[PlanNode], place: usize) -> Option<&PlanNode>
     nodes.get(place)
 }
 
+// The statement with a number, wherever it stands.
+fn statement_among<'a, 'b>(
+    statements: &'a [Statement<'b>],
+    number: u32,
+) -> Option<&'a Statement<'b>>
+    ensures found { IfSome result (λ s. s.now.number ≡ number) }
+    ensures among { IfSome result (λ s. Contains statements.now s.now) }
+    ensures listed { IsListed statements.now number → is_some result ≡ true }
+{
+    for place in 0..statements.len() {
+        if statements[place].number == number {
+            return Some(&statements[place]);
+        }
+    }
+    None
+}
+
 impl<'a> Plan<'a> {
     /// The plan of a program and its graph.
     pub fn of(alloc: Global, program: &'a Program, graph: &Graph) -> Result<Plan<'a>, AllocError>
@@ -40,10 +57,10 @@ impl<'a> Plan<'a> {
         requires whole { IsWellFormed (plain_program program.now) }
         requires able { CanDoProgram (plain_program program.now) }
         ensures nodes { IfOk result (λ plan. ArePlanNodes graph.now plan.nodes.items) }
-        ensures fits { IfOk result (λ plan. All (FitsIts (plain_program program.now)) plan.nodes.items) }
         ensures statements { IfOk result (λ plan. All (IsStatement (plain_program program.now))
             plan.statements.items) }
-        ensures steps { IfOk result (λ plan. HasSteps plan.nodes.items plan.statements.items) }
+        ensures steps { IfOk result (λ plan. HasSteps (plain_program program.now) plan.nodes.items
+            plan.statements.items) }
     {
         let nodes = nodes_of(alloc, graph)?;
         let statements = statements_of(alloc, program)?;
@@ -54,8 +71,7 @@ impl<'a> Plan<'a> {
     pub fn node(&self, number: u32) -> Option<&PlanNode>
         ensures is { (g : declared_graph.Graph) → ArePlanNodes g self.now.nodes.items
             → IfSome result (λ s. IsPlanNode g number s.now) }
-        ensures fits { (p : act.Program) → All (FitsIts p) self.now.nodes.items
-            → IfSome result (λ s. FitsIts p s.now) }
+        ensures at { option_copied result ≡ node_at self.now.nodes.items number }
     {
         if number == 0 {
             return None;
@@ -63,21 +79,17 @@ impl<'a> Plan<'a> {
         node_at_place(&self.nodes, number as usize - 1)
     }
 
-    /// The statement with a number, which counts from 1.
+    /// The statement with a number: the one at that place, as a source has it, or wherever it stands.
     pub fn statement(&self, number: u32) -> Option<&Statement<'a>>
         ensures found { IfSome result (λ s. s.now.number ≡ number) }
-        ensures positive { IfSome result (λ _. 1 ≤ number) }
+        ensures listed { IsListed self.now.statements.items number → is_some result ≡ true }
         ensures sound { (p : act.Program) → All (IsStatement p) self.now.statements.items
             → IfSome result (λ s. IsStatement p s.now) }
     {
-        if number == 0 {
-            return None;
-        }
-        let statement = self.statements.as_slice().get(number as usize - 1)?;
-        if statement.number == number {
-            Some(statement)
-        } else {
-            None
+        let statements = self.statements.as_slice();
+        match statements.get((number as usize).saturating_sub(1)) {
+            Some(statement) if statement.number == number => Some(statement),
+            _ => statement_among(statements, number),
         }
     }
 }

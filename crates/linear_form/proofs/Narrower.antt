@@ -5,7 +5,7 @@ use Rattle.std.proofs.lemmas.Int.{ints, clamps}
 use Rattle.decimal_interval.specs.declared.bounds.Interval.{Interval}
 use Rattle.decimal_interval.specs.Bounds.{Holds, IsSmall}
 use Rattle.decimal_interval.proofs.Ends.{low_held, high_held}
-use Rattle.decimal_interval.proofs.Sizes.{small_between}
+use Rattle.linear_form.proofs.SmallNumbers.{small_between}
 use Rattle.linear_form.specs.declared.form.Lin.{Lin}
 use Rattle.linear_form.specs.Forms.{coef, coefs_of, AreSmallCoefs, IsSmallConstant, IsSmallForm}
 use Rattle.linear_form.specs.Results.{added_coefs, added_constant, sum_of, scaled_coefs, scaled_constant, multiple_of, IsNarrower}

@@ -7,7 +7,7 @@ use Rattle.std.proofs.lemmas.Bool.{and_parts, ltb-true}
 use Rattle.std.proofs.lemmas.List.Sums.{AllPass-from_list_all}
 use Rattle.decimal_interval.specs.Bounds.{IsSmall}
 use Rattle.decimal_interval.specs.Corners.{interval}
-use Rattle.decimal_interval.proofs.Sizes.{small_between}
+use Rattle.linear_form.proofs.SmallNumbers.{small_between}
 use Rattle.cob_program.specs.Sum.{Sum, MkSum, Parts, no_parts, more_parts, Part, MkPart, Factors, no_factors, more_factors, MkFactor, Atom, item, number, group}
 use Rattle.cob_program.specs.Values.{whole_number, literal, with_factor, ◌>>=◌}
 use Rattle.cob_program.proofs.Steps.{some_bound, some_same}

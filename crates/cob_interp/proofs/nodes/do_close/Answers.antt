@@ -12,6 +12,7 @@ use Rattle.cob_interp.proofs.Emptying.{emptied_keeps, sees_out, out_again, under
 use Rattle.cob_interp.proofs.Placing.{placed_ends}
 use Rattle.cob_interp.proofs.TrackLemmas.{placed_on}
 use Rattle.cob_interp.proofs.Written.{left_by, unless_weaker}
+use Rattle.cob_interp.proofs.FitLemmas.{part_on}
 use Rattle.cob_interp.proofs.nodes.do_close.Goals as goal
 
 pub returns-clause-leads : goal.returns-clause-leads
@@ -71,3 +72,6 @@ returns-clause-placed g c =
     c.in-Close.bad c.in-Close.is (c.requires.place.statement.its ∙ ap Some c.requires.its) c.in-Some.at again.is.decl again.file
     (sym c.in-Some.ensures) again.is.declared again.has _
     does))
+
+pub returns-clause-on : goal.returns-clause-on
+returns-clause-on g c = part_on c.args.setting.now c.args.place.now c.args.step _ _ _ c.do_part.ensures.does

@@ -2,6 +2,7 @@ use Rattle.cob_program.specs.ActView.{plain_act}
 use Rattle.cob_interp.proofs.NodeLemmas.{plain_leads}
 use Rattle.cob_interp.proofs.Placing.{plain_places}
 use Rattle.cob_interp.proofs.Failing.{part_fine}
+use Rattle.cob_interp.proofs.FitLemmas.{part_on}
 use Rattle.cob_interp.proofs.nodes.do_plain.Goals as goal
 
 pub returns-clause-leads : goal.returns-clause-leads
@@ -16,3 +17,6 @@ returns-clause-places c =
 
 pub returns-clause-fine : goal.returns-clause-fine
 returns-clause-fine c = part_fine c.args.setting.now c.args.place.now c.args.step _ _ _ c.do_part.ensures.does
+
+pub returns-clause-on : goal.returns-clause-on
+returns-clause-on c = part_on c.args.setting.now c.args.place.now c.args.step _ _ _ c.do_part.ensures.does

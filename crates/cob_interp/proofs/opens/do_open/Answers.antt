@@ -12,6 +12,7 @@ use Rattle.cob_interp.proofs.TrackLemmas.{stand_on}
 use Rattle.cob_interp.proofs.Placing.{open_places, open_one_placed}
 use Rattle.cob_interp.proofs.Written.{left_by, refused_own}
 use Rattle.cob_interp.proofs.Failing.{never_met, open_met, part_fine}
+use Rattle.cob_interp.proofs.FitLemmas.{part_on}
 use Rattle.cob_interp.proofs.opens.do_open.Goals as goal
 
 pub unreachable-requires : goal.unreachable-requires
@@ -89,3 +90,6 @@ pub returns-clause-met : goal.returns-clause-met
 returns-clause-met g c =
     never_met (open_files c.args.openings.now) _
     (part_fine c.args.setting.now c.args.place.now c.args.step _ _ _ c.do_part-next.ensures.does)
+
+pub returns-clause-on : goal.returns-clause-on
+returns-clause-on g c = part_on c.args.setting.now c.args.place.now c.args.step _ _ _ c.do_part-next.ensures.does

@@ -6,6 +6,7 @@ use Rattle.cob_interp.proofs.Purposes.{slot_held}
 use Rattle.cob_interp.proofs.RecordReads.{idle_arrives, window_arrives, on_file}
 use Rattle.cob_interp.proofs.ReadParts.{idle_part_left, window_part_left}
 use Rattle.cob_interp.proofs.Failing.{never_fails, never_still, part_fine}
+use Rattle.cob_interp.proofs.FitLemmas.{part_on}
 use Rattle.cob_interp.proofs.reads.do_read.Goals as goal
 
 pub unreachable-requires : goal.unreachable-requires
@@ -58,3 +59,6 @@ returns-in-None-clause-fault g c =
 pub returns-in-None-clause-still : goal.returns-in-None-clause-still
 returns-in-None-clause-still g c =
     never_still _ _ (part_fine c.args.setting.now c.args.place.now c.args.step _ _ _ c.do_part.ensures.does)
+
+pub returns-in-None-clause-on : goal.returns-in-None-clause-on
+returns-in-None-clause-on g c = part_on c.args.setting.now c.args.place.now c.args.step _ _ _ c.do_part.ensures.does

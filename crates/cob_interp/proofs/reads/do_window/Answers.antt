@@ -2,6 +2,7 @@ use Rattle.std.proofs.lemmas.Result.{err_from_is_err_and}
 use Rattle.cob_interp.proofs.ReadParts.{rest_part}
 use Rattle.std.proofs.Common.{◌≡◌, false, refl}
 use Rattle.cob_interp.proofs.Failing.{failed_any, never_fails, never_still, part_fine}
+use Rattle.cob_interp.proofs.FitLemmas.{part_on}
 use Rattle.cob_interp.proofs.reads.do_window.Goals as goal
 
 pub returns-in_err-window-clause-reads : goal.returns-in_err-window-clause-reads
@@ -29,3 +30,6 @@ pub returns-clause-still : goal.returns-clause-still
 returns-clause-still g c =
     never_still _ _
     (part_fine c.args.setting.now c.args.place.now c.args.step _ _ _ c.do_part-next.ensures.does)
+
+pub returns-clause-on : goal.returns-clause-on
+returns-clause-on g c = part_on c.args.setting.now c.args.place.now c.args.step _ _ _ c.do_part-next.ensures.does

@@ -1,16 +1,19 @@
-use Rattle.std.proofs.Common.{◌∙◌, arith, refl}
+use Rattle.std.proofs.Common.{◌∙◌, arith, refl, sym}
 use Rattle.std.proofs.lemmas.Result.{err_from_is_err_and}
 use Rattle.cob_interp.specs.Setting.{paths_of}
 use Rattle.cob_interp.specs.Touching.{makes_none}
+use Rattle.cob_interp.proofs.FitLemmas.{led_to_rest, led_within}
 use Rattle.cob_interp.proofs.StepLemmas.{goes_on_underway}
 use Rattle.cob_interp.proofs.Touched.{touches_stay, touches_on}
 use Rattle.cob_interp.proofs.Emptying.{sees_stay, sees_closes, closes_pass}
 use Rattle.cob_interp.proofs.TrackLemmas.{tracks_stay, tracks_pass}
 use Rattle.cob_interp.proofs.steps.close_all.Goals as goal
 
-pub loop-init : goal.loop-init
-loop-init g c = record {
+pub loop-turn-init : goal.loop-turn-init
+loop-turn-init g c = record {
   kept = refl;
+  within = c.requires.within;
+  counts = omega (arith, c.requires.within.above);
   underway = λ sink start underway. underway;
   touches = touches_stay (paths_of c.args.setting.now) makes_none c.args.world.now.world _;
   only = sees_closes (paths_of c.args.setting.now) _ _ _ _ (sees_stay (paths_of c.args.setting.now) _ _);
@@ -19,39 +22,52 @@ loop-init g c = record {
   tracks = tracks_stay _ _ c.requires.live;
 }
 
-pub loop-preserved : goal.loop-preserved
-loop-preserved g c = record {
-  kept = c.in_ok-at.ensures.kept ∙ c.loop.invariant.kept;
-  underway = λ sink start underway. goes_on_underway c.args.setting.now start _ _ c.args.step _
-      (c.rests_at.ensures c.if-rests_at.false)
-      (c.in_ok-at.ensures.leads sink c.args.step start (omega arith) (c.loop.invariant.underway sink start underway));
-  touches = touches_on (paths_of c.args.setting.now) _ _ _ _ _ c.loop.invariant.touches c.loop.invariant.only
-      c.in_ok-at.ensures.touches;
-  only = closes_pass (paths_of c.args.setting.now) _ _ _ _ _ _ c.loop.invariant.only c.in_ok-at.ensures.closes;
-  live = c.in_ok-at.ensures.tracks.live;
-  placed = c.in_ok-at.ensures.placed;
-  tracks = tracks_pass _ _ _ _ _ _ c.loop.invariant.tracks c.in_ok-at.ensures.tracks;
-}
+pub loop-turn-preserved : goal.loop-turn-preserved
+loop-turn-preserved g c =
+    let on = led_within c.args.setting.now.plan.nodes.items c.loop-turn.at c.args.statement _ c.in_ok-at.ensures.on
+    (sym c.rests_at.ensures.same ∙ c.if-rests_at.false) in record {
+      within = on.0;
+      counts = omega (arith, on.1, c.loop-turn.invariant.counts);
+      kept = c.in_ok-at.ensures.kept ∙ c.loop-turn.invariant.kept;
+      underway = λ sink start underway. goes_on_underway c.args.setting.now start _ _ c.args.step _
+          (c.rests_at.ensures.graph c.if-rests_at.false)
+          (c.in_ok-at.ensures.leads sink c.args.step start (omega arith) (c.loop-turn.invariant.underway sink start underway));
+      touches = touches_on (paths_of c.args.setting.now) _ _ _ _ _ c.loop-turn.invariant.touches c.loop-turn.invariant.only
+          c.in_ok-at.ensures.touches;
+      only = closes_pass (paths_of c.args.setting.now) _ _ _ _ _ _ c.loop-turn.invariant.only c.in_ok-at.ensures.closes;
+      live = c.in_ok-at.ensures.tracks.live;
+      placed = c.in_ok-at.ensures.placed;
+      tracks = tracks_pass _ _ _ _ _ _ c.loop-turn.invariant.tracks c.in_ok-at.ensures.tracks;
+    }
 
 pub returns-in_err-at-clause-touches : goal.returns-in_err-at-clause-touches
 returns-in_err-at-clause-touches g c =
-    touches_on (paths_of c.args.setting.now) _ _ _ _ _ c.loop.invariant.touches c.loop.invariant.only
+    touches_on (paths_of c.args.setting.now) _ _ _ _ _ c.loop-turn.invariant.touches c.loop-turn.invariant.only
     c.in_err-at.ensures.touches
 
 pub returns-then-rests_at-clause-touches : goal.returns-then-rests_at-clause-touches
 returns-then-rests_at-clause-touches g c =
-    touches_on (paths_of c.args.setting.now) _ _ _ _ _ c.loop.invariant.touches c.loop.invariant.only
+    touches_on (paths_of c.args.setting.now) _ _ _ _ _ c.loop-turn.invariant.touches c.loop-turn.invariant.only
     c.in_ok-at.ensures.touches
 
 pub returns-in_err-at-clause-tracks : goal.returns-in_err-at-clause-tracks
-returns-in_err-at-clause-tracks g c = tracks_pass _ _ _ _ _ _ c.loop.invariant.tracks c.in_err-at.ensures.tracks
+returns-in_err-at-clause-tracks g c = tracks_pass _ _ _ _ _ _ c.loop-turn.invariant.tracks c.in_err-at.ensures.tracks
 
 pub returns-then-rests_at-clause-tracks : goal.returns-then-rests_at-clause-tracks
-returns-then-rests_at-clause-tracks g c = tracks_pass _ _ _ _ _ _ c.loop.invariant.tracks c.in_ok-at.ensures.tracks
+returns-then-rests_at-clause-tracks g c = tracks_pass _ _ _ _ _ _ c.loop-turn.invariant.tracks c.in_ok-at.ensures.tracks
 
 pub returns-in_err-at-clause-leads : goal.returns-in_err-at-clause-leads
 returns-in_err-at-clause-leads g c =
     let p = err_from_is_err_and c.from_residual.result c.from_residual.ensures.1 in
     rw (p.1, p.2)
     (λ sink budget start within u. c.in_err-at.ensures.leads sink budget start within
-    (c.loop.invariant.underway sink start u))
+    (c.loop-turn.invariant.underway sink start u))
+
+pub returns-then-rests_at-clause-rest : goal.returns-then-rests_at-clause-rest
+returns-then-rests_at-clause-rest g c =
+    led_to_rest c.args.setting.now.plan.nodes.items c.loop-turn.at c.args.statement _ c.in_ok-at.ensures.on
+    (sym c.rests_at.ensures.same ∙ c.if-rests_at.true)
+
+pub unreachable-requires : goal.unreachable-requires
+unreachable-requires g c =
+    omega (arith, c.loop-turn.invariant.counts, c.loop-turn.invariant.within.below, c.args.setting.now.plan.nodes.ok.0)

@@ -1,13 +1,16 @@
-use Rattle.cob_interp.specs.Setting.{paths_of}
-use Rattle.cob_interp.specs.Touching.{makes_none}
-use Rattle.cob_interp.proofs.Touched.{touches_stay}
+use Rattle.cob_program.specs.Act.{close_files}
+use Rattle.cob_interp.proofs.FitLemmas.{act_is, on_by}
 use Rattle.cob_interp.proofs.steps.close_next.Goals as goal
 
-pub returns-in_default-clause-touches : goal.returns-in_default-clause-touches
-returns-in_default-clause-touches g c = touches_stay (paths_of c.args.setting.now) makes_none c.args.world.now.world _
+pub do_close-requires-clause-its : goal.do_close-requires-clause-its
+do_close-requires-clause-its g c =
+    act_is c.args.setting.now c.args.node c.place-place.result c.place-place.ensures.is c.place-place.ensures.fits
+    c.args.statement (close_files c.args.closed.now) c.requires.within c.requires.its
 
-pub returns-in-Open-clause-touches : goal.returns-in-Open-clause-touches
-returns-in-Open-clause-touches g c = touches_stay (paths_of c.args.setting.now) makes_none c.args.world.now.world _
+pub returns-clause-leads : goal.returns-clause-leads
+returns-clause-leads g c = λ sink budget. c.do_close.ensures.leads sink c.args.node budget c.place-place.ensures.is
 
-pub returns-in-Close-clause-leads : goal.returns-in-Close-clause-leads
-returns-in-Close-clause-leads g c = λ sink budget. c.do_close.ensures.leads sink c.args.node budget c.in-Some.ensures
+pub returns-clause-on : goal.returns-clause-on
+returns-clause-on g c =
+    on_by c.args.setting.now c.args.node c.place-place.result c.place-place.ensures.is c.place-place.ensures.fits
+    c.args.statement _ c.requires.within c.do_close.ensures.on

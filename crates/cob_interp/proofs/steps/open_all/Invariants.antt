@@ -1,15 +1,18 @@
-use Rattle.std.proofs.Common.{◌≡◌}
+use Rattle.std.proofs.Common.{◌≡◌, ◌<◌}
 use Rattle.batch_io.specs.SinkState.{SinkState}
 use Rattle.cob_interp.specs.Running.{Outside, outside, IsUnderway}
+use Rattle.cob_plan.specs.Stepping.{IsWithin}
 use Rattle.cob_interp.specs.Setting.{program_of, paths_of}
 use Rattle.cob_interp.specs.Touching.{Makes, OpensOnly, makes_in}
 use Rattle.cob_interp.specs.Tracking.{AreOpen, ArePlaced, Tracks}
 use Rattle.cob_interp.proofs.steps.open_all.Given as goal
 
 -- the first files were opened
-abbrev pub invariant-loop : goal.invariant-loop
-invariant-loop g l = record {
+abbrev pub invariant-loop-turn : goal.invariant-loop-turn
+invariant-loop-turn g l = record {
   kept : l.world.program ≡ l.fn.world.program;
+  within : IsWithin l.setting.plan.nodes.items l.at l.statement;
+  counts : l._turn < l.at;
   underway : (sink : SinkState) (start : Outside)
       → IsUnderway (program_of l.setting) l.setting.graph.now (paths_of l.setting) start
       (outside (g.F.Files.state l.fn.files) sink)

@@ -1,15 +1,16 @@
-use Rattle.cob_interp.specs.Setting.{paths_of}
-use Rattle.cob_interp.specs.Touching.{makes_in}
-use Rattle.cob_interp.proofs.Touched.{makes_stay}
+use Rattle.cob_program.specs.Act.{open_files}
+use Rattle.cob_interp.proofs.FitLemmas.{act_is, on_by}
 use Rattle.cob_interp.proofs.steps.open_next.Goals as goal
 
-pub returns-in_default-clause-touches : goal.returns-in_default-clause-touches
-returns-in_default-clause-touches g c =
-    makes_stay (paths_of c.args.setting.now) (makes_in c.args.openings.now) c.args.world.now.world _
-
-pub returns-then-place-statement-clause-touches : goal.returns-then-place-statement-clause-touches
-returns-then-place-statement-clause-touches g c =
-    makes_stay (paths_of c.args.setting.now) (makes_in c.args.openings.now) c.args.world.now.world _
+pub do_open-requires-clause-its : goal.do_open-requires-clause-its
+do_open-requires-clause-its g c =
+    act_is c.args.setting.now c.args.node c.place-place.result c.place-place.ensures.is c.place-place.ensures.fits
+    c.args.statement (open_files c.args.openings.now) c.requires.within c.requires.its
 
 pub returns-clause-leads : goal.returns-clause-leads
-returns-clause-leads g c = λ sink budget. c.do_open.ensures.leads sink c.args.node budget c.in-Some.ensures
+returns-clause-leads g c = λ sink budget. c.do_open.ensures.leads sink c.args.node budget c.place-place.ensures.is
+
+pub returns-clause-on : goal.returns-clause-on
+returns-clause-on g c =
+    on_by c.args.setting.now c.args.node c.place-place.result c.place-place.ensures.is c.place-place.ensures.fits
+    c.args.statement _ c.requires.within c.do_open.ensures.on

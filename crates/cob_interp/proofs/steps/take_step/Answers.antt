@@ -5,11 +5,12 @@ use Rattle.cob_interp.specs.Running.{outside}
 use Rattle.cob_interp.specs.Setting.{program_of, paths_of}
 use Rattle.cob_interp.specs.Touching.{makes_by}
 use Rattle.cob_interp.proofs.CallLemmas.{is_open, is_close}
+use Rattle.cob_interp.proofs.FitLemmas.{own_within, uncalled_other}
 use Rattle.cob_interp.proofs.Taking.{free_close, free_open, free_other, step_begins}
 use Rattle.cob_interp.proofs.Readied.{touches_known}
 use Rattle.cob_interp.proofs.Written.{left_behind}
 use Rattle.cob_interp.proofs.Touched.{touches_stay, opening_touches, none_touches}
-use Rattle.cob_program.specs.Act.{Act, open_files}
+use Rattle.cob_program.specs.Act.{Act, open_files, close_files}
 use Rattle.cob_interp.specs.Meeting.{IsMetBy}
 use Rattle.cob_interp.proofs.Failing.{close_first, close_met, never_met, never_still, open_first, read_met}
 use Rattle.cob_interp.proofs.steps.take_step.Goals as goal
@@ -59,7 +60,7 @@ returns-in-Close-clause-takes g c = λ sink budget steps start counted within st
     within start
     (outside (g.F.Files.state c.args.files.now) sink) c.args.world.now.world stands
     (outside (g.F.Files.state c.close_all.new.files) sink) c.close_all.new.world.world _
-    (free_close c.in-Close.field-0.now _ (is_close c.in-Close.field-0 _ c.in-Close.ensures))
+    (free_close c.in-Close.closed.now _ (is_close c.in-Close.closed _ c.in-Close.ensures))
     (c.close_all.ensures.leads sink budget)
 
 pub returns-in-Other-clause-takes : goal.returns-in-Other-clause-takes
@@ -99,3 +100,20 @@ returns-in-Other-clause-met g c = never_met (plain_act c.args.place.now.statemen
 
 pub returns-in-Other-clause-still : goal.returns-in-Other-clause-still
 returns-in-Other-clause-still g c = λ _. never_still _ _ c.go.ensures.fine
+
+pub open_all-requires-clause-within : goal.open_all-requires-clause-within
+open_all-requires-clause-within g c =
+    own_within c.args.setting.now c.args.node c.args.place.now c.requires.starts.is c.requires.fits
+
+pub close_all-requires-clause-within : goal.close_all-requires-clause-within
+close_all-requires-clause-within g c =
+    own_within c.args.setting.now c.args.node c.args.place.now c.requires.starts.is c.requires.fits
+
+pub close_all-requires-clause-its : goal.close_all-requires-clause-its
+close_all-requires-clause-its g c =
+    subst (λ (n : ℕ). act_at (program_of c.args.setting.now) n ≡ Some (close_files c.in-Close.closed.now))
+    c.requires.starts.is.number
+    (c.requires.starts.is.statement.its ∙ ap Some (is_close _ _ c.in-Close.ensures))
+
+pub go-requires-clause-uncalled : goal.go-requires-clause-uncalled
+go-requires-clause-uncalled g c = uncalled_other _ c.in-Other.ensures

@@ -1,11 +1,13 @@
 use Rattle.std.proofs.Common.{◌≡◌}
 use Rattle.cob_interp.specs.Tracking.{AreOpen, ArePlaced, Tracks}
 use Rattle.cob_interp.specs.Running.{Outside, outside, IsAt}
+use Rattle.cob_plan.specs.Stepping.{IsRest}
 use Rattle.cob_interp.specs.Setting.{program_of, paths_of}
 use Rattle.cob_interp.proofs.walk.walk.Given as goal
 
 abbrev pub invariant-loop-steps : goal.invariant-loop-steps
 invariant-loop-steps g l = record {
+  rests : IsRest l.setting.plan.nodes.items l.node;
   kept : l.world.program ≡ l.fn.world.program;
   here : (start : Outside)
       → IsAt (program_of l.setting) l.setting.graph.now (paths_of l.setting) l.budget start

@@ -1,5 +1,5 @@
 use Rattle.cob_program.specs.ActView.{plain_program}
-use Rattle.cob_plan.proofs.Planned.{laid_nodes, laid_out, nodes_fit}
+use Rattle.cob_plan.proofs.Planned.{laid_nodes, laid_out}
 use Rattle.cob_plan.proofs.Stepped.{has_steps}
 use Rattle.cob_plan.proofs.plan.Plan.of.Goals as goal
 
@@ -8,14 +8,6 @@ nodes_of-requires c =
     let p = plain_program c.args.program.now in
     let g = c.args.graph.now in
     (laid_nodes p g c.requires.whole c.requires.graph, laid_out p g c.requires.whole c.requires.graph)
-
-pub returns-clause-fits : goal.returns-clause-fits
-returns-clause-fits c =
-    let p = plain_program c.args.program.now in
-    let g = c.args.graph.now in
-    nodes_fit p g c.requires.whole c.requires.graph c.in_ok-nodes.nodes.items
-    (c.in_ok-nodes.ensures.laid (laid_nodes p g c.requires.whole c.requires.graph)
-    (laid_out p g c.requires.whole c.requires.graph))
 
 pub returns-clause-steps : goal.returns-clause-steps
 returns-clause-steps c =
