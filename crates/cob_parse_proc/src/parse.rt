@@ -17,10 +17,11 @@ use std::alloc::Global;
 fn whole_in(alloc: Global, lexemes: &[Lexeme]) -> Result<Tree, Halt>
     ensures { Gives plain_tree result (whole (tree_at limit) (signs lexemes.now)) }
 {
-    let (tree, rest) = tree_in(alloc, lexemes)?;
+    let (tree, rest) = or_leave!(tree_in(alloc, lexemes));
     if rest.is_empty() {
         Ok(tree)
     } else {
+        drop(tree);
         Err(Halt::Stop(rest.len()))
     }
 }

@@ -15,10 +15,10 @@ fn before(alloc: Global, lexemes: &[Lexeme]) -> Result<(Front, &[Lexeme]), Halt>
     ensures gives { Gives (λ x. ((x.0, tt), signs x.1.now)) result (before_at (signs lexemes.now)) }
     ensures rest { IfOk result (λ x. length x.1.now < length lexemes.now) }
 {
-    let (front, rest) = front_in(alloc, lexemes)?;
-    let rest = expect(Keyword::Procedure, rest)?;
-    let rest = expect(Keyword::Division, rest)?;
-    let rest = stop(rest)?;
+    let (front, rest) = or_leave!(front_in(alloc, lexemes));
+    let rest = or_leave!(expect(Keyword::Procedure, rest), front);
+    let rest = or_leave!(expect(Keyword::Division, rest), front);
+    let rest = or_leave!(stop(rest), front);
     Ok((front, rest))
 }
 
@@ -27,8 +27,8 @@ fn end(alloc: Global, lexemes: &[Lexeme]) -> Result<(EndProgram, &[Lexeme]), Hal
     ensures gives { Gives (λ x. (x.0, signs x.1.now)) result (end_at (signs lexemes.now)) }
     ensures rest { IfOk result (λ x. length x.1.now < length lexemes.now) }
 {
-    let (line, rest) = line_of(Keyword::EndProgram, lexemes)?;
-    let (name, rest) = named(alloc, rest)?;
+    let (line, rest) = or_leave!(line_of(Keyword::EndProgram, lexemes));
+    let (name, rest) = or_leave!(named(alloc, rest));
     Ok((EndProgram { line, name }, rest))
 }
 
@@ -37,7 +37,7 @@ fn ending(alloc: Global, lexemes: &[Lexeme]) -> Result<(Option<EndProgram>, &[Le
     ensures rest { IfOk result (λ x. length x.1.now ≤ length lexemes.now) }
 {
     if stands(Keyword::EndProgram, lexemes) {
-        let (end, rest) = end(alloc, lexemes)?;
+        let (end, rest) = or_leave!(end(alloc, lexemes));
         Ok((Some(end), rest))
     } else {
         Ok((None, lexemes))
@@ -49,10 +49,10 @@ pub fn tree_in(alloc: Global, lexemes: &[Lexeme]) -> Result<(Tree, &[Lexeme]), H
     ensures gives { Gives (λ x. (plain_tree x.0, signs x.1.now)) result (tree_at limit (signs lexemes.now)) }
     ensures rest { IfOk result (λ x. length x.1.now ≤ length lexemes.now) }
 {
-    let (front, rest) = before(alloc, lexemes)?;
-    let (sentences, rest) = sentences(alloc, rest)?;
-    let (paragraphs, rest) = paragraphs(alloc, rest)?;
-    let (end, rest) = ending(alloc, rest)?;
+    let (front, rest) = or_leave!(before(alloc, lexemes));
+    let (sentences, rest) = or_leave!(sentences(alloc, rest), front);
+    let (paragraphs, rest) = or_leave!(paragraphs(alloc, rest), front, sentences);
+    let (end, rest) = or_leave!(ending(alloc, rest), front, sentences, paragraphs);
     let sentences = Many::of(sentences);
     let paragraphs = Many::of(paragraphs);
     Ok((

@@ -122,7 +122,10 @@ pub fn with_phrases(
 {
     match read {
         Ok((tail, takes_not, rest)) => Ok((arithmetic.with_tail(tail), takes_not, rest)),
-        Err(halt) => Err(halt),
+        Err(halt) => {
+            drop(arithmetic);
+            Err(halt)
+        }
     }
 }
 
@@ -136,7 +139,10 @@ pub fn with_branches(
 {
     match read {
         Ok((branches, takes_not, rest)) => Ok((conditional(test, branches), takes_not, rest)),
-        Err(halt) => Err(halt),
+        Err(halt) => {
+            drop(test);
+            Err(halt)
+        }
     }
 }
 
@@ -150,7 +156,10 @@ pub fn with_cases(
 {
     match read {
         Ok((cases, takes_not, rest)) => Ok((evaluation(subject, cases), takes_not, rest)),
-        Err(halt) => Err(halt),
+        Err(halt) => {
+            drop(subject);
+            Err(halt)
+        }
     }
 }
 
@@ -164,7 +173,10 @@ pub fn with_body(
 {
     match read {
         Ok((body, takes_not, rest)) => Ok((inline(turns, body), takes_not, rest)),
-        Err(halt) => Err(halt),
+        Err(halt) => {
+            drop(turns);
+            Err(halt)
+        }
     }
 }
 
@@ -179,6 +191,10 @@ pub fn with_ends(
 {
     match read {
         Ok((ends, takes_not, rest)) => Ok((reading(file, into, ends), takes_not, rest)),
-        Err(halt) => Err(halt),
+        Err(halt) => {
+            drop(file);
+            drop(into);
+            Err(halt)
+        }
     }
 }
