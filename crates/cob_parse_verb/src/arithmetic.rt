@@ -16,7 +16,7 @@ use crate::list::{opnds_in, recvs_in};
 use crate::target::{Aim, Target, aim_in, giving_in, giving_remainder_in, target_in};
 use crate::token::expect_equal;
 use cob_lexemes::{Halt, Lexeme, behind, expect};
-use cob_parse_expr::{expr_in, opnd_in};
+use cob_parse_expr::{expr_in, opnd_in, or_leave};
 use cob_tree::{Expr, Keyword, Many, Opnd, Recv, Ref, Tail, Verb, Way};
 use std::alloc::Global;
 

@@ -18,7 +18,7 @@ use crate::simple::{
 use crate::token::begin_in;
 use crate::word::{Begin, Start};
 use cob_lexemes::{Halt, Lexeme};
-use cob_parse_expr::cond_in;
+use cob_parse_expr::{cond_in, or_leave};
 use cob_tree::{Cond, Loop, Name, Ref, Subject, Verb};
 use std::alloc::Global;
 

@@ -1,21 +1,6 @@
 //! Reads statements up to their own lists of statements (ISO 1989:1985, "Procedure division").
 #![tactic(auto)]
 
-/// What a call gives. Where it fails, what was read before is dropped by calls, and the fault is handed on. `?` does the
-/// same, but its function is then dear to prove: at each `?` stands the whole type of what the function gives, and at
-/// each way out all drops, part by part.
-macro_rules! or_leave {
-    ($given:expr $(, $before:expr)*) => {
-        match $given {
-            Ok(given) => given,
-            Err(halt) => {
-                $(drop($before);)*
-                return Err(halt);
-            }
-        }
-    };
-}
-
 mod ahead;
 mod arithmetic;
 mod head;

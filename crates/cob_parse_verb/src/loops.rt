@@ -11,7 +11,7 @@ ghost use Rattle.cob_parse_verb.specs.Turning.{times_at, varying_at, until_at, v
 use crate::ahead::operand_begins;
 use crate::token::place_in;
 use cob_lexemes::{Halt, Lexeme, behind, expect};
-use cob_parse_expr::{cond_in, opnd_in, ref_in};
+use cob_parse_expr::{cond_in, opnd_in, or_leave, ref_in};
 use cob_tree::{Cond, Keyword, Loop, Opnd, Place, Varying};
 use std::alloc::Global;
 

@@ -16,7 +16,7 @@ use crate::head::Head;
 use crate::loops::{loop_in, tested_in, times};
 use crate::token::{begins_constant, begins_name};
 use cob_lexemes::{Halt, Lexeme, behind, expect};
-use cob_parse_expr::{const_at, name_at, ref_in};
+use cob_parse_expr::{const_at, name_at, or_leave, ref_in};
 use cob_tree::{Keyword, Loop, Name, Opnd, Verb};
 use std::alloc::Global;
 

@@ -16,7 +16,7 @@ ghost use Rattle.cob_parse_verb.specs.VerbSteps.{plain_head, sel_behind};
 use crate::ahead::when_begins;
 use crate::head::Head;
 use cob_lexemes::{Halt, Lexeme, behind, expect};
-use cob_parse_expr::{cond_in, expr_in, one_alone, ref_in};
+use cob_parse_expr::{cond_in, expr_in, one_alone, or_leave, ref_in};
 use cob_tree::{Cond, Expr, Keyword, Sel, Subject};
 use std::alloc::Global;
 

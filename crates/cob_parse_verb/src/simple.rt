@@ -10,7 +10,7 @@ ghost use Rattle.cob_parse_verb.specs.VerbSteps.{plain_head};
 use crate::head::Head;
 use crate::list::{files_in, names_in, opnds_in, refs_in};
 use cob_lexemes::{Halt, Lexeme, behind, expect};
-use cob_parse_expr::{name_at, opnd_in, ref_in};
+use cob_parse_expr::{name_at, opnd_in, or_leave, ref_in};
 use cob_tree::{Keyword, Many, Name, Opens, Opnd, Ref, Verb};
 use std::alloc::Global;
 

@@ -9,7 +9,7 @@ use crate::ahead::giving_begins;
 use crate::list::recvs_in;
 use crate::token::begins_name;
 use cob_lexemes::{Halt, Lexeme, behind, expect};
-use cob_parse_expr::{const_at, ref_in};
+use cob_parse_expr::{const_at, or_leave, ref_in};
 use cob_tree::{Keyword, Opnd, Recv, Ref};
 use std::alloc::Global;
 
