@@ -7,6 +7,7 @@ use crate::env::env_part;
 use crate::file::data_part;
 use crate::word::{heading, named, title};
 use cob_lexemes::{Halt, Lexeme, expect};
+use cob_parse_expr::or_leave;
 use cob_tree::{Front, Keyword};
 use std::alloc::Global;
 
@@ -15,11 +16,11 @@ pub fn front_in(alloc: Global, lexemes: &[Lexeme]) -> Result<(Front, &[Lexeme]),
     ensures gives { Gives (λ x. (x.0, signs x.1.now)) result (front_at (signs lexemes.now)) }
     ensures rest { IfOk result (λ x. length x.1.now < length lexemes.now) }
 {
-    let rest = heading(Keyword::Identification, Keyword::Division, lexemes)?;
-    let rest = title(Keyword::ProgramId, rest)?;
-    let (name, rest) = named(alloc, rest)?;
-    let (env, rest) = env_part(alloc, rest)?;
-    let (data, rest) = data_part(alloc, rest)?;
+    let rest = or_leave!(heading(Keyword::Identification, Keyword::Division, lexemes));
+    let rest = or_leave!(title(Keyword::ProgramId, rest));
+    let (name, rest) = or_leave!(named(alloc, rest));
+    let (env, rest) = or_leave!(env_part(alloc, rest), name);
+    let (data, rest) = or_leave!(data_part(alloc, rest), name, env);
     Ok((Front { name, env, data }, rest))
 }
 
@@ -28,7 +29,7 @@ pub fn before_procedure_in(alloc: Global, lexemes: &[Lexeme]) -> Result<(Front, 
     ensures gives { Gives (λ x. ((x.0, tt), signs x.1.now)) result (before_procedure_at (signs lexemes.now)) }
     ensures rest { IfOk result (λ x. length x.1.now < length lexemes.now) }
 {
-    let (front, rest) = front_in(alloc, lexemes)?;
-    let rest = expect(Keyword::Procedure, rest)?;
+    let (front, rest) = or_leave!(front_in(alloc, lexemes));
+    let rest = or_leave!(expect(Keyword::Procedure, rest), front);
     Ok((front, rest))
 }
