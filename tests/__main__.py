@@ -2,13 +2,14 @@
 
 A module each has the cases of a kind: `reference` those that were worked out by an independent program, `sample` those
 around the sample certificate, `analysed` reports of `analyse` that were worked out by hand, `analyses` sources that an
-independent program looked at, `packs` the packs of cells, `trials` those of `trial`, `programs`
-small programs by subject, `limits` what stands at a limit and beyond it, `outside` files and standard outputs that
-fail, `report`, `report_files` and `nightly` those of the tool around the program and of its document, `calls` the calls
-of libraries, `ranges` those that work with ranges of numbers, `matrices` those with matrices and forms, `edges` and
-`diffs` those with edges of control graphs, and `slow` the comparison of the interpreter with the plain slow step. The
-last six need programs of their own, which the gate builds: without them their cases are left out, which is told, and is
-a failure where the word is `--all`. With `--large` `diffs` tries all of its programs.
+independent program looked at, `packs` the packs of cells, `trials` those of `trial`, `programs` small programs by
+subject, `words` the words of the command line, `limits` what stands at a limit and beyond it, `outside` files and
+standard outputs that fail, `bytewise` files that give or take a byte at a time, `report`, `report_files` and `nightly`
+those of the tool around the program and of its document, `calls` the calls of libraries, `ranges` those that work with
+ranges of numbers, `matrices` those with matrices and forms, `edges` and `diffs` those with edges of control graphs, and
+`slow` the comparison of the interpreter with the plain slow step. The last six need programs of their own, which the
+gate builds: without them their cases are left out, which is told, and is a failure where the word is `--all`. With
+`--large` `diffs` tries all of its programs.
 """
 
 import itertools
@@ -16,8 +17,10 @@ import sys
 from concurrent.futures import ThreadPoolExecutor
 from os import cpu_count
 
-from tests import analysed, analyses, built, calls, diffs, edges, limits, matrices, nightly, outside, packs, programs
-from tests import ranges, reference, report, report_files, sample, slow, trials
+from tests import analysed, analyses, built, bytewise, calls, diffs, edges, limits, matrices, nightly, outside, packs
+from tests import programs, ranges, reference, report, report_files, sample, slow, trials, words
+
+PLAIN = (reference, sample, analysed, analyses, packs, trials, programs, words, limits, outside, bytewise)
 
 TOOL = (report, report_files, nightly)
 
@@ -40,11 +43,7 @@ def main():
         print(line)
     if lacking and "--all" in sys.argv[1:]:
         return 1
-    kinds = [
-        kind
-        for kind in (reference, sample, analysed, analyses, packs, trials, programs, limits, outside, *TOOL, *DRIVEN)
-        if kind not in lacking
-    ]
+    kinds = [kind for kind in (*PLAIN, *TOOL, *DRIVEN) if kind not in lacking]
     checks = itertools.chain.from_iterable(kind.checks() for kind in kinds)
     with ThreadPoolExecutor(cpu_count()) as pool:
         told = list(pool.map(lambda check: check(), checks))

@@ -1,13 +1,13 @@
-"""Calls of libraries: the text of a source, its tokens, what items hold, and decimals, answered by the program
-case_driver; and certificates, read and printed again by bench, with what its other
-measures show of small inputs. Files without `by_rule` in their name hold
-reference cases."""
+"""Calls of libraries: the text of a source, its tokens, what items hold, decimals, and words as `clap` reads them,
+answered by the program case_driver; and certificates, read and printed again by bench, with what its other measures
+show of small inputs. Files without `by_rule` in their name hold reference cases."""
 
 import itertools
 import subprocess
 
 from tests.built import Case, program
 from tests.reference import CERTIFICATE, cases_of
+from tests.words import by_clap
 
 PROGRAMS = ("case_driver", "bench")
 
@@ -81,6 +81,8 @@ def driven():
     for name, case in cases_of("decimals_by_rule.jsonl"):
         for call, answer in of_decimals(case):
             yield name, call, answer
+    for line, answer in by_clap():
+        yield "words", f"clap {line}", answer
 
 
 def told(name, call, answer, wanted):

@@ -22,6 +22,24 @@ PAID = b"00042  45.5       965.00" b"TOTAL GROSS       965.00"
 SHOWN = "RUN DATE 20240131\nDETAILS 00001 BAD 00000\n"
 READ, WRITTEN = (5, "E3 read\n"), (6, "E4 write\n")
 
+# writes a file, and then shows a text
+WRITER = """       IDENTIFICATION DIVISION.
+       PROGRAM-ID. W.
+       ENVIRONMENT DIVISION.
+       INPUT-OUTPUT SECTION.
+       FILE-CONTROL.
+       SELECT F ASSIGN TO OUT.
+       DATA DIVISION.
+       FILE SECTION.
+       FD F.
+       01 R PIC X.
+       PROCEDURE DIVISION.
+       OPEN OUTPUT F.
+       WRITE R FROM 'A'.
+       CLOSE F.
+       DISPLAY 'B'.
+"""
+
 # shows 200 kB, more than a pipe holds
 TALKING = SAMPLE.replace("ADD 1 TO N.", f"PERFORM 5000 TIMES\n       DISPLAY '{'A' * 40}'\n       END-PERFORM.")
 
@@ -47,6 +65,13 @@ class Front:
 
     def __eq__(self, other):
         return other is not None and self.content.startswith(other)
+
+
+class Whole:
+    """What equals each certificate that is written to its end."""
+
+    def __eq__(self, other):
+        return other is not None and other.startswith(b"COBSOUND 1\n") and other.endswith(b"\nend\n")
 
 
 def left_in(folder):
@@ -189,6 +214,8 @@ def sinks():
         yield Outer(f"{sink}", ["check", "S", "C"], GIVEN, 6, "", sink=sink)
         yield Outer(f"{sink}", ["analyse", "S", "NEW"], GIVEN, 6, "", {**GIVEN, "NEW": CERTIFICATE}, sink=sink)
         yield Outer(f"{sink}", ["run", "S"], PAYING, 6, "", paid, sink=sink)
+        yield Outer(f"{sink}", ["run", "W"], {"W": WRITER}, 6, "", {"W": WRITER, "OUT": "A"}, sink=sink)
+        yield Outer(f"{sink}", ["trial", "1"], {}, 6, "", {"TRIAL": Whole()}, sink=sink)
         for words, status in ((["check", "NOSUCH", "C"], 7), (["check", "S", "."], 5), (["check"], 4), ([], 4)):
             yield Outer(f"{sink}", words, GIVEN, status, "", sink=sink)
         for words in (["check", "S", "C"], ["analyse", "S", "C"], ["run", "S"]):

@@ -21,7 +21,7 @@ use Rattle.analyse_command.specs.declared.findings.Findings.{Findings}
 use Rattle.analyse_command.specs.Analysis.{Analysis, analysis}
 use Rattle.analyse_command.specs.Endings.{EndsWithAnalysis}
 use Rattle.analyse_command.specs.Steps.{IsFinding}
-use Rattle.trial_source.specs.Trial.{trial_text}
+use Rattle.analyse_command.specs.Trial.{trial_text}
 use Rattle.analyse_command.specs.TrialEndings.{AnswersTrial, EndsByTrial, trial_name}
 use Rattle.analyse_command.specs.TrialSteps.{IsNumberedFinding, IsTrialFinding}
 

@@ -1,6 +1,7 @@
 pub mod Analysis
 pub mod Endings
 pub mod Steps
+pub mod Trial
 pub mod TrialEndings
 pub mod TrialSteps
 pub use Rattle.check_command.specs.Answers

@@ -9,7 +9,7 @@ use Rattle.check_command.specs.Shared.Answer.{Answer, Refused}
 use Rattle.check_command.specs.Shared.Call.{Call}
 use Rattle.analyse_command.specs.Analysis.{Analysis, IsFound}
 use Rattle.analyse_command.specs.Endings.{EndsWithAnalysis}
-use Rattle.trial_source.specs.Trial.{trial_text}
+use Rattle.analyse_command.specs.Trial.{trial_text}
 
 -- the name of the file that a trial writes
 abbrev pub trial_name : List ℕ

@@ -8,10 +8,10 @@ ghost use Rattle.analyse_command.specs.TrialEndings.{AnswersTrial, nodes_line};
 ghost use Rattle.analyse_command.specs.TrialSteps.{IsNumberedFinding, IsTrialFinding};
 
 use crate::findings::{Findings, found_for};
+use crate::source::trial_source;
 use alarm_report::push_number;
 use check_command::answers::{Answer, Laid, Stop, answer_to, laid_in};
 use std::alloc::{AllocError, Global};
-use trial_source::trial_source;
 
 /// The name of the file that a trial writes.
 pub const TRIAL_NAME: &str = "TRIAL";

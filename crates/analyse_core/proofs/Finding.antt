@@ -20,7 +20,7 @@ use Rattle.cell_laws.specs.Layer.{cell_flow, clears_at, statement_at}
 use Rattle.cert_text.specs.View.{Certificate}
 use Rattle.cert_text.specs.Allowed.{IsAllowed}
 use Rattle.claimed_rows.specs.MatrixClaims as matrices
-use Rattle.pack_rows.specs.Rows.{matrices_in, packs_lattice}
+use Rattle.diff_bounds.specs.PackRows.{matrices_in, packs_lattice}
 use Rattle.pack_laws.specs.Layer.{clears_at2, sizes_of}
 use Rattle.pack_laws.specs.Laws.{AreBelow}
 use Rattle.pack_laws.proofs.Clears.{cleared_stays}

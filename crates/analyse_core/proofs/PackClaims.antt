@@ -26,8 +26,8 @@ use Rattle.claimed_rows.specs.MatrixClaims as matrices
 use Rattle.claimed_rows.proofs.Standing.{rows_are_least}
 use Rattle.diff_steps.specs.Packs.{Pack}
 use Rattle.diff_steps.specs.Edges.{bottoms}
-use Rattle.pack_rows.specs.Rows.{matrices_in, row_of, packs_lattice}
-use Rattle.pack_rows.proofs.Rows.{packs_are_a_lattice}
+use Rattle.diff_bounds.specs.PackRows.{matrices_in, row_of, packs_lattice}
+use Rattle.diff_bounds.proofs.PackRows.{packs_are_a_lattice}
 use Rattle.diff_layer.proofs.Rows as rows_of_layer
 use Rattle.pack_laws.specs.Layer.{AreFacts, ArePacks, packs_post, sizes_of}
 use Rattle.pack_laws.specs.Packs.{pack_in}

@@ -13,8 +13,8 @@ use Rattle.diff_bounds.specs.Order.{IsAtMost}
 use Rattle.diff_bounds.specs.Widening.{AreThresholds}
 use Rattle.diff_bounds.specs.Lattice.{next_threshold, widened_word, widened}
 use Rattle.diff_bounds.proofs.WordByWord.{next_of_all}
-use Rattle.pack_rows.specs.Rows.{words_of, matrices_in, matrices_beside, is_least, packs_lattice}
-use Rattle.pack_rows.proofs.Rows.{packs_are_a_lattice}
+use Rattle.diff_bounds.specs.PackRows.{words_of, matrices_in, matrices_beside, is_least, packs_lattice}
+use Rattle.diff_bounds.proofs.PackRows.{packs_are_a_lattice}
 use Rattle.claimed_rows.proofs.MatrixFilling.{matrix_word, matrix_width}
 use Rattle.analyse_core.specs.Assignments.{IsListedWord, HasListedWords, HaveListedWords, IsListedRow}
 

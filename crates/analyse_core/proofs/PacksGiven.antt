@@ -21,7 +21,7 @@ use Rattle.claimed_rows.proofs.Allowing.{claims_fit_there}
 use Rattle.diff_bounds.specs.declared.Pack as declared
 use Rattle.diff_bounds.specs.Widening.{AreThresholds}
 use Rattle.pack_laws.specs.Packs.{ArePacksOfCells}
-use Rattle.pack_rows.specs.Rows.{lists_of}
+use Rattle.diff_bounds.specs.PackRows.{lists_of}
 use Rattle.pack_choice.specs.Choice.{packs_of}
 use Rattle.pack_choice.specs.PackThresholds.{HasFewCells, HasFewDecimals, IsCellList, thresholds_of_pack}
 use Rattle.cert_check.proofs.PackNumbers.{packs_rise}

@@ -14,7 +14,7 @@ use Rattle.dom_laws.specs.Flow.{Flow, goes_back_to, heads_up_to, head_count, IsD
 use Rattle.cell_laws.specs.Layer.{cell_flow}
 use Rattle.diff_bounds.specs.declared.Pack as declared
 use Rattle.diff_steps.specs.Packs.{Pack}
-use Rattle.pack_rows.specs.Rows.{lists_of, width_of}
+use Rattle.diff_bounds.specs.PackRows.{lists_of, width_of}
 use Rattle.claimed_rows.specs.MatrixClaims.{cells_in, sizes_of}
 use Rattle.pack_laws.specs.Layer as layer
 use Rattle.pack_laws.specs.Layer.{diff_flow, diff_lattice}

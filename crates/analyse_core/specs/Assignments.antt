@@ -15,7 +15,7 @@ use Rattle.cell_steps.specs.Homes.{owns}
 use Rattle.cell_laws.specs.Layer.{cell_flow}
 use Rattle.diff_bounds.specs.Matrix.{none}
 use Rattle.diff_bounds.specs.Widening as words
-use Rattle.pack_rows.specs.Rows.{matrices_in, packs_lattice}
+use Rattle.diff_bounds.specs.PackRows.{matrices_in, packs_lattice}
 use Rattle.pack_laws.specs.Layer.{sizes_of, clears_at2}
 use Rattle.pack_choice.specs.Choice.{packs_of}
 use Rattle.cert_check.specs.OpenPairs.{open_at, is_cleared_by}

@@ -14,7 +14,7 @@ use Rattle.diff_bounds.specs.Widening.{AreThresholds}
 use Rattle.diff_steps.specs.Packs.{Pack}
 use Rattle.pack_laws.specs.Packs.{pack_in}
 use Rattle.pack_laws.specs.Layer.{Facts, diff_lattice, diff_flow}
-use Rattle.pack_rows.specs.Rows.{lists_of}
+use Rattle.diff_bounds.specs.PackRows.{lists_of}
 use Rattle.claimed_rows.specs.MatrixClaims.{cells_in}
 use Rattle.pack_choice.specs.Choice.{packs_of}
 use Rattle.pack_choice.specs.PackThresholds.{thresholds_of_pack}

@@ -5,7 +5,7 @@ ghost use Rattle.cell_rows.specs.Rows.{IsReached, cells_of, element_of};
 ghost use Rattle.cert_text.specs.View.{place_of, view};
 ghost use Rattle.claimed_rows.specs.Gaps.{AreSmall, IsSmall};
 ghost use Rattle.claimed_rows.specs.MatrixClaims.{cells_in, sizes_of};
-ghost use Rattle.pack_rows.specs.Rows.{width_of};
+ghost use Rattle.diff_bounds.specs.PackRows.{width_of};
 ghost use Rattle.analyse_core.specs.Certificates.{
   CanBeClaimed,
   certificate_for,

@@ -31,7 +31,7 @@ use Rattle.analyse_command.proofs.Shared.Sources.{Ending, read, one_ending}
 use Rattle.analyse_command.specs.Answers.{certificate_limit, HoldsCertificate}
 use Rattle.analyse_command.specs.Analysis.{Analysis, CanBeClean, IsAnalysisOf, IsFound, pairs_of, report_of, text_of}
 use Rattle.analyse_command.specs.Endings.{EndsByAnalysis, EndsWithAnalysis, IsTooLong, TellsAnalysis, TellsUnwritten}
-use Rattle.trial_source.specs.Trial.{trial_text}
+use Rattle.analyse_command.specs.Trial.{trial_text}
 use Rattle.analyse_command.specs.TrialEndings.{EndsByTrial, nodes_line, trial_name}
 use Rattle.analyse_top.specs.Answers.{Answers, AnswersCommand}
 use Rattle.analyse_top.specs.Conclusion.{Concludes, AnalysesAreAccepted, EndsBy, EndsByAnswer, FindsClean, IsAccepted, IsAnalysed, IsLarge, IsTried, LongTextsAreOfLargePrograms, TrialsAreAccepted}

@@ -13,7 +13,7 @@ use Rattle.analyse_command.specs.Shared.Profile.{IsProgramOf, IsProfileCause}
 use Rattle.analyse_command.specs.Shared.Answer.{Answer, Usage, Absent, Refused, CertificateLong, CertificateBad, CertificateMisfit, NotInductive, Report, AnswersSource, HoldsProgram}
 use Rattle.analyse_command.proofs.Shared.Found.{held_bytes}
 use Rattle.analyse_command.proofs.Shared.Sources.{no_cause}
-use Rattle.trial_source.specs.Trial.{trial_text}
+use Rattle.analyse_command.specs.Trial.{trial_text}
 use Rattle.analyse_command.specs.TrialEndings.{AnswersTrial}
 use Rattle.run_command.specs.Runs.{Task, HoldsTask, AsksFor}
 use Rattle.run_command.proofs.Asked.{answer_or_task, one_held_task}

@@ -7,7 +7,7 @@ use Rattle.cob_front.specs.declared.refusal.Refusal.{Refusal}
 use Rattle.analyse_command.specs.Shared.Answer.{Answer, Usage, Absent, Refused, CertificateLong, CertificateBad, CertificateMisfit, NotInductive, Report}
 use Rattle.analyse_command.proofs.Shared.Sources.{Ending, EndsIn, read, refused}
 use Rattle.analyse_command.proofs.OneCheck.{TextsAreApart, one_for_check}
-use Rattle.trial_source.specs.Trial.{trial_text}
+use Rattle.analyse_command.specs.Trial.{trial_text}
 use Rattle.analyse_command.specs.TrialEndings.{AnswersTrial}
 use Rattle.run_command.specs.Runs.{AnswersRun}
 use Rattle.analyse_top.specs.Answers.{Answers, AnswersCommand}

@@ -35,7 +35,7 @@ use Rattle.analyse_command.specs.Shared.Call.{Call}
 use Rattle.analyse_command.specs.Answers.{HoldsCertificate, certificate_limit}
 use Rattle.analyse_command.specs.Analysis.{Analysis, CanBeClean, IsAnalysisOf, pairs_of, report_of, text_of}
 use Rattle.analyse_command.specs.Endings.{IsTooLong, EndsByAnalysis}
-use Rattle.trial_source.specs.Trial.{trial_text}
+use Rattle.analyse_command.specs.Trial.{trial_text}
 use Rattle.analyse_command.specs.TrialEndings.{EndsByTrial, IsTrialOf, nodes_line, trial_name}
 use Rattle.run_command.specs.Runs.{Task, HoldsTask, AsksFor, RunsTo}
 use Rattle.analyse_top.specs.Answers.{Answers}

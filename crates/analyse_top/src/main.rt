@@ -58,6 +58,3 @@ fn main(rt: HostRuntime) -> ExitCode {
     fill_closed_streams(&rt);
     ExitCode::from(status(&rt))
 }
-
-#[cfg(test)]
-mod tests;

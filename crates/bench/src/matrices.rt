@@ -1,10 +1,9 @@
-//! Measures `close` of `diff_bounds` and `close_row` of `closed_matrices` on generated matrices for eight
+//! Measures `close` and `close_row` of `diff_bounds` on generated matrices for eight
 //! cells, for bench/matrices. The number is how often the matrices are gone through; the sums of the words go to
 //! standard output, and the times to standard error.
 
 use crate::matrix_inputs::{Changed, Matrix, Numbers, Shape};
-use closed_matrices::close_row;
-use diff_bounds::close;
+use diff_bounds::{close, close_row};
 use std::alloc::{AllocError, Global};
 use std::io;
 use std::time::CpuClock;

@@ -1,10 +1,9 @@
 //! Pseudorandom matrices.
 ghost use Rattle.std.specs.Prelude.{◌≡◌, ◌≢◌, ◌⊎◌, ◌+◌, ◌<◌, ◌≤◌, ◌^◌, ◌≤ℤ◌, ◌<ℤ◌, pos, neg_ℤ};
 ghost use Rattle.diff_bounds.specs.Matrix.{word, IsMatrix};
-ghost use Rattle.closed_matrices.specs.Settled.{IsTightBut};
+ghost use Rattle.diff_bounds.specs.Settled.{IsTightBut};
 
-use closed_matrices::{closed_words_are_tight, settled};
-use diff_bounds::{add_bound, close};
+use diff_bounds::{add_bound, close, closed_words_are_tight, settled};
 
 const NONE: i128 = 100_000_000_000_000_000_000_000_000_000_000_000_000;
 
@@ -53,7 +52,7 @@ fn no_bounds() -> [i128; 81]
 }
 
 // lowers a word of one row or of its column
-#[tactic(auto, using(closed_matrices::proofs::Tight::tight_but_one))]
+#[tactic(auto, using(diff_bounds::proofs::Tight::tight_but_one))]
 fn lower(m: &mut [i128; 81], at: usize, row: usize, column: usize, most: i128)
     requires matrix { IsMatrix 8 m.old }
     requires tight { IsTightBut 9 at (word 9 m.old) }

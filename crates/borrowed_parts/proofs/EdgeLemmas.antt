@@ -3,8 +3,8 @@ use Rattle.std.proofs.Common.{◌≡◌, ℕ, Bool, true, false, List, [], ◌�
 use Rattle.std.specs.Prelude.{slice_get}
 use Rattle.cob_program.specs.Act.{times, Act, perform, read, Program}
 use Rattle.cob_runs.specs.Acts.{decl_at}
-use Rattle.cob_runs.specs.Effects.{tests_in_act}
-use Rattle.cob_edge_parts.specs.Parts.{read_count, guard_count, is_times, test_parts, condition_parts, file_parts, read_parts, bad_parts, call_parts}
+use Rattle.cob_runs.specs.Effects.{tests_in_act, is_times}
+use Rattle.cob_edge_parts.specs.Parts.{read_count, guard_count, test_parts, condition_parts, file_parts, read_parts, bad_parts, call_parts}
 use Rattle.borrowed_parts.specs.Pieces.{file_read}
 
 pub times_condition : (p : Program) (number : ℕ) (wanted : Bool) (k : ℕ) (a : Act) → is_times a ≡ true →

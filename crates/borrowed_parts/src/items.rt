@@ -1,5 +1,5 @@
 //! What the items of a layout are.
-ghost use Rattle.std.specs.Prelude.{◌≡◌, ℕ, List, []};
+ghost use Rattle.std.specs.Prelude.{◌≡◌};
 ghost use Rattle.std.specs.Option.{option_copied};
 ghost use Rattle.cob_data.specs.declared.layout.Layout as layout;
 ghost use Rattle.cob_runs.specs.Contents.{item_at, form_at, scale_of};
@@ -55,7 +55,7 @@ fn is_group(form: &Form) -> bool
 }
 
 fn is_number_form(form: &Form) -> bool
-    ensures { (l : layout.Layout) (storage : List ℕ) → result ≡ is_number_form l storage form.now }
+    ensures { result ≡ is_number_form form.now }
 {
     match form {
         Form::Number { .. } => true,
@@ -64,7 +64,7 @@ fn is_number_form(form: &Form) -> bool
 }
 
 fn is_number_at(layout: &Layout, place: u32) -> bool
-    ensures { result ≡ is_number_form layout.now [] (form_at layout.now place) }
+    ensures { result ≡ is_number_form (form_at layout.now place) }
 {
     match item_at(layout, place) {
         None => false,
@@ -92,7 +92,7 @@ pub fn is_number_item(layout: &Layout, sender: &Sender) -> bool
 }
 
 fn is_group_sender(layout: &Layout, sender: &Sender) -> bool
-    ensures { result ≡ is_group_sender layout.now [] sender.now }
+    ensures { result ≡ is_group_sender layout.now sender.now }
 {
     match sender {
         Sender::Item(place) => is_group_at(layout, *place),

@@ -3,11 +3,13 @@
 //! hexadecimal digits each.
 #![tactic(auto)]
 
+mod command_line;
 mod contents;
 mod decimals;
 mod texts;
 mod words;
 
+use command_line::clap_case;
 use contents::{edit_case, numeric_case, put_case, text_case, value_case};
 use decimals::{fit_case, power_case, quotient_case};
 use std::alloc::{AllocError, Global};
@@ -30,6 +32,7 @@ fn answer_of(alloc: Global, call: &str, given: &[&str]) -> Result<Option<String>
         "quotient" => quotient_case(alloc, given),
         "fit" => fit_case(alloc, given),
         "power" => power_case(alloc, given),
+        "clap" => clap_case(alloc, given),
         _ => Ok(None),
     }
 }

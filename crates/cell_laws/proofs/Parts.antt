@@ -11,8 +11,8 @@ use Rattle.cob_program.specs.Act.{once, times, until, varying, Stmts, Phrase, Ac
 use Rattle.cob_runs.specs.declared.action.Action.{Action}
 use Rattle.cob_runs.specs.declared.action.Action.TheVariants as action
 use Rattle.cob_runs.specs.Acts.{decl_at, file_from}
-use Rattle.cob_runs.specs.Effects.{tests_in_act}
-use Rattle.cob_edge_parts.specs.Parts.{moved, computed, remaining, augmented, Part, read, unread, divide, store, bytes_in, guard, read_count, set_count, count_down, guard_count, number_reads, augment_parts, test_parts, assign_parts, compute_parts, condition_parts, count_parts, call_parts, read_parts, bad_parts, is_times}
+use Rattle.cob_runs.specs.Effects.{tests_in_act, is_times}
+use Rattle.cob_edge_parts.specs.Parts.{moved, computed, remaining, augmented, Part, read, unread, divide, store, bytes_in, guard, read_count, set_count, count_down, guard_count, number_reads, augment_parts, test_parts, assign_parts, compute_parts, condition_parts, count_parts, call_parts, read_parts, bad_parts}
 use Rattle.cell_laws.specs.Places.{IsBehindSender, Moves, IsInPlace, PartsAreInPlace, is_worked, ArithmeticIsDone}
 use Rattle.cell_laws.proofs.Splits.{Stands, stands, not_empty, only}
 use Rattle.cell_laws.proofs.Arithmetic.{arith_in_place}

@@ -20,7 +20,8 @@ use Rattle.cob_runs.specs.declared.action.Action.{Action}
 use Rattle.cob_runs.specs.Contents.{form_at, bytes_of, number_at, filled_at}
 use Rattle.cob_runs.specs.Moves.{takes_number, number_of}
 use Rattle.cob_runs.specs.Computing.{items_in_atom, are_numeric, worth}
-use Rattle.cob_edge_parts.specs.Parts.{Amount, moved, Part, read, unread, divide, store, bytes_in, guard, read_count, set_count, count_down, guard_count, divides, parts_of, is_times}
+use Rattle.cob_edge_parts.specs.Parts.{Amount, moved, Part, read, unread, divide, store, bytes_in, guard, read_count, set_count, count_down, guard_count, divides, parts_of}
+use Rattle.cob_runs.specs.Effects.{is_times}
 use Rattle.cob_edge_parts.specs.Meaning as run
 use Rattle.cob_edge_parts.specs.Meaning.{Moment, with_storage, with_count, with_failure, divided_by_zero, count_in, divides_by, changed_in, Divides}
 use Rattle.cob_edge_parts.specs.Ranges.{ChangesWithin}

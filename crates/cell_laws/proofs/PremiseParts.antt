@@ -34,7 +34,8 @@ use Rattle.cob_runs.specs.Effects.{tests_in_act}
 use Rattle.cob_items.specs.WellFormed.{IsWellFormedFile, HasWellFormedItems}
 use Rattle.data_laws.proofs.Items.{item_sound}
 use Rattle.cob_calc.specs.Contents.{bound_at}
-use Rattle.cob_calc.specs.Arithmetic.{is_number_form, is_small_result, are_small_results, is_small_rest, are_small_rests, take_numbers, is_sound_remainder, CanCompute}
+use Rattle.cob_calc.specs.Arithmetic.{is_small_result, are_small_results, is_small_rest, are_small_rests, take_numbers, is_sound_remainder, CanCompute}
+use Rattle.cob_runs.specs.Deciding.{is_number_form}
 use Rattle.cob_calc.specs.Comparing.{CanTest}
 use Rattle.cob_world.specs.Needs.{IsNumber}
 use Rattle.cob_world.specs.Doing.{CanMoveTo, CanDoAct}

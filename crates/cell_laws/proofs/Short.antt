@@ -17,7 +17,6 @@ use Rattle.cob_runs.specs.Contents.{item_at, form_at, scale_of}
 use Rattle.cob_runs.specs.Moves.{takes_number}
 use Rattle.cob_runs.specs.Deciding.{is_number_form, is_number_end}
 use Rattle.cob_items.specs.WellFormed.{IsWellFormedForm, HasWellFormedItems, IsShort, IsShortLiteral, IsCountable}
-use Rattle.cob_calc.specs.Arithmetic as arithmetic
 use Rattle.cob_calc.specs.Comparing.{IsShortEnd}
 use Rattle.cob_calc.specs.Contents.{bound_at}
 use Rattle.cob_world.specs.Needs.{IsNumber}
@@ -98,20 +97,14 @@ form_countable (form.Edited picture digits scale) bytes whole short =
 countable_at : (l : Layout) → HasWellFormedItems l → (place : ℕ) → IsShort (form_at l place) → is_short (bound_at l place) ≡ true
 countable_at = of_form (λ f. IsShort f → is_short (form_bound f) ≡ true) (λ short. refl) form_countable
 
-number_counts : (f : Form) → arithmetic.is_number_form f ≡ true → IsShort f
+number_counts : (f : Form) → is_number_form f ≡ true → IsShort f
 number_counts form.Group is = tt
 number_counts (form.Text n) is = absurd cc
 number_counts (form.Number digits scale signed kept) is = tt
 number_counts (form.Edited picture digits scale) is = tt
 
-pub number_at_short : (l : Layout) → HasWellFormedItems l → (place : ℕ) → arithmetic.is_number_form (form_at l place) ≡ true → is_short (bound_at l place) ≡ true
+pub number_at_short : (l : Layout) → HasWellFormedItems l → (place : ℕ) → is_number_form (form_at l place) ≡ true → is_short (bound_at l place) ≡ true
 number_at_short l items place is = countable_at l items place (number_counts (form_at l place) is)
-
-end_is_number : (l : Layout) (f : Form) → is_number_form l [] f ≡ true → arithmetic.is_number_form f ≡ true
-end_is_number l form.Group is = absurd cc
-end_is_number l (form.Text n) is = absurd cc
-end_is_number l (form.Number digits scale signed kept) is = refl
-end_is_number l (form.Edited picture digits scale) is = absurd cc
 
 -- ---- senders
 
@@ -128,7 +121,7 @@ countable_small l items sender.Zero can = refl
 
 -- numeric items and numerals
 pub end_short : (l : Layout) → HasWellFormedItems l → (y : Sender) → is_number_end l [] y ≡ true → IsShortEnd y → is_short (end_bound (bound_at l) y) ≡ true
-end_short l items (sender.Item place) is short = number_at_short l items place (end_is_number l (form_at l place) is)
+end_short l items (sender.Item place) is short = number_at_short l items place is
 end_short l items (sender.Number n) is short = literal_short n short
 end_short l items (sender.Text text) is short = absurd cc
 end_short l items (sender.Fill byte) is short = absurd cc

@@ -12,7 +12,8 @@ use Rattle.cob_program.specs.Act.{times, varying, Stmts, Phrase, Act, move, arit
 use Rattle.cob_runs.specs.declared.action.Action.{Action}
 use Rattle.cob_runs.specs.declared.action.Action.TheVariants as action
 use Rattle.cob_runs.specs.Computing.{items_in, items_in_atom, result, remainder_of}
-use Rattle.cob_edge_parts.specs.Parts.{Amount, moved, computed, remaining, augmented, Part, read, divide, store, bytes_in, read_count, set_count, count_down, guard_count, item_reads, number_reads, divides, divisors_of, parts_of, is_times}
+use Rattle.cob_edge_parts.specs.Parts.{Amount, moved, computed, remaining, augmented, Part, read, divide, store, bytes_in, read_count, set_count, count_down, guard_count, item_reads, number_reads, divides, divisors_of, parts_of}
+use Rattle.cob_runs.specs.Effects.{is_times}
 use Rattle.cob_edge_parts.specs.Meaning.{divides_by}
 
 -- ---- arithmetic

@@ -9,8 +9,8 @@ use Rattle.cob_program.specs.Act.{Act, Program}
 use Rattle.cob_runs.specs.declared.action.Action.{Action}
 use Rattle.cob_runs.specs.Contents.{form_at}
 use Rattle.cob_runs.specs.Moves.{takes_number}
-use Rattle.cob_runs.specs.Effects.{act_at}
-use Rattle.cob_edge_parts.specs.Parts.{Amount, computed, remaining, Part, store, bytes_in, set_count, parts_of, is_times}
+use Rattle.cob_runs.specs.Effects.{act_at, is_times}
+use Rattle.cob_edge_parts.specs.Parts.{Amount, computed, remaining, Part, store, bytes_in, set_count, parts_of}
 use Rattle.cob_edge_parts.specs.Meaning as run
 use Rattle.cob_edge_parts.specs.Meaning.{Moment, amount}
 use Rattle.cob_edge_parts.specs.Edges.{fault_edge}

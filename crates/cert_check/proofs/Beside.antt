@@ -22,7 +22,7 @@ use Rattle.claimed_rows.specs.MatrixGaps as of_matrices
 use Rattle.claimed_rows.proofs.Allowing.{claims_fit_there}
 use Rattle.diff_bounds.specs.declared.Pack as declared
 use Rattle.diff_steps.specs.Packs.{Pack}
-use Rattle.pack_rows.specs.Rows.{width_of, lists_of}
+use Rattle.diff_bounds.specs.PackRows.{width_of, lists_of}
 use Rattle.diff_layer.proofs.Rows.{width_is}
 use Rattle.pack_laws.specs.Layer.{sizes_of, diff_lattice, diff_flow, diff_meaning}
 use Rattle.pack_laws.specs.Packs.{pack_in, packs_of}

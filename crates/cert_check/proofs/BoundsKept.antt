@@ -22,7 +22,7 @@ use Rattle.cert_text.specs.Allowed.{IsAllowed}
 use Rattle.claimed_rows.specs.Claims.{place_at}
 use Rattle.claimed_rows.specs.declared.gap.Gap.{Gap}
 use Rattle.diff_bounds.specs.Lattice.{matrix_of, bottom_word}
-use Rattle.pack_rows.specs.Rows.{words_of, matrices_in, row_of, packs_lattice}
+use Rattle.diff_bounds.specs.PackRows.{words_of, matrices_in, row_of, packs_lattice}
 use Rattle.claimed_rows.specs.MatrixClaims.{claimed_matrix, claimed_matrices, claimed_word, least_matrices, matrices_from}
 use Rattle.claimed_rows.specs.MatrixClaims as matrices
 use Rattle.claimed_rows.specs.MatrixGaps as of_matrices

@@ -8,7 +8,7 @@ use Rattle.cob_program.specs.Act.{Program}
 use Rattle.cell_steps.specs.Homes.{homes_of}
 use Rattle.diff_bounds.specs.declared.Pack as declared
 use Rattle.diff_bounds.specs.Widening.{AreThresholds}
-use Rattle.pack_rows.specs.Rows.{lists_of}
+use Rattle.diff_bounds.specs.PackRows.{lists_of}
 use Rattle.diff_steps.specs.Packs.{Pack, size_of}
 use Rattle.pack_laws.specs.Agreeing.{ArePacksOf}
 use Rattle.cert_text.specs.declared.cert.Element as text

@@ -6,7 +6,7 @@ use Rattle.std.proofs.lemmas.List.{drop-drop, length-append}
 use Rattle.diff_bounds.specs.Lattice.{matrix_of, bottom_word}
 use Rattle.cert_text.specs.declared.cert.Bound.{Bound}
 use Rattle.cert_text.specs.View.{Place, NotReached, Holds}
-use Rattle.pack_rows.specs.Rows.{row_of, width_of}
+use Rattle.diff_bounds.specs.PackRows.{row_of, width_of}
 use Rattle.claimed_rows.specs.MatrixClaims.{claimed_matrix, claimed_row, claimed_word, least_matrices, matrices_from}
 use Rattle.claimed_rows.proofs.MatrixFilling.{matrix_width}
 

@@ -16,7 +16,7 @@ use Rattle.graph_runs.specs.Places.{edge_at}
 use Rattle.cell_steps.specs.Homes.{homes_of, owns}
 use Rattle.cell_laws.specs.Entry.{entry_cells}
 use Rattle.cell_laws.specs.Layer.{post_at, clears_at}
-use Rattle.pack_rows.specs.Rows.{row_of}
+use Rattle.diff_bounds.specs.PackRows.{row_of}
 use Rattle.diff_steps.specs.Packs.{Pack}
 use Rattle.diff_steps.specs.Edges.{entry_packs}
 use Rattle.pack_laws.specs.Layer.{packs_post, clears_at2}

@@ -5,7 +5,7 @@ ghost use Rattle.cert_text.specs.View.{place_of, view};
 ghost use Rattle.cert_text.specs.Allowed.{IsAllowed};
 ghost use Rattle.claimed_rows.specs.Claims.{place_at};
 ghost use Rattle.claimed_rows.specs.MatrixClaims.{HasFittingBounds, cells_in, claimed_row, sizes_of};
-ghost use Rattle.pack_rows.specs.Rows.{width_of};
+ghost use Rattle.diff_bounds.specs.PackRows.{width_of};
 
 use cert_text::{Cert, Element};
 use claimed_rows::{allowed_claims_fit, set_claimed};

@@ -4,7 +4,7 @@ ghost use Rattle.cob_program.specs.ActView.{plain_program};
 ghost use Rattle.dom_laws.specs.Lattice.{IsElement};
 ghost use Rattle.cert_text.specs.View.{view};
 ghost use Rattle.claimed_rows.specs.MatrixClaims.{cells_in};
-ghost use Rattle.pack_rows.specs.Rows.{lists_of};
+ghost use Rattle.diff_bounds.specs.PackRows.{lists_of};
 ghost use Rattle.pack_laws.specs.Layer.{diff_lattice, diff_flow};
 ghost use Rattle.cert_check.specs.Along.{arrives};
 ghost use Rattle.cert_check.specs.Checking.{Checks, Refuses};

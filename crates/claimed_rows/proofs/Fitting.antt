@@ -11,7 +11,7 @@ use Rattle.diff_bounds.specs.Matrix.{IsMatrix, IsWord, none}
 use Rattle.cert_text.specs.declared.cert.Bound.{Bound}
 use Rattle.cert_text.specs.declared.draft.Key.{Key}
 use Rattle.cert_text.specs.Allowed.{bound_fits, bounds_fit, is_before, no_key}
-use Rattle.pack_rows.specs.Rows.{matrices_beside, words_of}
+use Rattle.diff_bounds.specs.PackRows.{matrices_beside, words_of}
 use Rattle.claimed_rows.specs.MatrixClaims.{sizes_of}
 use Rattle.claimed_rows.specs.Bounds.{bound, bounds_from, is_on_diagonal, word_bounds}
 use Rattle.claimed_rows.specs.BoundLaws.{BoundsFit}

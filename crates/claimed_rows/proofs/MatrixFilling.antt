@@ -12,7 +12,7 @@ use Rattle.diff_bounds.specs.Matrix.{word}
 use Rattle.diff_bounds.specs.Lattice.{matrix_of}
 use Rattle.diff_bounds.proofs.Places.{place_fits, word-set_other, word-set_same}
 use Rattle.cert_text.specs.declared.cert.Bound.{Bound}
-use Rattle.pack_rows.specs.Rows.{words_of}
+use Rattle.diff_bounds.specs.PackRows.{words_of}
 use Rattle.claimed_rows.specs.MatrixClaims.{cells_in, claimed_matrix, claimed_word, is_of, sizes_of}
 use Rattle.claimed_rows.specs.Written.{IsBoundOf, plain_word}
 

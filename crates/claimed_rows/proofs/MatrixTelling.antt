@@ -13,7 +13,7 @@ use Rattle.form_bounds.specs.Numbers.{number_of}
 use Rattle.cert_text.specs.declared.cert.Bound.{Bound}
 use Rattle.claimed_rows.specs.declared.gap.Gap.{Gap}
 use Rattle.claimed_rows.specs.declared.gap.Gap.TheVariants.{Diff}
-use Rattle.pack_rows.specs.Rows.{matrices_beside, packs_lattice, row_of, words_of}
+use Rattle.diff_bounds.specs.PackRows.{matrices_beside, packs_lattice, row_of, words_of}
 use Rattle.claimed_rows.specs.MatrixClaims.{bound_at, claimed_matrix, claimed_word, is_of, matrices_from}
 use Rattle.claimed_rows.specs.MatrixGaps.{GapsAreOfBounds, GapsTellTheOrder, IsOfBound, gaps_from, matrix_gaps, word_gaps}
 use Rattle.claimed_rows.proofs.MatrixFilling.{matrix_width, matrix_word, of_tells}

@@ -11,7 +11,7 @@ use Rattle.dom_laws.specs.Lattice.{IsElement}
 use Rattle.diff_bounds.specs.Matrix.{IsMatrix, none}
 use Rattle.diff_bounds.specs.Lattice.{matrix_of}
 use Rattle.cert_text.specs.declared.cert.Bound.{Bound}
-use Rattle.pack_rows.specs.Rows.{matrices_beside, row_of, words_of}
+use Rattle.diff_bounds.specs.PackRows.{matrices_beside, row_of, words_of}
 use Rattle.claimed_rows.specs.MatrixClaims.{bound_at, claimed_matrix, claimed_word, is_of, matrices_from}
 use Rattle.claimed_rows.proofs.MatrixFilling.{of_tells}
 use Rattle.claimed_rows.specs.Bounds.{bound, bounds_from, is_on_diagonal, matrix_bounds, word_bounds}

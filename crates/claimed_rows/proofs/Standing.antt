@@ -13,8 +13,8 @@ use Rattle.cert_text.specs.declared.cert.Bound.{Bound}
 use Rattle.cert_text.specs.declared.draft.Key.{Key}
 use Rattle.cert_text.specs.View.{NotReached, Holds}
 use Rattle.cert_text.specs.Allowed.{bounds_fit, key_of, no_key}
-use Rattle.pack_rows.specs.Rows.{matrices_beside, packs_lattice, row_of}
-use Rattle.pack_rows.proofs.Lattices.{pair_is}
+use Rattle.diff_bounds.specs.PackRows.{matrices_beside, packs_lattice, row_of}
+use Rattle.diff_bounds.proofs.Lattices.{pair_is}
 use Rattle.claimed_rows.specs.MatrixClaims.{bound_at, claimed_matrix, claimed_row, is_of, least_matrices, matrices_from, sizes_of}
 use Rattle.claimed_rows.specs.MatrixGaps.{ClaimedRowsAreElements, UnreachedRowsAreLeast}
 use Rattle.claimed_rows.proofs.MatrixFilling.{matrix_width, matrix_word}

@@ -1,7 +1,7 @@
 -- What the bounds of a row tell.
 use Rattle.std.specs.Prelude.{◌≡◌, ℕ, List, length, ℤ, IsTrue}
 use Rattle.dom_laws.specs.Lattice.{IsElement}
-use Rattle.pack_rows.specs.Rows.{packs_lattice}
+use Rattle.diff_bounds.specs.PackRows.{packs_lattice}
 use Rattle.cert_text.specs.declared.cert.Claim.{Claim}
 use Rattle.cert_text.specs.View.{Holds}
 use Rattle.cert_text.specs.Allowed.{bounds_fit, no_key}

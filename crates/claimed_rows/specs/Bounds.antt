@@ -3,7 +3,7 @@ use Rattle.std.specs.Prelude.{ℕ, suc, ◌+◌, ◌/◌, ◌%◌, nat_eq, if◌
 use Rattle.std.specs.List.{flat_map, range_with_len}
 use Rattle.cert_text.specs.declared.cert.Bound.{Bound}
 use Rattle.diff_bounds.specs.Matrix.{none}
-use Rattle.pack_rows.specs.Rows.{words_of}
+use Rattle.diff_bounds.specs.PackRows.{words_of}
 
 -- the bound of the word at a place of a pack's matrix, places counted row by row
 abbrev pub bound : ℕ → ℕ → ℕ → ℤ → Bound

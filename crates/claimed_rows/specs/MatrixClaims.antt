@@ -6,7 +6,7 @@ use Rattle.diff_bounds.specs.Lattice.{matrix_of, bottom_word}
 use Rattle.cert_text.specs.declared.cert.Bound.{Bound}
 use Rattle.cert_text.specs.View.{Place, NotReached, Holds}
 use Rattle.cert_text.specs.Allowed.{bounds_fit, no_key}
-use Rattle.pack_rows.specs.Rows.{row_of}
+use Rattle.diff_bounds.specs.PackRows.{row_of}
 
 -- the cells of each pack
 abbrev pub cells_in : List Pack → List (List ℕ)

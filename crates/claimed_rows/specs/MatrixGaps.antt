@@ -3,7 +3,7 @@ use Rattle.std.specs.Prelude.{◌≡◌, ◌≢◌, ◌↔◌, ◌≤◌, ℕ, s
 use Rattle.std.specs.List.{AllByRecursion, Contains, flat_map, range_with_len}
 use Rattle.dom_laws.specs.Lattice.{IsElement}
 use Rattle.form_bounds.specs.Numbers.{number_of}
-use Rattle.pack_rows.specs.Rows.{words_of, packs_lattice}
+use Rattle.diff_bounds.specs.PackRows.{words_of, packs_lattice}
 use Rattle.cert_text.specs.declared.cert.Claim.{Claim}
 use Rattle.cert_text.specs.declared.cert.Bound.{Bound}
 use Rattle.cert_text.specs.View.{Place, NotReached, Holds, Certificate}

@@ -1,13 +1,12 @@
 //! The bounds of a row of matrices.
 ghost use Rattle.std.specs.Prelude.{◌≡◌, ◌≤◌, ◌<◌, ◌+◌, ◌^◌, ◌++◌, length, OnOk, IfOk};
 ghost use Rattle.std.specs.List.{AllByRecursion};
-ghost use Rattle.pack_rows.specs.Rows.{width_of, words_of};
+ghost use Rattle.diff_bounds.specs.PackRows.{width_of, words_of};
 ghost use Rattle.claimed_rows.specs.MatrixClaims.{cells_in, sizes_of};
 ghost use Rattle.claimed_rows.specs.Bounds.{bounds_from, is_on_diagonal, matrix_bounds, row_bounds, word_bounds};
 
 use cert_text::Bound;
-use diff_bounds::Pack;
-use pack_rows::words_of;
+use diff_bounds::{Pack, words_of};
 use std::alloc::{AllocError, Global};
 
 /// The word of no bound.

@@ -3,13 +3,12 @@ ghost use Rattle.std.specs.Prelude.{◌≡◌, ◌≢◌, ◌≤◌, ◌<◌, �
 ghost use Rattle.std.specs.List.{AllByRecursion};
 ghost use Rattle.cert_text.specs.View.{place_of};
 ghost use Rattle.diff_bounds.specs.Lattice.{matrix_of};
-ghost use Rattle.pack_rows.specs.Rows.{row_of, width_of, words_of};
+ghost use Rattle.diff_bounds.specs.PackRows.{row_of, width_of, words_of};
 ghost use Rattle.claimed_rows.specs.MatrixClaims.{HasFittingBounds, cells_in, claimed_matrix, claimed_row, least_matrices, matrices_from, sizes_of};
 ghost use Rattle.claimed_rows.specs.Written.{AreFrom, IsBoundOf, plain_word};
 
 use cert_text::{Bound, Element};
-use diff_bounds::Pack;
-use pack_rows::words_of;
+use diff_bounds::{Pack, words_of};
 
 // the word of no bound
 pub(crate) const NONE: i128 = 100_000_000_000_000_000_000_000_000_000_000_000_000;

@@ -2,14 +2,13 @@
 ghost use Rattle.std.specs.Prelude.{◌≡◌, ◌≤◌, ◌<◌, ◌+◌, ◌^◌, ℕ, length, slice_get};
 ghost use Rattle.std.specs.List.{AllByRecursion};
 ghost use Rattle.form_bounds.specs.Numbers.{number_of};
-ghost use Rattle.pack_rows.specs.Rows.{width_of, words_of};
+ghost use Rattle.diff_bounds.specs.PackRows.{width_of, words_of};
 ghost use Rattle.claimed_rows.specs.MatrixClaims.{cells_in, sizes_of};
 ghost use Rattle.claimed_rows.specs.MatrixGaps.{gaps, gaps_from, matrix_gaps, word_gaps};
 
 use crate::gap::Gap;
 use crate::matrix_claims::NONE;
-use diff_bounds::Pack;
-use pack_rows::words_of;
+use diff_bounds::{Pack, words_of};
 
 // a word as a number, where it is one
 fn number_of(word: i128) -> Option<i128>

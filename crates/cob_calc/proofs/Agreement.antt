@@ -17,7 +17,8 @@ use Rattle.cob_calc.specs.declared.exact.Exact.TheVariants as exact
 use Rattle.cob_calc.specs.Receiving.{rest_of}
 use Rattle.cob_calc.proofs.RootLemmas.{root_more, root_many}
 use Rattle.dec_num.specs.Scaled.{value_of}
-use Rattle.cob_calc.specs.Arithmetic.{is_number_form, are_numbers}
+use Rattle.cob_calc.specs.Arithmetic.{are_numbers}
+use Rattle.cob_runs.specs.Deciding.{is_number_form}
 
 pub bind_same : {A B : Type 0} (x y : Option A) (f g : A → Option B) → x ≡ y → ((a : A) → f a ≡ g a) → (x >>= f) ≡ (y >>= g)
 bind_same None y f g e h = ap (λ o. o >>= g) e

@@ -1,8 +1,6 @@
 -- How great the results of an arithmetic statement can be, whatever its items hold within their pictures: each is small.
-use Rattle.std.specs.Prelude.{◌≡◌, ℕ, ◌-◌, ◌+◌, ◌*◌, ◌/◌, ◌^◌, ◌&&◌, nat_le, if◌then◌else◌, Bool, true, false, List, [], ◌∷◌, Option, Some, None}
+use Rattle.std.specs.Prelude.{◌≡◌, ℕ, ◌-◌, ◌+◌, ◌*◌, ◌/◌, ◌^◌, ◌&&◌, nat_le, if◌then◌else◌, Bool, true, List, [], ◌∷◌, Option, Some, None}
 use Rattle.std.specs.List.{list_all}
-use Rattle.cob_tree.specs.declared.form.Form.{Form}
-use Rattle.cob_tree.specs.declared.form.Form.TheVariants as form
 use Rattle.cob_data.specs.declared.layout.Layout.{Layout}
 use Rattle.cob_program.specs.declared.act.Target.{Target}
 use Rattle.cob_program.specs.declared.act.How.{How}
@@ -13,6 +11,7 @@ use Rattle.cob_program.specs.Bounds.{Bound, exactly, sum_bound, product_bound, i
 use Rattle.cob_runs.specs.Contents.{scale_of, form_at}
 use Rattle.cob_runs.specs.Moves.{takes_number}
 use Rattle.cob_runs.specs.Computing.{items_in}
+use Rattle.cob_runs.specs.Deciding.{is_number_form}
 use Rattle.cob_calc.specs.Contents.{bound_at}
 
 -- n / d at a scale, rounded down
@@ -52,10 +51,6 @@ module _ (bound : ℕ → Bound) where
   are_small_rests l r (t ∷ ts) = is_small_rest (scale_of (form_at l t.item)) r && are_small_rests l r ts
 
 -- ---- what typing gives of a statement
-
-abbrev pub is_number_form : Form → Bool
-is_number_form (form.Number digits scale signed kept) = true
-is_number_form _ = false
 
 -- each of these items is a number
 abbrev pub are_numbers : Layout → List ℕ → Bool

@@ -4,11 +4,6 @@ use Rattle.std.specs.declared.cmp.Ordering.{Ordering}
 use Rattle.std.specs.declared.cmp.Ordering.TheVariants.{Less, Equal, Greater}
 use Rattle.dec_num.specs.declared.types.Scaled.{Scaled}
 use Rattle.dec_num.specs.Scaled.{units_at, joint_scale}
-use Rattle.std.specs.Option.{option_map}
-use Rattle.cob_tree.specs.declared.form.Form.{Form}
-use Rattle.cob_tree.specs.declared.form.Form.TheVariants as form
-use Rattle.cob_runs.specs.Contents.{number_in}
-use Rattle.cob_runs.specs.Moves.{as_digits}
 use Rattle.cob_data.specs.declared.layout.Layout.{Layout}
 use Rattle.cob_data.specs.declared.layout.Pair.{Pair}
 use Rattle.cob_data.specs.declared.layout.Sender.{Sender}
@@ -54,16 +49,6 @@ IsShortText _ = Unit {0}
 pub record IsShortNumber (v : Scaled) : Type 0 where
   pub most : unsigned_abs v.units < 10 ^ 18
   pub scale : v.scale ≤ 18
-
--- how many characters an item of this form has
-abbrev pub characters : Form → ℕ → ℕ
-characters (form.Number digits scale signed kept) n = digits
-characters f n = n
-
--- an item's contents beside text
-abbrev pub contents_text : Form → List ℕ → Option (List ℕ)
-contents_text (form.Number digits scale signed kept) bytes = option_map (as_digits digits) (number_in (form.Number digits scale signed kept) bytes)
-contents_text f bytes = Some bytes
 
 -- ---- what typing gives of conditions
 

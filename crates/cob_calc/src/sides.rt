@@ -2,13 +2,12 @@
 ghost use Rattle.std.specs.Prelude.{◌≡◌, ◌+◌, ◌≤◌, length, true, option_map, IfSome};
 ghost use Rattle.cob_program.specs.Values.{literal};
 ghost use Rattle.cob_runs.specs.Contents.{form_at, bytes_at, number_in, number_at};
-ghost use Rattle.cob_runs.specs.Moves.{as_digits, number_of, text_of};
-ghost use Rattle.cob_runs.specs.Deciding.{side_length, is_number_end};
+ghost use Rattle.cob_runs.specs.Moves.{as_digits, item_text, number_of, text_of};
+ghost use Rattle.cob_runs.specs.Deciding.{form_length, side_length, is_number_form, is_number_end};
 ghost use Rattle.cob_items.specs.WellFormed.{IsWellFormedForm, IsShortLiteral};
 ghost use Rattle.cob_data.specs.declared.layout.Sender.{Sender};
 ghost use Rattle.cob_calc.specs.Contents.{IsWellFormed};
-ghost use Rattle.cob_calc.specs.Arithmetic.{is_number_form};
-ghost use Rattle.cob_calc.specs.Comparing.{characters, contents_text, plain_text, IsShortText, IsShortNumber, IsShortEnd};
+ghost use Rattle.cob_calc.specs.Comparing.{plain_text, IsShortText, IsShortNumber, IsShortEnd};
 
 use crate::contents::Contents;
 use crate::numbers::scaled;
@@ -29,7 +28,7 @@ fn is_number_form(form: &Form) -> bool
 
 // A numeric item has as many characters as digits.
 fn form_length(form: &Form, length: u32) -> u32
-    ensures { result ≡ characters form.now length }
+    ensures { result ≡ form_length form.now length }
 {
     match form {
         Form::Number { digits, .. } => *digits,
@@ -75,7 +74,7 @@ fn digits_text<'a>(value: Scaled, count: u32) -> Text<'a>
 // An item's contents beside text: a numeric item's digits, if it is numeric.
 fn item_text<'a>(form: &Form, bytes: &'a [u8]) -> Option<Text<'a>>
     requires { IsWellFormedForm form.now (length bytes.now) }
-    ensures value { option_map plain_text result ≡ contents_text form.now bytes.now }
+    ensures value { option_map plain_text result ≡ item_text form.now bytes.now }
     ensures short { IfSome result IsShortText }
 {
     match form {
@@ -150,7 +149,7 @@ impl<'a> Contents<'a> {
     fn item_text(&self, place: u32) -> Option<Text<'a>>
         requires { IsWellFormed self.now }
         ensures value { option_map plain_text result
-            ≡ contents_text (form_at self.now.layout place) (bytes_at self.now.layout self.now.storage place) }
+            ≡ item_text (form_at self.now.layout place) (bytes_at self.now.layout self.now.storage place) }
         ensures short { IfSome result IsShortText }
     {
         match self.item(place) {

@@ -10,8 +10,8 @@ use Rattle.cob_runs.specs.declared.action.Action.{Action}
 use Rattle.cob_runs.specs.declared.action.Action.TheVariants as action
 use Rattle.cob_runs.specs.Files.{Choice}
 use Rattle.cob_runs.specs.State.{World}
-use Rattle.cob_runs.specs.Effects.{Effect, taken, not_taken, tested, counted, effect_of, effect, act_at}
-use Rattle.cob_edge_parts.specs.Parts.{Part, has_phrase, is_handled, is_times, reads_count, assign_parts, compute_parts, condition_parts, count_parts, call_parts, read_parts, bad_parts, parts_of}
+use Rattle.cob_runs.specs.Effects.{Effect, edge_taken, not_taken, edge_tested, edge_counted, effect_of, effect, act_at, is_times}
+use Rattle.cob_edge_parts.specs.Parts.{Part, has_phrase, is_handled, reads_count, assign_parts, compute_parts, condition_parts, count_parts, call_parts, read_parts, bad_parts, parts_of}
 use Rattle.cob_edge_parts.specs.Meaning.{beginning, count_in, Meets}
 use Rattle.cob_edge_parts.specs.Edges.{StandFor, fault_edge, PartsArePassed, PartsArePassedBeside, FaultsAreMet}
 use Rattle.cob_edge_parts.proofs.Moving.{some_of}
@@ -37,7 +37,7 @@ module _ (Stand : Standing) (p : Program) (statement : ℕ) (c : Choice) (w : Wo
   plain : (xs : List Part) (r : Effect) → Does p statement c w counts xs r → Passed false xs r
   plain xs r h = counters_stay Stand p.layout counts w false xs r same h
 
-  count_edge : (a : Act) → Passed false (count_parts p statement a) (counted p statement c w a)
+  count_edge : (a : Act) → Passed false (count_parts p statement a) (edge_counted p statement c w a)
   count_edge (perform body (times x)) = set_edge Stand p.layout counts w statement x sets
   count_edge (perform body once) = tt
   count_edge (perform body (until after t)) = tt
@@ -56,7 +56,7 @@ module _ (Stand : Standing) (p : Program) (statement : ℕ) (c : Choice) (w : Wo
   count_edge (act.show xs) = tt
 
   times_edge : (wanted : Bool) (k : ℕ) (a : Act) → StandsAt Stand p.layout counts w statement → is_times a ≡ true →
-      Passed false (condition_parts p statement wanted k a) (tested p statement c w wanted k a)
+      Passed false (condition_parts p statement wanted k a) (edge_tested p statement c w wanted k a)
   times_edge wanted k (perform body (times x)) h e = left_edge Stand p.layout counts w p c statement wanted same h
   times_edge wanted k (perform body once) h e = absurd (false≢true e)
   times_edge wanted k (perform body (until after t)) h e = absurd (false≢true e)
@@ -76,10 +76,10 @@ module _ (Stand : Standing) (p : Program) (statement : ℕ) (c : Choice) (w : Wo
 
   by_times : (wanted : Bool) (k : ℕ) (a : Act) (b : Bool) → is_times a ≡ b →
       (is_times a ≡ true → StandsAt Stand p.layout counts w statement) →
-      Passed false (condition_parts p statement wanted k a) (tested p statement c w wanted k a)
+      Passed false (condition_parts p statement wanted k a) (edge_tested p statement c w wanted k a)
   by_times wanted k a true e h = times_edge wanted k a (h e) e
   by_times wanted k a false e h =
-      plain (condition_parts p statement wanted k a) (tested p statement c w wanted k a)
+      plain (condition_parts p statement wanted k a) (edge_tested p statement c w wanted k a)
       (tested_edge p statement c w counts wanted k a e)
 
   abbrev Stands : Act → Action → Type 0
@@ -93,37 +93,37 @@ module _ (Stand : Standing) (p : Program) (statement : ℕ) (c : Choice) (w : Wo
 
   -- an edge that is taken
   edge_passed : (a : Act) (x : Action) (v : World) → Stands a x → effect_of p statement c w x a ≡ Ok (Some v) →
-      Passed (is_handled a x) (parts_of p statement a x) (taken v)
-  edge_passed a action.Skip v h e = as_plain [] _ (taken v) e (stays p statement c w counts)
-  edge_passed a action.Assign v h e = as_plain (assign_parts p statement a) _ (taken v) e
+      Passed (is_handled a x) (parts_of p statement a x) (edge_taken v)
+  edge_passed a action.Skip v h e = as_plain [] _ (edge_taken v) e (stays p statement c w counts)
+  edge_passed a action.Assign v h e = as_plain (assign_parts p statement a) _ (edge_taken v) e
       (assign_edge p statement c w counts a)
   edge_passed a action.Done v h e =
-      counters_stay Stand p.layout counts w false (compute_parts p statement a) (taken v) same
+      counters_stay Stand p.layout counts w false (compute_parts p statement a) (edge_taken v) same
       (computed_passed p statement c w counts false a v e)
   edge_passed a action.Size v h e =
-      counters_stay Stand p.layout counts w (has_phrase a) (compute_parts p statement a) (taken v) same
+      counters_stay Stand p.layout counts w (has_phrase a) (compute_parts p statement a) (edge_taken v) same
       (computed_passed p statement c w counts true a v e)
   edge_passed a (action.True k) v h e =
-      as_passed (condition_parts p statement true k a) _ (taken v) e (by_times true k a (is_times a) refl h)
+      as_passed (condition_parts p statement true k a) _ (edge_taken v) e (by_times true k a (is_times a) refl h)
   edge_passed a (action.False k) v h e =
-      as_passed (condition_parts p statement false k a) _ (taken v) e (by_times false k a (is_times a) refl h)
-  edge_passed a action.SetCount v h e = as_passed (count_parts p statement a) _ (taken v) e (count_edge a)
+      as_passed (condition_parts p statement false k a) _ (edge_taken v) e (by_times false k a (is_times a) refl h)
+  edge_passed a action.SetCount v h e = as_passed (count_parts p statement a) _ (edge_taken v) e (count_edge a)
   edge_passed a action.Down v h e =
-      as_passed (parts_of p statement a action.Down) _ (taken v) e (down_edge Stand p.layout counts w statement sets
+      as_passed (parts_of p statement a action.Down) _ (edge_taken v) e (down_edge Stand p.layout counts w statement sets
       (h refl))
   edge_passed a (action.Open k) v h e =
-      as_plain (call_parts p statement true k a) _ (taken v) e (call_edge p statement c w counts true k a)
+      as_plain (call_parts p statement true k a) _ (edge_taken v) e (call_edge p statement c w counts true k a)
   edge_passed a (action.Close k) v h e =
-      as_plain (call_parts p statement true k a) _ (taken v) e (call_edge p statement c w counts true k a)
-  edge_passed a action.Take v h e = as_plain (read_parts p statement a) _ (taken v) e
+      as_plain (call_parts p statement true k a) _ (edge_taken v) e (call_edge p statement c w counts true k a)
+  edge_passed a action.Take v h e = as_plain (read_parts p statement a) _ (edge_taken v) e
       (read_edge p statement c w counts 0 a)
-  edge_passed a action.AtEnd v h e = as_plain (read_parts p statement a) _ (taken v) e
+  edge_passed a action.AtEnd v h e = as_plain (read_parts p statement a) _ (edge_taken v) e
       (read_edge p statement c w counts 10 a)
-  edge_passed a (action.Bad k) v h e = as_plain (bad_parts p statement k a) _ (taken v) e
+  edge_passed a (action.Bad k) v h e = as_plain (bad_parts p statement k a) _ (edge_taken v) e
       (bad_edge p statement c w counts k a)
   edge_passed a action.Write v h e =
-      as_plain (call_parts p statement true 0 a) _ (taken v) e (call_edge p statement c w counts true 0 a)
-  edge_passed a action.Show v h e = as_plain [] _ (taken v) e (show_edge p statement c w counts a)
+      as_plain (call_parts p statement true 0 a) _ (edge_taken v) e (call_edge p statement c w counts true 0 a)
+  edge_passed a action.Show v h e = as_plain [] _ (edge_taken v) e (show_edge p statement c w counts a)
 
 -- ---- the counters are the counts
 
@@ -137,7 +137,7 @@ counted_stands p statement w h = let n = some_of (count_in w.counts statement) h
 pub parts_are_passed : PartsArePassed
 parts_are_passed p statement c a x w v its h e =
     let g = edge_passed Same p statement c w w.counts refl (λ n. refl) a x v (λ r. counted_stands p statement w (h r))
-    (by_act p statement c w a x (taken v) its e) in
+    (by_act p statement c w a x (edge_taken v) its e) in
     record { last = g.0; way = g.1; same_storage = g.2; same_counts = g.3; fails = g.4 }
 
 -- ---- the counters stand for them
@@ -145,7 +145,7 @@ parts_are_passed p statement c a x w v its h e =
 pub parts_are_passed_beside : PartsArePassedBeside
 parts_are_passed_beside p statement c a x w v counts its h s e =
     let g = edge_passed StandFor p statement c w counts s (λ n. stand_set w.counts counts (statement - 1) n s) a x v
-    (λ r. stand_at w.counts counts (statement - 1) s (h r)) (by_act p statement c w a x (taken v) its e) in
+    (λ r. stand_at w.counts counts (statement - 1) s (h r)) (by_act p statement c w a x (edge_taken v) its e) in
     record {
       later = g.0.counts;
       leads = record { last = g.0; way = g.1; same_storage = g.2; same_counts = refl; fails = g.4 };
@@ -161,7 +161,7 @@ module _ (p : Program) (statement : ℕ) (c : Choice) (w : World) (counts : List
       (beginning w.storage counts) fault
 
   times_fine : (wanted : Bool) (k : ℕ) (a : Act) (fault : Kind) → is_times a ≡ true →
-      tested p statement c w wanted k a ≡ Err fault → ⊥
+      edge_tested p statement c w wanted k a ≡ Err fault → ⊥
   times_fine wanted k (perform body (times x)) fault h e = if_ok p statement c w counts _ w fault e
   times_fine wanted k (perform body once) fault h e = false≢true h
   times_fine wanted k (perform body (until after t)) fault h e = false≢true h
@@ -180,7 +180,7 @@ module _ (p : Program) (statement : ℕ) (c : Choice) (w : World) (counts : List
   times_fine wanted k (act.show xs) fault h e = false≢true h
 
   tested_met : (wanted : Bool) (k : ℕ) (a : Act) (fault : Kind) (b : Bool) → is_times a ≡ b →
-      tested p statement c w wanted k a ≡ Err fault →
+      edge_tested p statement c w wanted k a ≡ Err fault →
       Meets p.layout false (condition_parts p statement wanted k a) (beginning w.storage counts) fault
   tested_met wanted k a fault true f e = absurd (times_fine wanted k a fault f e)
   tested_met wanted k a fault false f e =

@@ -16,7 +16,7 @@ use Rattle.cob_runs.specs.State.{World}
 use Rattle.cob_runs.specs.Acts.{count_of, set_count, count_down}
 use Rattle.cob_runs.specs.Acts as act
 use Rattle.cob_runs.specs.Steps.{is_left}
-use Rattle.cob_runs.specs.Effects.{Effect, taken, taken_if, met}
+use Rattle.cob_runs.specs.Effects.{Effect, edge_taken, taken_if, met}
 use Rattle.cob_edge_parts.specs.Parts as part
 use Rattle.cob_edge_parts.specs.Parts.{Part, number_reads}
 use Rattle.cob_edge_parts.specs.Meaning.{Moment, beginning, count_in, is_positive, PassesAll, Meets}
@@ -95,7 +95,7 @@ module _ (Stand : Standing) (l : Layout) (counts : List (Option ℤ)) (w : World
 
   down_on : (statement : ℕ) (n : ℤ) (v : World) → count_in counts statement ≡ Some n → v.storage ≡ w.storage →
       Stand v.counts (slice_set counts (statement - 1) (Some (n -ℤ pos 1))) →
-      CountsSo Stand l counts false (part.read_count statement ∷ part.count_down statement ∷ []) w (taken v)
+      CountsSo Stand l counts false (part.read_count statement ∷ part.count_down statement ∷ []) w (edge_taken v)
   down_on statement n v e f s =
       (last, (at (whole_number n), (n, e, refl), (last, refl, refl)), sym f, s, refl)
     where
@@ -107,7 +107,7 @@ module _ (Stand : Standing) (l : Layout) (counts : List (Option ℤ)) (w : World
       ((n : ℤ) → Stand (slice_set w.counts (statement - 1) (Some n)) (slice_set counts (statement - 1) (Some n))) →
       (h : StandsAt statement) → (o : Option ℤ) → count_in w.counts statement ≡ o →
       CountsSo Stand l counts false (part.read_count statement ∷ part.count_down statement ∷ []) w
-      (taken (option_map_or (λ n. act.with_count l statement (n -ℤ pos 1) w) o w))
+      (edge_taken (option_map_or (λ n. act.with_count l statement (n -ℤ pos 1) w) o w))
   down_by statement s h (Some v) e = down_on statement h.0 (act.with_count l statement (v -ℤ pos 1) w) h.1 refl
       (same h.2)
     where
@@ -134,7 +134,7 @@ module _ (Stand : Standing) (l : Layout) (counts : List (Option ℤ)) (w : World
   pub down_edge : (statement : ℕ) →
       ((n : ℤ) → Stand (slice_set w.counts (statement - 1) (Some n)) (slice_set counts (statement - 1) (Some n))) →
       StandsAt statement →
-      CountsSo Stand l counts false (part.read_count statement ∷ part.count_down statement ∷ []) w (taken
+      CountsSo Stand l counts false (part.read_count statement ∷ part.count_down statement ∷ []) w (edge_taken
       (count_down l statement w))
   down_edge statement s h = down_by statement s h (count_in w.counts statement) refl
 
@@ -177,28 +177,28 @@ module _ (Stand : Standing) (l : Layout) (counts : List (Option ℤ)) (w : World
     refl,
   )
 
-  left_is : (p : Program) (c : Choice) (n : ℤ) → is_positive n ≡ is_left p c (Some n)
-  left_is p c (pos zero) = refl
-  left_is p c (pos (suc n)) = refl
-  left_is p c (negsuc n) = refl
+  left_is : (n : ℤ) → is_positive n ≡ is_left (Some n)
+  left_is (pos zero) = refl
+  left_is (pos (suc n)) = refl
+  left_is (negsuc n) = refl
 
   positive_is : (p : Program) (c : Choice) (statement : ℕ) (h : StandsAt statement) →
-      is_positive h.0 ≡ is_left p c (count_in w.counts statement)
+      is_positive h.0 ≡ is_left (count_in w.counts statement)
   positive_is p c statement h = by_cases h.2
     where
       by_cases : (count_in w.counts statement ≡ Some h.0) ⊎ ((count_in w.counts statement ≡ None) ×
           (is_positive h.0 ≡ false)
           × Stand w.counts (slice_set counts (statement - 1) (Some (h.0 -ℤ pos 1)))) →
-          is_positive h.0 ≡ is_left p c (count_in w.counts statement)
-      by_cases (inl f) = left_is p c h.0 ∙ ap (is_left p c) (sym f)
-      by_cases (inr f) = f.1 ∙ ap (is_left p c) (sym f.0)
+          is_positive h.0 ≡ is_left (count_in w.counts statement)
+      by_cases (inl f) = left_is h.0 ∙ ap is_left (sym f)
+      by_cases (inr f) = f.1 ∙ ap is_left (sym f.0)
 
   pub left_edge : (p : Program) (c : Choice) (statement : ℕ) (wanted : Bool) → Stand w.counts counts →
       StandsAt statement →
       CountsSo Stand l counts false (part.read_count statement ∷ part.guard_count statement wanted ∷ []) w
-      (taken_if (if wanted then is_left p c (count_of l statement w) else not (is_left p c (count_of l statement w))) w)
+      (taken_if (if wanted then is_left (count_of statement w) else not (is_left (count_of statement w))) w)
   left_edge p c statement wanted s h =
-      counted_by statement h.0 wanted (is_left p c (count_in w.counts statement)) s h.1 (positive_is p c statement h)
+      counted_by statement h.0 wanted (is_left (count_in w.counts statement)) s h.1 (positive_is p c statement h)
 
 -- ---- counters that stand for counts
 

@@ -18,8 +18,8 @@ use Rattle.cob_runs.specs.Files.{Choice}
 use Rattle.cob_runs.specs.State.{World, with_storage}
 use Rattle.cob_runs.specs.Acts.{compute, into_if, file_from, move_if}
 use Rattle.cob_runs.specs.Steps.{is_given}
-use Rattle.cob_runs.specs.Effects.{Effect, taken, taken_if, met, assigned, computed, decided, tested, opened, closed, wrote, file_call, called_bad, read_with, shown, tests_in_act}
-use Rattle.cob_edge_parts.specs.Parts.{Part, has_phrase, is_times, file_call_parts, from_parts, arith_parts, test_parts, assign_parts, compute_parts, condition_parts, call_parts, read_parts, bad_parts}
+use Rattle.cob_runs.specs.Effects.{Effect, edge_taken, taken_if, met, edge_assigned, edge_computed, edge_decided, edge_tested, edge_opened, edge_closed, edge_wrote, file_call, called_bad, read_with, edge_shown, tests_in_act, is_times}
+use Rattle.cob_edge_parts.specs.Parts.{Part, has_phrase, file_call_parts, from_parts, arith_parts, test_parts, assign_parts, compute_parts, condition_parts, call_parts, read_parts, bad_parts}
 use Rattle.cob_edge_parts.specs.Meaning.{beginning, Meets}
 use Rattle.cob_edge_parts.proofs.Arithmetic.{ArithSo, arith_does, arith_same, arith_unfailed, bind_ok}
 use Rattle.cob_edge_parts.proofs.Filing.{EdgeSo, if_taken, opened_does, closed_does, taken_does, into_does, wrote_does}
@@ -29,7 +29,7 @@ module _ (p : Program) (statement : ℕ) (c : Choice) (w : World) (counts : List
   abbrev pub Does : List Part → Effect → Type 0
   Does xs r = EdgeSo p.layout counts false xs w r
 
-  pub stays : Does [] (taken w)
+  pub stays : Does [] (edge_taken w)
   stays = (beginning w.storage counts, refl, refl, refl, refl, refl)
 
   -- ---- edges without ON SIZE ERROR
@@ -38,7 +38,7 @@ module _ (p : Program) (statement : ℕ) (c : Choice) (w : World) (counts : List
   from_edge r None = stays
   from_edge r (Some x) = move_edge p.layout counts w x (r ∷ [])
 
-  pub assign_edge : (a : Act) → Does (assign_parts p statement a) (assigned p statement c w a)
+  pub assign_edge : (a : Act) → Does (assign_parts p statement a) (edge_assigned p statement c w a)
   assign_edge (act.move x places) = move_edge p.layout counts w x places
   assign_edge (arith s targets remainder size fine) = tt
   assign_edge (if_ t held other) = tt
@@ -58,12 +58,12 @@ module _ (p : Program) (statement : ℕ) (c : Choice) (w : World) (counts : List
   assign_edge (act.show xs) = tt
 
   test_edges : (wanted : Bool) (t : Option Test) → Does (test_parts p.layout wanted t)
-      (decided p statement c w wanted t)
+      (edge_decided p statement c w wanted t)
   test_edges wanted None = tt
   test_edges wanted (Some t) = test_edge p.layout counts w t wanted
 
   pub tested_edge : (wanted : Bool) (k : ℕ) (a : Act) → is_times a ≡ false →
-      Does (condition_parts p statement wanted k a) (tested p statement c w wanted k a)
+      Does (condition_parts p statement wanted k a) (edge_tested p statement c w wanted k a)
   tested_edge wanted k (perform body (times x)) h = absurd (false≢true (sym h))
   tested_edge wanted k (perform body once) h = test_edges wanted (slice_get (tests_in_act (perform body once)) k)
   tested_edge wanted k (perform body (until after t)) h =
@@ -88,16 +88,16 @@ module _ (p : Program) (statement : ℕ) (c : Choice) (w : World) (counts : List
   -- ---- files
 
   open_edge : (fine : Bool) (o : Option Opening) →
-      Does (file_call_parts p.layout false (option_map (λ x. x.file) o)) (opened p statement c w fine o)
+      Does (file_call_parts p.layout false (option_map (λ x. x.file) o)) (edge_opened p statement c w fine o)
   open_edge fine None = tt
   open_edge fine (Some o) = if_taken p.layout counts w _ _ _ (λ e. opened_does p.layout counts w o)
 
-  close_edge : (fine : Bool) (f : Option ℕ) → Does (file_call_parts p.layout false f) (closed p statement c w fine f)
+  close_edge : (fine : Bool) (f : Option ℕ) → Does (file_call_parts p.layout false f) (edge_closed p statement c w fine f)
   close_edge fine None = tt
   close_edge fine (Some f) = if_taken p.layout counts w _ _ _ (λ e. closed_does p.layout counts w f)
 
   write_edge : (fine : Bool) (r : ℕ) (f : Option ℕ) → Does (file_call_parts p.layout fine f)
-      (wrote p statement c w fine r f)
+      (edge_wrote p statement c w fine r f)
   write_edge fine r None = tt
   write_edge fine r (Some f) = if_taken p.layout counts w _ _ _ (λ e. wrote_does p.layout counts w fine c f r e)
 
@@ -175,7 +175,7 @@ module _ (p : Program) (statement : ℕ) (c : Choice) (w : World) (counts : List
     -- what an arithmetic statement leaves
     arith_passed : (handled : Bool) (x : Receiving) (v : World) → arithmetic handled ≡ Ok x → x.failed ≡ handled →
         with_storage w x.storage ≡ v → EdgeSo p.layout counts handled (arith_parts p.layout s targets remainder) w
-        (taken v)
+        (edge_taken v)
     arith_passed handled x v e f g =
         let h = subst (λ (r : Result Receiving Kind). ArithSo p.layout handled (beginning w.storage counts)
         (arith_parts p.layout s targets remainder) r)
@@ -203,7 +203,7 @@ module _ (p : Program) (statement : ℕ) (c : Choice) (w : World) (counts : List
     done_passed : (phrase : Bool) (v : World) →
         (compute p.layout phrase s targets remainder w >>= λ x. taken_if (if false then x.1 else not x.1) x.0) ≡ Ok
         (Some v) →
-        EdgeSo p.layout counts false (arith_parts p.layout s targets remainder) w (taken v)
+        EdgeSo p.layout counts false (arith_parts p.layout s targets remainder) w (edge_taken v)
     done_passed phrase v e =
         let h = computed_as false phrase v e in
         arith_passed false h.0 v
@@ -213,7 +213,7 @@ module _ (p : Program) (statement : ℕ) (c : Choice) (w : World) (counts : List
     size_passed : (phrase : Bool) (v : World) →
         (compute p.layout phrase s targets remainder w >>= λ x. taken_if (if true then x.1 else not x.1) x.0) ≡ Ok
         (Some v) →
-        EdgeSo p.layout counts phrase (arith_parts p.layout s targets remainder) w (taken v)
+        EdgeSo p.layout counts phrase (arith_parts p.layout s targets remainder) w (edge_taken v)
     size_passed true v e = let h = computed_as true true v e in arith_passed true h.0 v h.1 h.2 h.3
     size_passed false v e =
         let h = computed_as true false v e in
@@ -240,8 +240,8 @@ module _ (p : Program) (statement : ℕ) (c : Choice) (w : World) (counts : List
 
   -- the edges behind arithmetic statements, and the one behind the augmenting of VARYING
 
-  pub computed_passed : (failed : Bool) (a : Act) (v : World) → computed p statement c w failed a ≡ Ok (Some v) →
-      EdgeSo p.layout counts (failed && has_phrase a) (compute_parts p statement a) w (taken v)
+  pub computed_passed : (failed : Bool) (a : Act) (v : World) → edge_computed p statement c w failed a ≡ Ok (Some v) →
+      EdgeSo p.layout counts (failed && has_phrase a) (compute_parts p statement a) w (edge_taken v)
   computed_passed false (arith s targets remainder size fine) v e = done_passed s targets remainder (is_given size) v e
   computed_passed true (arith s targets remainder size fine) v e = size_passed s targets remainder (is_given size) v e
   computed_passed false (perform body (varying after place start by t)) v e =
@@ -266,7 +266,7 @@ module _ (p : Program) (statement : ℕ) (c : Choice) (w : World) (counts : List
   computed_passed failed (write r from) v e = absurd (cc)
   computed_passed failed (act.show xs) v e = absurd (cc)
 
-  pub computed_met : (failed : Bool) (a : Act) (fault : Kind) → computed p statement c w failed a ≡ Err fault →
+  pub computed_met : (failed : Bool) (a : Act) (fault : Kind) → edge_computed p statement c w failed a ≡ Err fault →
       Meets p.layout (has_phrase a) (compute_parts p statement a) (beginning w.storage counts) fault
   computed_met failed (arith s targets remainder size fine) fault e = arith_met s targets remainder failed
       (is_given size) fault e
@@ -292,7 +292,7 @@ module _ (p : Program) (statement : ℕ) (c : Choice) (w : World) (counts : List
   computed_met failed (write r from) fault e = absurd (cc)
   computed_met failed (act.show xs) fault e = absurd (cc)
 
-  pub show_edge : (a : Act) → Does [] (shown p statement c w a)
+  pub show_edge : (a : Act) → Does [] (edge_shown p statement c w a)
   show_edge (act.show xs) = (beginning w.storage counts, refl, refl, refl, refl, refl)
   show_edge (perform body turns) = tt
   show_edge (act.move x places) = tt

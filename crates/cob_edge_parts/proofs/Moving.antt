@@ -57,13 +57,6 @@ some_of (Some a) e = (a, refl)
 some_of None e = absurd (false≢true e)
 
 module _ (l : Layout) where
-  group_same : (s : List ℕ) (x : Sender) → is_group_sender l s x ≡ is_group_sender l [] x
-  group_same s (sender.Item place) = refl
-  group_same s (sender.Number n) = refl
-  group_same s (sender.Text text) = refl
-  group_same s (sender.Fill byte) = refl
-  group_same s sender.Zero = refl
-
   gets_reads : (f : Form) (x : Sender) → gets_value l f x ≡ true → is_read_for l f x ≡ true
   gets_reads form.Group x e = e
   gets_reads (form.Text n) x e = absurd (false≢true e)
@@ -93,12 +86,12 @@ module _ (l : Layout) where
     gets_number form.Group n x e = absurd (false≢true e)
     gets_number (form.Text k) n x e = absurd (false≢true e)
     gets_number (form.Number digits scale signed kept) n x e =
-        amount_number (is_group_sender l s x) (form.Number digits scale signed kept) n x (ap not (group_same s x) ∙ e)
+        amount_number (is_group_sender l x) (form.Number digits scale signed kept) n x e
     gets_number (form.Edited picture digits scale) n x e =
-        amount_number (is_group_sender l s x) (form.Edited picture digits scale) n x (ap not (group_same s x) ∙ e)
+        amount_number (is_group_sender l x) (form.Edited picture digits scale) n x e
 
-    item_given : (f : Form) (bytes : List ℕ) → (is_number_form l [] f ≡ true → is_some (number_in f bytes) ≡ true) →
-        (b : List ℕ) × (item_text l s f bytes ≡ Some b)
+    item_given : (f : Form) (bytes : List ℕ) → (is_number_form f ≡ true → is_some (number_in f bytes) ≡ true) →
+        (b : List ℕ) × (item_text f bytes ≡ Some b)
     item_given form.Group bytes h = (bytes, refl)
     item_given (form.Text n) bytes h = (bytes, refl)
     item_given (form.Number digits scale signed kept) bytes h =
@@ -114,8 +107,8 @@ module _ (l : Layout) where
     text_given n (sender.Fill byte) h = (_, refl)
     text_given n sender.Zero h = (_, refl)
 
-    item_missing : (f : Form) (bytes : List ℕ) → is_number_form l [] f ≡ true → number_in f bytes ≡ None →
-        item_text l s f bytes ≡ None
+    item_missing : (f : Form) (bytes : List ℕ) → is_number_form f ≡ true → number_in f bytes ≡ None →
+        item_text f bytes ≡ None
     item_missing form.Group bytes h e = absurd (false≢true h)
     item_missing (form.Text n) bytes h e = absurd (false≢true h)
     item_missing (form.Number digits scale signed kept) bytes h e = ap (λ (o : Option Scaled). option_map
@@ -154,9 +147,9 @@ module _ (l : Layout) where
     gets_bytes form.Group n x e h = text_moved n (raw_text l s n x) (raw_given n x)
     gets_bytes (form.Text k) n x e h = text_moved n (text_of l s n x) (text_given n x h)
     gets_bytes (form.Number digits scale signed kept) n x e h =
-        raw_moved (form.Number digits scale signed kept) (is_group_sender l s x) n x (ap not (group_same s x) ∙ e)
+        raw_moved (form.Number digits scale signed kept) (is_group_sender l x) n x e
     gets_bytes (form.Edited picture digits scale) n x e h =
-        raw_moved (form.Edited picture digits scale) (is_group_sender l s x) n x (ap not (group_same s x) ∙ e)
+        raw_moved (form.Edited picture digits scale) (is_group_sender l x) n x e
 
     number_missing : (f : Form) (n : ℕ) (x : Sender) → gets_value l f x ≡ true → number_of l s x ≡ None →
         moved l s f n x ≡ Err kind.Class

@@ -7,8 +7,6 @@ use Rattle.std.proofs.lemmas.List.Folds.{list_all-append}
 use Rattle.dec_num.specs.declared.types.Scaled.{Scaled}
 use Rattle.cob_tree.specs.declared.fault.Kind.{Kind}
 use Rattle.cob_tree.specs.declared.fault.Kind.TheVariants as kind
-use Rattle.cob_tree.specs.declared.form.Form.{Form}
-use Rattle.cob_tree.specs.declared.form.Form.TheVariants as form
 use Rattle.cob_tree.specs.declared.token.Rel.{Rel}
 use Rattle.cob_tree.specs.declared.token.Rel.TheVariants as rel
 use Rattle.cob_data.specs.declared.layout.Layout.{Layout}
@@ -18,11 +16,10 @@ use Rattle.cob_data.specs.declared.layout.Sender.TheVariants as sender
 use Rattle.cob_program.specs.Sum.{Sum}
 use Rattle.cob_program.specs.Values.{sum_value}
 use Rattle.cob_program.specs.Logic.{Test, numbers, texts, member, numeric, always}
-use Rattle.cob_runs.specs.Contents.{form_at}
 use Rattle.cob_runs.specs.Faults.{◌>>=◌, or_fault}
 use Rattle.cob_runs.specs.Moves.{number_of, text_of}
 use Rattle.cob_runs.specs.Computing.{items_in, are_numeric, worth}
-use Rattle.cob_runs.specs.Deciding.{decided, side_length, compared_texts, is_number_form, is_number_end, compared_values, compared, in_pair, in_some, test_holds}
+use Rattle.cob_runs.specs.Deciding.{decided, side_length, compared_texts, is_number_end, compared_values, compared, in_pair, in_some, test_holds}
 use Rattle.cob_edge_parts.specs.Parts.{Part, item_reads, number_reads, is_number_item, text_reads, end_reads, member_reads, divisors_in, divides, compare_parts, test_reads}
 use Rattle.cob_edge_parts.specs.Meaning.{divides_by, PassesAll, Meets}
 use Rattle.cob_edge_parts.proofs.Booleans.{and_assoc}
@@ -85,16 +82,9 @@ module _ (l : Layout) (storage : List ℕ) where
       both_there (readable a) (readable b) (text_of l storage (side_length l storage b 1) a)
       (text_of l storage (side_length l storage a 1) b) _ (text_there _ a) (text_there _ b)
 
-  form_same : (f : Form) → is_number_form l [] f ≡ is_number_form l storage f
-  form_same form.Group = refl
-  form_same (form.Text n) = refl
-  form_same (form.Number digits scale signed kept) = refl
-  form_same (form.Edited picture digits scale) = refl
-
   number_readable : (x : Sender) → is_number_end l storage x ≡ true → is_some (number_of l storage x) ≡ readable x
   number_readable (sender.Item place) e =
-      ap (λ b. if b then is_some (number_of l storage (sender.Item place)) else true) (sym (form_same
-      (form_at l place) ∙ e))
+      ap (λ b. if b then is_some (number_of l storage (sender.Item place)) else true) (sym e)
   number_readable (sender.Number n) e = refl
   number_readable (sender.Text text) e = absurd (false≢true e)
   number_readable (sender.Fill byte) e = absurd (false≢true e)

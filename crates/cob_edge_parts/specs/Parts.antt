@@ -27,7 +27,7 @@ use Rattle.cob_runs.specs.Moves.{takes_number, is_group_sender}
 use Rattle.cob_runs.specs.Computing.{items_in}
 use Rattle.cob_runs.specs.Deciding.{is_number_form}
 use Rattle.cob_runs.specs.Acts.{decl_at, file_from}
-use Rattle.cob_runs.specs.Effects.{tests_in_act}
+use Rattle.cob_runs.specs.Effects.{is_times, tests_in_act}
 use Rattle.cob_runs.specs.Steps.{is_given}
 
 -- ---- parts
@@ -147,7 +147,7 @@ module _ (l : Layout) where
   -- ---- MOVE
 
   abbrev pub is_number_item : Sender → Bool
-  is_number_item (sender.Item place) = is_number_form l [] (form_at l place)
+  is_number_item (sender.Item place) = is_number_form (form_at l place)
   is_number_item _ = false
 
   -- a sender as text, which a numeric item gives by its number
@@ -156,7 +156,7 @@ module _ (l : Layout) where
 
   -- whether an item of this form gets a value, and not bytes
   abbrev pub gets_value : Form → Sender → Bool
-  gets_value f x = takes_number f && not (is_group_sender l [] x)
+  gets_value f x = takes_number f && not (is_group_sender l x)
 
   -- whether the sender is read for an item of this form
   abbrev pub is_read_for : Form → Sender → Bool
@@ -295,10 +295,6 @@ has_phrase _ = false
 abbrev pub is_handled : Act → Action → Bool
 is_handled a action.Size = has_phrase a
 is_handled a _ = false
-
-abbrev pub is_times : Act → Bool
-is_times (perform body (times x)) = true
-is_times _ = false
 
 -- whether an edge reads the counter of its statement
 abbrev pub reads_count : Act → Action → Bool

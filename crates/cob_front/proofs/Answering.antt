@@ -1,6 +1,6 @@
 -- What a phase answers is the answer to the source, and each cause is answered.
 use Rattle.std.proofs.Common.{◌≡◌, ◌⊎◌, ℕ, List, Result, Ok, Err, inl, inr}
-use Rattle.cob_tree.specs.declared.tree.Tree.{Tree}
+use Rattle.cob_tree.specs.Stmt.{Tree}
 use Rattle.cob_program.specs.declared.program.Program as declared_program
 use Rattle.cob_program.specs.Act.{Program}
 use Rattle.cob_program.specs.ActView.{plain_program}
@@ -15,7 +15,7 @@ Given = Result declared_program.Program Refusal
 
 -- ---- a tree's answer is its source's
 
-cause_of_source : (bytes : List ℕ) (t : Tree) (e : Refusal) → StandsFor bytes t → IsTreeCause t e → IsCause bytes e
+pub cause_of_source : (bytes : List ℕ) (t : Tree) (e : Refusal) → StandsFor bytes t → IsTreeCause t e → IsCause bytes e
 cause_of_source bytes t (end.Outside rule line) stands is = record { tree = t; stands = stands; cause = is }
 cause_of_source bytes t (end.Limit which count) stands is = record { tree = t; stands = stands; cause = is }
 cause_of_source bytes t end.TooLong stands is = absurd is

@@ -3,3 +3,4 @@ mod OneAnswer
 mod Short
 mod Answering
 mod ControlAnswers
+pub mod SomeAnswer

@@ -1,10 +1,9 @@
 -- Each source has one answer.
 use Rattle.std.proofs.Common.{◌≡◌, ◌≤◌, ◌<◌, ◌⊎◌, ℕ, List, length, map, refl, sym, ap, ◌∙◌, subst, inl, inr, arith}
 use Rattle.cob_tree.specs.declared.token.Token.{Token}
-use Rattle.cob_tree.specs.declared.tree.Tree as declared_tree
+use Rattle.cob_tree.specs.Stmt.{Tree}
 use Rattle.cob_tree.specs.Symbols.{Sign, seen}
-use Rattle.cob_tree.specs.StmtView.{plain_tree}
-use Rattle.cob_scan.specs.Scan.{Scan, BadLineAt, BadTokenAt, Tokens, scan_of}
+use Rattle.cob_lex.specs.Scan.{Scan, BadLineAt, BadTokenAt, Tokens, scan_of}
 use Rattle.cob_lexemes.specs.Places.{line_at}
 use Rattle.cob_parse_proc.specs.Parsing.{IsTree, IsWrong, IsDeep}
 use Rattle.cob_parse_proc.specs.Laws as parsing
@@ -14,7 +13,7 @@ use Rattle.cob_front.specs.declared.refusal.Refusal.{Refusal}
 use Rattle.cob_front.specs.declared.refusal.Refusal.TheVariants as end
 use Rattle.cob_front.specs.Source.{StandsFor, IsTypedTree, IsTreeCause, IsSource, IsCause, HasCause, program_of}
 use Rattle.cob_front.specs.Laws.{OneAnswer}
-use Rattle.cob_front.proofs.TreeCauses.{typed_or_cause, cause_once, cause_of_same, typed_of_same, program_of_same}
+use Rattle.cob_front.proofs.TreeCauses.{typed_or_cause, cause_once}
 use Rattle.cob_lines.specs.Text.{source_limit}
 
 -- a program, or a cause
@@ -28,13 +27,13 @@ Ends bytes (refused e) = IsCause bytes e
 
 -- ---- where trees, tokens and texts lead
 
-abbrev TreeLeads : declared_tree.Tree → Ending → Type 0
+abbrev TreeLeads : Tree → Ending → Type 0
 TreeLeads t x = (IsTypedTree t × (x ≡ made (program_of t))) ⊎ ((e : Refusal) × IsTreeCause t e × (x ≡ refused e))
 
 data Leads (ts : List Token) (x : Ending) : Type 0 where
   wrong : (line : ℕ) → IsWrong ts line → x ≡ refused (end.Syntax line) → Leads ts x
   deep : IsDeep (map seen ts) → x ≡ refused (end.Nesting 65) → Leads ts x
-  a_tree : (t : declared_tree.Tree) → IsTree (map seen ts) (plain_tree t) → TreeLeads t x → Leads ts x
+  a_tree : (t : Tree) → IsTree (map seen ts) t → TreeLeads t x → Leads ts x
 
 abbrev ScanLeads : Scan → Ending → Type 0
 ScanLeads (BadLineAt line column) x = x ≡ refused (end.BadLine line column)
@@ -47,7 +46,7 @@ BytesLead bytes x = ((source_limit < length bytes) × (x ≡ refused end.TooLong
 scanned : (bytes : List ℕ) (x : Ending) (s : Scan) → length bytes ≤ source_limit → scan_of bytes ≡ s → ScanLeads s x → BytesLead bytes x
 scanned bytes x s fits is leads = inr (fits, subst (λ s. ScanLeads s x) (sym is) leads)
 
-stood : (bytes : List ℕ) (x : Ending) (t : declared_tree.Tree) → StandsFor bytes t → TreeLeads t x → BytesLead bytes x
+stood : (bytes : List ℕ) (x : Ending) (t : Tree) → StandsFor bytes t → TreeLeads t x → BytesLead bytes x
 stood bytes x t h leads = scanned bytes x (Tokens h.tokens) h.has.fits h.has.scanned (a_tree t h.parsed leads)
 
 leads_to : (bytes : List ℕ) (x : Ending) → Ends bytes x → BytesLead bytes x
@@ -64,11 +63,11 @@ leads_to bytes (refused end.Memory) h = absurd h
 
 -- ---- each leads to one end
 
-tree_once : (t u : declared_tree.Tree) (x y : Ending) → plain_tree t ≡ plain_tree u → TreeLeads t x → TreeLeads u y → x ≡ y
-tree_once t u x y same (inl (h, e)) (inl (k, f)) = e ∙ ap made (program_of_same t u same) ∙ sym f
-tree_once t u x y same (inl (h, e)) (inr (c, k, f)) = absurd (typed_or_cause u c (typed_of_same t u same h) k)
-tree_once t u x y same (inr (c, h, e)) (inl (k, f)) = absurd (typed_or_cause u c k (cause_of_same t u c same h))
-tree_once t u x y same (inr (c, h, e)) (inr (d, k, f)) = e ∙ ap refused (cause_once u c d (cause_of_same t u c same h) k) ∙ sym f
+tree_once : (t : Tree) (x y : Ending) → TreeLeads t x → TreeLeads t y → x ≡ y
+tree_once t x y (inl (h, e)) (inl (k, f)) = e ∙ sym f
+tree_once t x y (inl (h, e)) (inr (c, k, f)) = absurd (typed_or_cause t c h k)
+tree_once t x y (inr (c, h, e)) (inl (k, f)) = absurd (typed_or_cause t c k h)
+tree_once t x y (inr (c, h, e)) (inr (d, k, f)) = e ∙ ap refused (cause_once t c d h k) ∙ sym f
 
 line_once : (ts : List Token) (m n : ℕ) (h : IsWrong ts m) (k : IsWrong ts n) → m ≡ n
 line_once ts m n h k =
@@ -78,14 +77,14 @@ line_once ts m n h k =
 tokens_once : (ts : List Token) (x y : Ending) → Leads ts x → Leads ts y → x ≡ y
 tokens_once ts x y (wrong m h e) (wrong n k f) = e ∙ ap (λ line. refused (end.Syntax line)) (line_once ts m n h k) ∙ sym f
 tokens_once ts x y (wrong m h e) (deep k f) = absurd ((parsed.one_answer (map seen ts)).wrong_or_deep h.left h.stops k)
-tokens_once ts x y (wrong m h e) (a_tree t k f) = absurd ((parsed.one_answer (map seen ts)).read_or_wrong (plain_tree t) h.left k h.stops)
+tokens_once ts x y (wrong m h e) (a_tree t k f) = absurd ((parsed.one_answer (map seen ts)).read_or_wrong t h.left k h.stops)
 tokens_once ts x y (deep h e) (wrong n k f) = absurd ((parsed.one_answer (map seen ts)).wrong_or_deep k.left k.stops h)
 tokens_once ts x y (deep h e) (deep k f) = e ∙ sym f
-tokens_once ts x y (deep h e) (a_tree t k f) = absurd ((parsed.one_answer (map seen ts)).read_or_deep (plain_tree t) k h)
-tokens_once ts x y (a_tree t h e) (wrong n k f) = absurd ((parsed.one_answer (map seen ts)).read_or_wrong (plain_tree t) k.left h k.stops)
-tokens_once ts x y (a_tree t h e) (deep k f) = absurd ((parsed.one_answer (map seen ts)).read_or_deep (plain_tree t) h k)
+tokens_once ts x y (deep h e) (a_tree t k f) = absurd ((parsed.one_answer (map seen ts)).read_or_deep t k h)
+tokens_once ts x y (a_tree t h e) (wrong n k f) = absurd ((parsed.one_answer (map seen ts)).read_or_wrong t k.left h k.stops)
+tokens_once ts x y (a_tree t h e) (deep k f) = absurd ((parsed.one_answer (map seen ts)).read_or_deep t h k)
 tokens_once ts x y (a_tree t h e) (a_tree u k f) =
-    tree_once t u x y ((parsed.one_answer (map seen ts)).read_once (plain_tree t) (plain_tree u) h k) e f
+    tree_once u x y (subst (λ (t : Tree). TreeLeads t x) ((parsed.one_answer (map seen ts)).read_once t u h k) e) f
 
 scan_once : (s : Scan) (x y : Ending) → ScanLeads s x → ScanLeads s y → x ≡ y
 scan_once (BadLineAt line column) x y h k = h ∙ sym k

@@ -1,8 +1,9 @@
 -- A tree has a program, or one cause for which it has none.
-use Rattle.std.proofs.Common.{◌≡◌, ◌≤◌, ◌<◌, ◌⊎◌, ℕ, List, [], Option, Some, None, refl, sym, ap, ◌∙◌, subst, inl, inr, arith}
+use Rattle.std.proofs.Common.{◌≡◌, ◌≤◌, ◌<◌, ◌⊎◌, ⊎_elim, ℕ, List, Option, Some, None, refl, sym, ap, ◌∙◌, subst, inl, inr, arith}
+use Rattle.std.proofs.lemmas.Bool.{cases_lt}
 use Rattle.std.proofs.lemmas.Option.{same_Some}
 use Rattle.rule_order.specs.Order.{AreKept, IsFirstBroken, first_broken}
-use Rattle.rule_order.proofs.OrderLemmas.{is_kept, is_first}
+use Rattle.rule_order.proofs.OrderLemmas.{first_is, kept_is, is_kept, is_first}
 use Rattle.cob_tree.specs.declared.tree.Tree as declared_tree
 use Rattle.cob_tree.specs.Stmt.{Tree}
 use Rattle.cob_tree.specs.StmtView.{plain_tree}
@@ -10,14 +11,16 @@ use Rattle.cob_data.specs.declared.end.Rule.{Rule}
 use Rattle.cob_data.specs.declared.end.Which.{Which}
 use Rattle.cob_data.specs.declared.end.Which.TheVariants as which
 use Rattle.cob_data.specs.declared.end.DataEnd.TheVariants as data_end
-use Rattle.cob_data.specs.Rules.{data_rules, broken_lines, facts_of, count_of, IsFirstExceeded, IsWithinLimits}
+use Rattle.cob_data.specs.Rules.{data_rules, broken_lines, facts_of, count_of, limit_of, IsWithin, IsExceeded, IsFirstExceeded, IsWithinLimits}
 use Rattle.cob_data.specs.Layouts as layouts
 use Rattle.cob_data.specs.Layouts.{HasLayout, layout}
-use Rattle.cob_program.specs.Act.{Program}
+use Rattle.cob_data.specs.declared.layout.Layout.{Layout}
+use Rattle.cob_program.specs.declared.program.Program as declared_program
+use Rattle.cob_program.specs.ActView.{plain_program}
 use Rattle.cob_typed.specs.Typing.{IsTyped, IsOutside, typed, lines_of, typing_rules}
 use Rattle.cob_front.specs.declared.refusal.Refusal.{Refusal}
 use Rattle.cob_front.specs.declared.refusal.Refusal.TheVariants as end
-use Rattle.cob_front.specs.Source.{IsTypedTree, IsTreeCause, program_of}
+use Rattle.cob_front.specs.Source.{IsTypedTree, IsTreeCause, IsProgramOf, data_of}
 
 -- ---- the first broken rule
 
@@ -65,10 +68,10 @@ exceeded_once t which.Files which.Nodes h k = absurd k
 
 -- ---- causes
 
-pub typed_or_cause : (t : declared_tree.Tree) (e : Refusal) → IsTypedTree t → IsTreeCause t e → ⊥
-typed_or_cause t (end.Outside rule line) h (inl k) = kept_or_broken (broken_lines t) data_rules rule line h.has_layout.kept k
-typed_or_cause t (end.Outside rule line) h (inr k) = kept_or_broken (lines_of (layout t) (plain_tree t)) typing_rules rule line h.rules k.1
-typed_or_cause t (end.Limit w count) h k = within_or_exceeded t w h.has_layout.within k.1
+pub typed_or_cause : (t : Tree) (e : Refusal) → IsTypedTree t → IsTreeCause t e → ⊥
+typed_or_cause t (end.Outside rule line) h (inl k) = kept_or_broken (broken_lines (data_of t)) data_rules rule line h.has_layout.kept k
+typed_or_cause t (end.Outside rule line) h (inr k) = kept_or_broken (lines_of (layout (data_of t)) t) typing_rules rule line h.rules k.1
+typed_or_cause t (end.Limit w count) h k = within_or_exceeded (data_of t) w h.has_layout.within k.1
 typed_or_cause t end.TooLong h k = k
 typed_or_cause t (end.BadLine line column) h k = k
 typed_or_cause t (end.BadToken line column) h k = k
@@ -76,28 +79,28 @@ typed_or_cause t (end.Syntax line) h k = k
 typed_or_cause t (end.Nesting count) h k = k
 typed_or_cause t end.Memory h k = k
 
-outside_limit : (t : declared_tree.Tree) (rule : Rule) (line : ℕ) (w : Which) (count : ℕ) → IsTreeCause t (end.Outside rule line) → IsTreeCause t (end.Limit w count) → ⊥
-outside_limit t rule line w count (inl h) k = kept_or_broken (broken_lines t) data_rules rule line k.0 h
-outside_limit t rule line w count (inr h) k = within_or_exceeded t w h.0.within k.1
+outside_limit : (t : Tree) (rule : Rule) (line : ℕ) (w : Which) (count : ℕ) → IsTreeCause t (end.Outside rule line) → IsTreeCause t (end.Limit w count) → ⊥
+outside_limit t rule line w count (inl h) k = kept_or_broken (broken_lines (data_of t)) data_rules rule line k.0 h
+outside_limit t rule line w count (inr h) k = within_or_exceeded (data_of t) w h.0.within k.1
 
-outside_cause_once : (t : declared_tree.Tree) (r s : Rule) (m n : ℕ) → IsTreeCause t (end.Outside r m) → IsTreeCause t (end.Outside s n) → end.Outside r m ≡ end.Outside s n
-outside_cause_once t r s m n (inl h) (inl k) = outside_once r s m n (broken_once (broken_lines t) data_rules r s m n h k)
-outside_cause_once t r s m n (inl h) (inr k) = absurd (kept_or_broken (broken_lines t) data_rules r m k.0.kept h)
-outside_cause_once t r s m n (inr h) (inl k) = absurd (kept_or_broken (broken_lines t) data_rules s n h.0.kept k)
+outside_cause_once : (t : Tree) (r s : Rule) (m n : ℕ) → IsTreeCause t (end.Outside r m) → IsTreeCause t (end.Outside s n) → end.Outside r m ≡ end.Outside s n
+outside_cause_once t r s m n (inl h) (inl k) = outside_once r s m n (broken_once (broken_lines (data_of t)) data_rules r s m n h k)
+outside_cause_once t r s m n (inl h) (inr k) = absurd (kept_or_broken (broken_lines (data_of t)) data_rules r m k.0.kept h)
+outside_cause_once t r s m n (inr h) (inl k) = absurd (kept_or_broken (broken_lines (data_of t)) data_rules s n h.0.kept k)
 outside_cause_once t r s m n (inr h) (inr k) =
-    outside_once r s m n (broken_once (lines_of (layout t) (plain_tree t)) typing_rules r s m n h.1 k.1)
+    outside_once r s m n (broken_once (lines_of (layout (data_of t)) t) typing_rules r s m n h.1 k.1)
 
-limit_cause_once : (t : declared_tree.Tree) (v w : Which) (m n : ℕ) → IsTreeCause t (end.Limit v m) → IsTreeCause t (end.Limit w n) → end.Limit v m ≡ end.Limit w n
+limit_cause_once : (t : Tree) (v w : Which) (m n : ℕ) → IsTreeCause t (end.Limit v m) → IsTreeCause t (end.Limit w n) → end.Limit v m ≡ end.Limit w n
 limit_cause_once t v w m n h k =
-    let one = exceeded_once t v w h.1 k.1 in
-    ap (end.Limit v) (h.2) ∙ ap (λ x. end.Limit x (count_of (facts_of t) x)) one ∙ ap (end.Limit w) (sym k.2)
+    let one = exceeded_once (data_of t) v w h.1 k.1 in
+    ap (end.Limit v) (h.2) ∙ ap (λ x. end.Limit x (count_of (facts_of (data_of t)) x)) one ∙ ap (end.Limit w) (sym k.2)
 
 abbrev IsTreeEnd : Refusal → Type 0
 IsTreeEnd (end.Outside rule line) = Unit {0}
 IsTreeEnd (end.Limit which count) = Unit {0}
 IsTreeEnd _ = ⊥
 
-pub is_tree_end : (t : declared_tree.Tree) (e : Refusal) → IsTreeCause t e → IsTreeEnd e
+pub is_tree_end : (t : Tree) (e : Refusal) → IsTreeCause t e → IsTreeEnd e
 is_tree_end t (end.Outside rule line) h = tt
 is_tree_end t (end.Limit which count) h = tt
 is_tree_end t end.TooLong h = h
@@ -107,7 +110,7 @@ is_tree_end t (end.Syntax line) h = h
 is_tree_end t (end.Nesting count) h = h
 is_tree_end t end.Memory h = h
 
-cause_once_at : (t : declared_tree.Tree) (d e : Refusal) → IsTreeEnd d → IsTreeEnd e → IsTreeCause t d → IsTreeCause t e → d ≡ e
+cause_once_at : (t : Tree) (d e : Refusal) → IsTreeEnd d → IsTreeEnd e → IsTreeCause t d → IsTreeCause t e → d ≡ e
 cause_once_at t (end.Outside r m) (end.Outside s n) x y h k = outside_cause_once t r s m n h k
 cause_once_at t (end.Outside r m) (end.Limit w n) x y h k = absurd (outside_limit t r m w n h k)
 cause_once_at t (end.Limit v m) (end.Outside s n) x y h k = absurd (outside_limit t s n v m k h)
@@ -125,70 +128,50 @@ cause_once_at t (end.Syntax line) e x y h k = absurd x
 cause_once_at t (end.Nesting count) e x y h k = absurd x
 cause_once_at t end.Memory e x y h k = absurd x
 
-pub cause_once : (t : declared_tree.Tree) (d e : Refusal) → IsTreeCause t d → IsTreeCause t e → d ≡ e
+pub cause_once : (t : Tree) (d e : Refusal) → IsTreeCause t d → IsTreeCause t e → d ≡ e
 cause_once t d e h k = cause_once_at t d e (is_tree_end t d h) (is_tree_end t e k) h k
 
--- ---- what is said of a tree is said of its plain data
+-- ---- what is said of a tree of the code is said of its data
 
-abbrev back : Tree → declared_tree.Tree
-back p = record { front = p.front; sentences = []; paragraphs = []; end = p.end }
+pub data_has_layout : (t : declared_tree.Tree) → HasLayout t → HasLayout (data_of (plain_tree t))
+data_has_layout t h = record { kept = h.kept; within = record { items = h.within.items; storage = h.within.storage; files = h.within.files } }
 
-abbrev like : declared_tree.Tree → declared_tree.Tree
-like t = back (plain_tree t)
+pub rule_of_tree : (t : declared_tree.Tree) (l : Layout) (r : Rule) (line : ℕ) → HasLayout t → l ≡ layout t → IsOutside l (plain_tree t) r line → IsTreeCause (plain_tree t) (end.Outside r line)
+rule_of_tree t l r line h is broken = inr (data_has_layout t h, subst (λ (l : Layout). IsOutside l (plain_tree t) r line) is broken)
 
-abbrev CauseIn : Tree → Refusal → Type 0
-CauseIn p (end.Outside rule line) = layouts.IsCause (back p) (data_end.Outside rule line) ⊎ (HasLayout (back p) × IsOutside (layout (back p)) p rule line)
-CauseIn p (end.Limit which count) = layouts.IsCause (back p) (data_end.Limit which count)
-CauseIn p _ = ⊥
+pub program_of_tree : (t : declared_tree.Tree) (l : Layout) (p : declared_program.Program) → HasLayout t → l ≡ layout t → IsTyped l (plain_tree t) × (plain_program p ≡ typed l (plain_tree t)) → IsProgramOf (plain_tree t) p
+program_of_tree t l p h is answer =
+    let there = subst (λ (l : Layout). IsTyped l (plain_tree t) × (plain_program p ≡ typed l (plain_tree t))) is answer in
+    (record { has_layout = data_has_layout t h; rules = there.0 }, there.1)
 
-layout_in : (t : declared_tree.Tree) → HasLayout t → HasLayout (like t)
-layout_in t h = record { kept = h.kept; within = record { items = h.within.items; storage = h.within.storage; files = h.within.files } }
+-- ---- a tree has a program, or a cause
 
-layout_out : (t : declared_tree.Tree) → HasLayout (like t) → HasLayout t
-layout_out t h = record { kept = h.kept; within = record { items = h.within.items; storage = h.within.storage; files = h.within.files } }
+within_or : (t : declared_tree.Tree) (w : Which) → IsWithin t w ⊎ IsExceeded t w
+within_or t w = ⊎_elim (λ h. inr h) (λ h. inl h) (cases_lt (limit_of w) (count_of (facts_of t) w))
 
-cause_in : (t : declared_tree.Tree) (e : Refusal) → IsTreeCause t e → CauseIn (plain_tree t) e
-cause_in t (end.Outside rule line) (inl h) = inl h
-cause_in t (end.Outside rule line) (inr h) = inr (layout_in t h.0, h.1)
-cause_in t (end.Limit which.Items count) h = h
-cause_in t (end.Limit which.Storage count) h = h
-cause_in t (end.Limit which.Files count) h = h
-cause_in t (end.Limit which.Nesting count) h = h
-cause_in t (end.Limit which.Cells count) h = h
-cause_in t (end.Limit which.Nodes count) h = h
-cause_in t end.TooLong h = h
-cause_in t (end.BadLine line column) h = h
-cause_in t (end.BadToken line column) h = h
-cause_in t (end.Syntax line) h = h
-cause_in t (end.Nesting count) h = h
-cause_in t end.Memory h = h
+limits_end : (t : declared_tree.Tree) → IsWithin t which.Items ⊎ IsExceeded t which.Items → IsWithin t which.Storage ⊎ IsExceeded t which.Storage →
+    IsWithin t which.Files ⊎ IsExceeded t which.Files → IsWithinLimits t ⊎ ((w : Which) × IsFirstExceeded t w)
+limits_end t (inr items) storage files = inr (which.Items, items)
+limits_end t (inl items) (inr storage) files = inr (which.Storage, (items, storage))
+limits_end t (inl items) (inl storage) (inr files) = inr (which.Files, (items, storage, files))
+limits_end t (inl items) (inl storage) (inl files) = inl record { items = items; storage = storage; files = files }
 
-cause_out : (t : declared_tree.Tree) (e : Refusal) → CauseIn (plain_tree t) e → IsTreeCause t e
-cause_out t (end.Outside rule line) (inl h) = inl h
-cause_out t (end.Outside rule line) (inr h) = inr (layout_out t h.0, h.1)
-cause_out t (end.Limit which.Items count) h = h
-cause_out t (end.Limit which.Storage count) h = h
-cause_out t (end.Limit which.Files count) h = h
-cause_out t (end.Limit which.Nesting count) h = h
-cause_out t (end.Limit which.Cells count) h = h
-cause_out t (end.Limit which.Nodes count) h = h
-cause_out t end.TooLong h = h
-cause_out t (end.BadLine line column) h = h
-cause_out t (end.BadToken line column) h = h
-cause_out t (end.Syntax line) h = h
-cause_out t (end.Nesting count) h = h
-cause_out t end.Memory h = h
+abbrev Ends : Tree → Type 0
+Ends t = IsTypedTree t ⊎ ((e : Refusal) × IsTreeCause t e)
 
-pub cause_of_same : (a b : declared_tree.Tree) (e : Refusal) → plain_tree a ≡ plain_tree b → IsTreeCause a e → IsTreeCause b e
-cause_of_same a b e same h = cause_out b e (subst (λ p. CauseIn p e) same (cause_in a e h))
+statements_end : (t : Tree) → HasLayout (data_of t) → (o : Option (Rule × ℕ)) → first_broken (lines_of (layout (data_of t)) t) typing_rules ≡ o → Ends t
+statements_end t h None e = inl record { has_layout = h; rules = kept_is (lines_of (layout (data_of t)) t) typing_rules e }
+statements_end t h (Some (rule, line)) e = inr (end.Outside rule line, inr (h, first_is (lines_of (layout (data_of t)) t) typing_rules rule line e))
 
-abbrev TypedIn : Tree → Type 0
-TypedIn p = HasLayout (back p) × IsTyped (layout (back p)) p
+layout_ends : (t : Tree) → AreKept (broken_lines (data_of t)) data_rules → IsWithinLimits (data_of t) ⊎ ((w : Which) × IsFirstExceeded (data_of t) w) → Ends t
+layout_ends t kept (inl within) = statements_end t (record { kept = kept; within = within }) (first_broken (lines_of (layout (data_of t)) t) typing_rules) refl
+layout_ends t kept (inr (w, exceeded)) = inr (end.Limit w (count_of (facts_of (data_of t)) w), (kept, exceeded, refl))
 
-pub typed_of_same : (a b : declared_tree.Tree) → plain_tree a ≡ plain_tree b → IsTypedTree a → IsTypedTree b
-typed_of_same a b same h =
-    let there : TypedIn (plain_tree b) = subst TypedIn same (layout_in a h.has_layout, h.rules) in
-    record { has_layout = layout_out b there.0; rules = there.1 }
+data_ends : (t : Tree) (o : Option (Rule × ℕ)) → first_broken (broken_lines (data_of t)) data_rules ≡ o → Ends t
+data_ends t None e =
+    layout_ends t (kept_is (broken_lines (data_of t)) data_rules e)
+    (limits_end (data_of t) (within_or (data_of t) which.Items) (within_or (data_of t) which.Storage) (within_or (data_of t) which.Files))
+data_ends t (Some (rule, line)) e = inr (end.Outside rule line, inl (first_is (broken_lines (data_of t)) data_rules rule line e))
 
-pub program_of_same : (a b : declared_tree.Tree) → plain_tree a ≡ plain_tree b → program_of a ≡ program_of b
-program_of_same a b same = ap (λ p. typed (layout (back p)) p) same
+pub tree_ends : (t : Tree) → IsTypedTree t ⊎ ((e : Refusal) × IsTreeCause t e)
+tree_ends t = data_ends t (first_broken (broken_lines (data_of t)) data_rules) refl

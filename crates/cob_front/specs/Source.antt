@@ -1,10 +1,10 @@
 -- What a source is: its tree, the layout of its data and its program, or the first cause for which it is refused.
-use Rattle.std.specs.Prelude.{◌≡◌, ◌≤◌, ◌<◌, ◌⊎◌, ℕ, List, length, map, Result, Ok, Err}
+use Rattle.std.specs.Prelude.{◌≡◌, ◌≤◌, ◌<◌, ◌⊎◌, ℕ, List, [], length, map, Result, Ok, Err}
 use Rattle.cob_tree.specs.declared.token.Token.{Token}
-use Rattle.cob_tree.specs.declared.tree.Tree.{Tree}
-use Rattle.cob_tree.specs.StmtView.{plain_tree}
+use Rattle.cob_tree.specs.declared.tree.Tree as declared_tree
+use Rattle.cob_tree.specs.Stmt.{Tree}
 use Rattle.cob_tree.specs.Symbols.{seen}
-use Rattle.cob_scan.specs.Scan.{BadLineAt, BadTokenAt, Tokens, scan_of}
+use Rattle.cob_lex.specs.Scan.{BadLineAt, BadTokenAt, Tokens, scan_of}
 use Rattle.cob_parse_proc.specs.Parsing.{IsTree, IsWrong, IsDeep}
 use Rattle.cob_data.specs.declared.layout.Layout.{Layout}
 use Rattle.cob_data.specs.declared.end.DataEnd.TheVariants as data_end
@@ -27,16 +27,20 @@ pub record HasTokens (bytes : List ℕ) (tokens : List Token) : Type 0 where
 pub record StandsFor (bytes : List ℕ) (t : Tree) : Type 0 where
   pub tokens : List Token
   pub has : HasTokens bytes tokens
-  pub parsed : IsTree (map seen tokens) (plain_tree t)
+  pub parsed : IsTree (map seen tokens) t
+
+-- a tree without its statements, from which its layout follows
+abbrev pub data_of : Tree → declared_tree.Tree
+data_of t = record { front = t.front; sentences = []; paragraphs = []; end = t.end }
 
 -- Each rule on data and on statements is kept, and no limit on data is exceeded. The layout and the program follow from
 -- the tree.
 pub record IsTypedTree (t : Tree) : Type 0 where
-  pub has_layout : HasLayout t
-  pub rules : IsTyped (layout t) (plain_tree t)
+  pub has_layout : HasLayout (data_of t)
+  pub rules : IsTyped (layout (data_of t)) t
 
 abbrev pub program_of : Tree → Program
-program_of t = typed (layout t) (plain_tree t)
+program_of t = typed (layout (data_of t)) t
 
 -- the source is one of this program, whose rules on data and statements it keeps
 pub record IsSource (bytes : List ℕ) (p : Program) : Type 0 where
@@ -51,8 +55,8 @@ pub record IsSource (bytes : List ℕ) (p : Program) : Type 0 where
 -- rule on statements
 abbrev pub IsTreeCause : Tree → Refusal → Type 0
 IsTreeCause t (end.Outside rule line) =
-    layouts.IsCause t (data_end.Outside rule line) ⊎ (HasLayout t × IsOutside (layout t) (plain_tree t) rule line)
-IsTreeCause t (end.Limit which count) = layouts.IsCause t (data_end.Limit which count)
+    layouts.IsCause (data_of t) (data_end.Outside rule line) ⊎ (HasLayout (data_of t) × IsOutside (layout (data_of t)) t rule line)
+IsTreeCause t (end.Limit which count) = layouts.IsCause (data_of t) (data_end.Limit which count)
 IsTreeCause t _ = ⊥
 
 pub record HasCause (bytes : List ℕ) (e : Refusal) : Type 0 where

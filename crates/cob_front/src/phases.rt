@@ -10,19 +10,19 @@ ghost use Rattle.cob_tree.specs.Limits.{token_limit};
 
 use crate::refusal::Refusal;
 use cob_data::{DataEnd, Layout, layout_of};
+use cob_lex::{ScanEnd, tokens_in};
 use cob_lexemes::ParseEnd;
 use cob_lines::SOURCE_LIMIT;
 use cob_names::layouts_have_few_places;
 use cob_parse_proc::program_of;
 use cob_program::Program;
-use cob_scan::{ScanEnd, tokens_in};
 use cob_tree::Tree;
 use cob_typed::{TypedEnd, typed_of};
 use std::alloc::Global;
 
 /// The tree of a source.
 fn tree_in(alloc: Global, bytes: &[u8]) -> Result<Tree, Refusal>
-    ensures answer { Answers (StandsFor bytes.now) (IsCause bytes.now) result }
+    ensures answer { Answers (λ tree. StandsFor bytes.now (plain_tree tree)) (IsCause bytes.now) result }
     ensures few { IfOk result (λ tree. length (print_tree (plain_tree tree)) ≤ token_limit) }
 {
     if bytes.len() > SOURCE_LIMIT {
@@ -47,7 +47,7 @@ fn statements_in(alloc: Global, tree: &Tree, laid: &Layout) -> Result<Program, R
     requires has { HasLayout tree.now }
     requires is { laid.now ≡ layout tree.now }
     requires few { length (print_tree (plain_tree tree.now)) ≤ token_limit }
-    ensures { Answers (IsProgramOf tree.now) (IsTreeCause tree.now) result }
+    ensures { Answers (IsProgramOf (plain_tree tree.now)) (IsTreeCause (plain_tree tree.now)) result }
 {
     layouts_have_few_places();
     match typed_of(alloc, tree, laid) {
@@ -60,7 +60,7 @@ fn statements_in(alloc: Global, tree: &Tree, laid: &Layout) -> Result<Program, R
 /// The program of a tree.
 fn typed_in(alloc: Global, tree: &Tree) -> Result<Program, Refusal>
     requires { length (print_tree (plain_tree tree.now)) ≤ token_limit }
-    ensures { Answers (IsProgramOf tree.now) (IsTreeCause tree.now) result }
+    ensures { Answers (IsProgramOf (plain_tree tree.now)) (IsTreeCause (plain_tree tree.now)) result }
 {
     match layout_of(alloc, tree) {
         Ok(laid) => statements_in(alloc, tree, &laid),

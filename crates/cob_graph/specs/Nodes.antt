@@ -7,8 +7,8 @@ use Rattle.cob_program.specs.Act.{Turns, once, times, until, varying}
 use Rattle.cob_runs.specs.declared.action.Action.{Action}
 use Rattle.cob_runs.specs.declared.action.Action.TheVariants as action
 use Rattle.cob_runs.specs.Acts.{has_status}
-use Rattle.cob_graph.specs.Laid.{Laid, MkLaid, LaidList, no_laid, more_laid, LaidPhrase, no_phrase, a_phrase, LaidAct, moving, showing, skipping, going, ending, computing, deciding, choosing, performing, opening, closing, reading, writing, LaidWhens, no_laid_whens, more_laid_whens, LaidBody, own_list, copy, LaidParas, no_laid_paras, more_laid_paras, tests_in, tests_among, one_if, size, list_size, phrase_size, whens_size}
-use Rattle.cob_graph.specs.Places.{first_of_list, first_of_paras, first_of_para, first_of_body, first_of_all, first_of_any, first_of_whens, body_at, tests_at, augment_at, body_next}
+use Rattle.cob_graph.specs.Laid.{Laid, MkLaid, LaidList, no_laid, more_laid, LaidPhrase, no_phrase, a_phrase, LaidAct, moving, showing, skipping, going, ending, computing, deciding, choosing, performing, opening, closing, reading, writing, LaidWhens, no_laid_whens, more_laid_whens, LaidBody, own_list, copy, LaidParas, no_laid_paras, more_laid_paras, tests_in, tests_among, size, list_size}
+use Rattle.cob_graph.specs.Places.{first_of_list, first_of_paras, first_of_para, first_of_all, first_of_any, first_of_whens, size_at, fine_at, held_at, else_at, chosen_at, next_when_at, whens_at, other_at, end_at, found_at, body_at, tests_at, augment_at, body_next, first_in_loop}
 
 -- the statement, the PERFORMs in whose copies it lies, outermost first, whether a step begins here, and the ways on
 pub record Noded : Type 0 where
@@ -103,31 +103,34 @@ module _ (c : Copied) (statement : ℕ) where
 
   -- what stands before the body, and what stands behind it
   abbrev pub loop_before : Turns → LaidBody → ℕ → ℕ → List Noded
-  loop_before once body at next = node true ((action.Skip, first_of_body body (at + 1) next) ∷ []) ∷ []
+  loop_before once body at next = node true ((action.Skip, first_in_loop once body at next) ∷ []) ∷ []
   loop_before (times x) body at next =
-      node true ((action.SetCount, at + 1) ∷ [])
-      ∷ node true ((action.True 0, first_of_body body (at + 2) (augment_at (times x) at body)) ∷ (action.False 0, next) ∷ []) ∷ []
+      node true ((action.SetCount, tests_at (times x) at body) ∷ [])
+      ∷ node true ((action.True 0, first_in_loop (times x) body at next) ∷ (action.False 0, next) ∷ []) ∷ []
   loop_before (until false t) body at next =
-      node true ((action.Skip, at + 1) ∷ [])
-      ∷ logic_nodes true t 0 (at + 1) next (first_of_body body (body_at (until false t) at) (at + 1))
+      node true ((action.Skip, tests_at (until false t) at body) ∷ [])
+      ∷ logic_nodes true t 0 (tests_at (until false t) at body) next (first_in_loop (until false t) body at next)
   loop_before (until true t) body at next =
-      node true ((action.Skip, first_of_body body (at + 1) (tests_at (until true t) at body)) ∷ []) ∷ []
+      node true ((action.Skip, first_in_loop (until true t) body at next) ∷ []) ∷ []
   loop_before (varying false item start by t) body at next =
-      node true ((action.Assign, at + 1) ∷ [])
-      ∷ logic_nodes true t 0 (at + 1) next (first_of_body body (at + 1 + tests_in t) (augment_at (varying false item start by t) at body))
+      node true ((action.Assign, tests_at (varying false item start by t) at body) ∷ [])
+      ∷ logic_nodes true t 0 (tests_at (varying false item start by t) at body) next
+      (first_in_loop (varying false item start by t) body at next)
   loop_before (varying true item start by t) body at next =
-      node true ((action.Assign, first_of_body body (at + 1) (tests_at (varying true item start by t) at body)) ∷ []) ∷ []
+      node true ((action.Assign, first_in_loop (varying true item start by t) body at next) ∷ []) ∷ []
 
   abbrev pub loop_behind : Turns → LaidBody → ℕ → ℕ → List Noded
   loop_behind once body at next = []
-  loop_behind (times x) body at next = node true ((action.Down, at + 1) ∷ []) ∷ []
+  loop_behind (times x) body at next = node true ((action.Down, tests_at (times x) at body) ∷ []) ∷ []
   loop_behind (until false t) body at next = []
   loop_behind (until true t) body at next =
-      logic_nodes true t 0 (tests_at (until true t) at body) next (first_of_body body (at + 1) (tests_at (until true t) at body))
-  loop_behind (varying false item start by t) body at next = node true ((action.Done, at + 1) ∷ []) ∷ []
+      logic_nodes true t 0 (tests_at (until true t) at body) next (first_in_loop (until true t) body at next)
+  loop_behind (varying false item start by t) body at next =
+      node true ((action.Done, tests_at (varying false item start by t) at body) ∷ []) ∷ []
   loop_behind (varying true item start by t) body at next =
-      logic_nodes true t 0 (tests_at (varying true item start by t) at body) next (augment_at (varying true item start by t) at body)
-      ++ node true ((action.Done, first_of_body body (at + 1) (tests_at (varying true item start by t) at body)) ∷ []) ∷ []
+      logic_nodes true t 0 (tests_at (varying true item start by t) at body) next
+      (augment_at (varying true item start by t) at body)
+      ++ node true ((action.Done, first_in_loop (varying true item start by t) body at next) ∷ []) ∷ []
 
 -- ---- statements
 
@@ -155,10 +158,10 @@ abbrev mutual
   pub whens_nodes : Copied → ℕ → LaidWhens → ℕ → ℕ → ℕ → ℕ → List Noded
   whens_nodes c number no_laid_whens k at other next = []
   whens_nodes c number (more_laid_whens ts xs ws) k at other next =
-      any_nodes c number false (logics_of ts) k at (first_of_list xs (at + tests_among (logics_of ts)) next)
-      (first_of_whens ws (at + tests_among (logics_of ts) + list_size xs) other next)
-      ++ list_nodes c xs (at + tests_among (logics_of ts)) next
-      ++ whens_nodes c number ws (k + tests_among (logics_of ts)) (at + tests_among (logics_of ts) + list_size xs) other next
+      any_nodes c number false (logics_of ts) k at (first_of_list xs (chosen_at ts at) next)
+      (first_of_whens ws (next_when_at ts xs at) other next)
+      ++ list_nodes c xs (chosen_at ts at) next
+      ++ whens_nodes c number ws (k + tests_among (logics_of ts)) (next_when_at ts xs at) other next
 
   pub body_nodes : Copied → ℕ → LaidBody → ℕ → ℕ → List Noded
   body_nodes c number (own_list xs) at next = list_nodes c xs at next
@@ -176,14 +179,15 @@ abbrev mutual
   act_nodes c number (going p) at next = node c number true ((action.Skip, c.para p) ∷ []) ∷ []
   act_nodes c number ending at next = node c number true ((action.Skip, c.final) ∷ []) ∷ []
   act_nodes c number (computing a b) at next =
-      node c number true ((action.Done, first_of_list b (at + 1 + phrase_size a) next) ∷ size_edges c number a (at + 1) next)
-      ∷ phrase_nodes c a (at + 1) next ++ list_nodes c b (at + 1 + phrase_size a) next
+      node c number true ((action.Done, first_of_list b (fine_at a at) next) ∷ size_edges c number a (size_at at) next)
+      ∷ phrase_nodes c a (size_at at) next ++ list_nodes c b (fine_at a at) next
   act_nodes c number (deciding t a b) at next =
-      logic_nodes c number true t 0 at (first_of_list a (at + tests_in t) next) (first_of_list b (at + tests_in t + list_size a) next)
-      ++ list_nodes c a (at + tests_in t) next ++ list_nodes c b (at + tests_in t + list_size a) next
+      logic_nodes c number true t 0 at (first_of_list a (held_at t at) next) (first_of_list b (else_at t a at) next)
+      ++ list_nodes c a (held_at t at) next ++ list_nodes c b (else_at t a at) next
   act_nodes c number (choosing ws b) at next =
-      node c number true ((action.Skip, first_of_whens ws (at + 1) (first_of_list b (at + 1 + whens_size ws) next) next) ∷ [])
-      ∷ whens_nodes c number ws 0 (at + 1) (first_of_list b (at + 1 + whens_size ws) next) next ++ list_nodes c b (at + 1 + whens_size ws) next
+      node c number true ((action.Skip, first_of_whens ws (whens_at at) (first_of_list b (other_at ws at) next) next) ∷ [])
+      ∷ whens_nodes c number ws 0 (whens_at at) (first_of_list b (other_at ws at) next) next
+      ++ list_nodes c b (other_at ws at) next
   act_nodes c number (performing body turns) at next =
       loop_before c number turns body at next
       ++ body_nodes c number body (body_at turns at) (body_next turns at body next)
@@ -191,6 +195,7 @@ abbrev mutual
   act_nodes c number (opening os) at next = open_nodes c number true os 0 at next
   act_nodes c number (closing fs) at next = close_nodes c number true fs 0 at next
   act_nodes c number (reading f into a b) at next =
-      read_nodes c number f into at (end_to c number a f (at + 1 + one_if into) next) (first_of_list b (at + 1 + one_if into + phrase_size a) next) next
-      ++ phrase_nodes c a (at + 1 + one_if into) next ++ list_nodes c b (at + 1 + one_if into + phrase_size a) next
+      read_nodes c number f into at (end_to c number a f (end_at into at) next)
+      (first_of_list b (found_at into a at) next) next
+      ++ phrase_nodes c a (end_at into at) next ++ list_nodes c b (found_at into a at) next
   act_nodes c number (writing f from) at next = write_nodes c number f from at next

@@ -1,4 +1,5 @@
 mod CellLemmas
+mod Counts
 mod Cuts
 mod Exact
 mod FileLemmas
@@ -12,4 +13,5 @@ mod Loops
 mod PlaceLemmas
 mod SizeLemmas
 mod SizeLoops
+pub mod Totality
 mod WhenLemmas

@@ -2,3 +2,4 @@ pub mod Sizes
 pub mod Tables
 pub mod Growing
 pub mod Limits
+pub mod MainCopies

@@ -1,6 +1,6 @@
 //! How many nodes the statements of a program have. A table tells the number for each performed range, in the order
 //! in which they are known, so that nested copies take no more work than what performs them.
-ghost use Rattle.std.specs.Prelude.{◌≡◌, ◌+◌, ◌-◌, min, IfOk, OnOk};
+ghost use Rattle.std.specs.Prelude.{◌≡◌, ◌+◌, ◌-◌, ◌&&◌, nat_le, min, IfOk, OnOk};
 ghost use Rattle.cob_program.specs.ActView.{plain_act, plain_body, plain_stmt, plain_when, plain_turns, plain_program, plain_stmts, plain_whens};
 ghost use Rattle.cob_program.specs.LogicView.{plain_logic, plain_logics};
 ghost use Rattle.cob_program.specs.Statements.{list_statements, plain_references};
@@ -65,10 +65,10 @@ pub fn is_in(table: &[Entry], first: u32, last: u32) -> bool
 }
 
 /// The body of a paragraph.
-pub fn body_at(program: &Program, place: u32) -> &[Stmt]
+pub fn body_at(program: &Program, place: usize) -> &[Stmt]
     ensures { plain_stmts result.now ≡ body_at (plain_program program.now) place }
 {
-    match program.paras.get().get(place as usize) {
+    match program.paras.get().get(place) {
         None => &[],
         Some(para) => para.body.get(),
     }
@@ -220,7 +220,7 @@ fn count<T>(list: &[T]) -> u64
 }
 
 /// The nodes of paragraphs from one up to, but not including, another.
-pub fn range_size(program: &Program, table: &[Entry], from: u32, end: u32) -> u64
+pub fn range_size(program: &Program, table: &[Entry], from: usize, end: usize) -> u64
     ensures { result ≡ min (range_size (size_in table.now) (plain_program program.now) from (end - from)) most_told }
 {
     let mut sum = 0;
@@ -232,7 +232,7 @@ pub fn range_size(program: &Program, table: &[Entry], from: u32, end: u32) -> u6
 
 // ---- what a copy needs
 
-fn body_fits(table: &[Entry], lo: u32, hi: u32, body: &Body) -> bool
+fn body_fits(table: &[Entry], lo: usize, hi: usize, body: &Body) -> bool
     ensures { result ≡ body_fits (is_in table.now) lo hi (plain_body body.now) }
 {
     match body {
@@ -241,24 +241,30 @@ fn body_fits(table: &[Entry], lo: u32, hi: u32, body: &Body) -> bool
     }
 }
 
-fn act_fits(table: &[Entry], lo: u32, hi: u32, act: &Act) -> bool
+fn is_between(place: usize, lo: usize, hi: usize) -> bool
+    ensures { result ≡ (nat_le lo place && nat_le place hi) }
+{
+    lo <= place && place <= hi
+}
+
+fn act_fits(table: &[Entry], lo: usize, hi: usize, act: &Act) -> bool
     ensures { result ≡ act_fits (is_in table.now) lo hi (plain_act act.now) }
 {
     match act {
         Act::Perform { body, .. } => body_fits(table, lo, hi, body),
-        Act::Go(to) => lo <= *to && *to <= hi,
+        Act::Go(to) => is_between(*to as usize, lo, hi),
         _ => true,
     }
 }
 
-fn stmt_fits(table: &[Entry], lo: u32, hi: u32, stmt: &Stmt) -> bool
+fn stmt_fits(table: &[Entry], lo: usize, hi: usize, stmt: &Stmt) -> bool
     ensures { result ≡ stmt_fits (is_in table.now) lo hi (plain_stmt stmt.now) }
 {
     act_fits(table, lo, hi, &stmt.act)
 }
 
 /// Whether each performed range is in the table, and each GO TO goes to a paragraph from `lo` to `hi`.
-fn all_fit(table: &[Entry], lo: u32, hi: u32, statements: &[&Stmt]) -> bool
+fn all_fit(table: &[Entry], lo: usize, hi: usize, statements: &[&Stmt]) -> bool
     ensures { result ≡ all_fit (is_in table.now) lo hi (plain_references statements.now) }
 {
     for statement in statements {
@@ -273,14 +279,14 @@ fn para_fits(
     alloc: Global,
     program: &Program,
     table: &[Entry],
-    lo: u32,
-    hi: u32,
-    place: u32,
+    lo: usize,
+    hi: usize,
+    place: usize,
 ) -> Result<bool, AllocError>
     ensures { IfOk result (λ fits. fits
         ≡ all_fit (is_in table.now) lo hi (list_statements (body_at (plain_program program.now) place))) }
 {
-    match program.paras.get().get(place as usize) {
+    match program.paras.get().get(place) {
         None => Ok(true),
         Some(para) => {
             let statements = para.statements(alloc)?;
@@ -294,10 +300,10 @@ pub fn range_fits(
     alloc: Global,
     program: &Program,
     table: &[Entry],
-    lo: u32,
-    hi: u32,
-    from: u32,
-    end: u32,
+    lo: usize,
+    hi: usize,
+    from: usize,
+    end: usize,
 ) -> Result<bool, AllocError>
     ensures { IfOk result (λ fits. fits
         ≡ range_fits (is_in table.now) lo hi (plain_program program.now) from (end - from)) }
@@ -321,16 +327,18 @@ fn add_range(
     table: &mut Vec<Entry>,
     first: u32,
     last: u32,
-    end: u32,
+    end: usize,
 ) -> Result<bool, AllocError>
     requires { end ≡ last + 1 }
     ensures { OnOk result (IsTable (plain_program program.now) table.old.items →
         IsTable (plain_program program.now) table.new.items) }
 {
-    if !range_fits(alloc, program, table, first, last, first, end)? {
+    let from = first as usize;
+    let to = last as usize;
+    if !range_fits(alloc, program, table, from, to, from, end)? {
         return Ok(false);
     }
-    let size = range_size(program, table, first, end);
+    let size = range_size(program, table, from, end);
     table.insert(0, Entry { first, last, size })?;
     Ok(true)
 }
@@ -362,20 +370,16 @@ fn take(
     if is_in(table, first, last) {
         return Ok(());
     }
-    match last.checked_add(1) {
-        None => Ok(()),
-        Some(end) => {
-            if add_range(alloc, program, table, first, last, end)? || is_last {
-                return Ok(());
-            }
-            open.push(Range {
-                first,
-                last,
-                is_last: true,
-            })?;
-            ranges_between(alloc, open, program, first, end)
-        }
+    let end = last as usize + 1;
+    if add_range(alloc, program, table, first, last, end)? || is_last {
+        return Ok(());
     }
+    open.push(Range {
+        first,
+        last,
+        is_last: true,
+    })?;
+    ranges_between(alloc, open, program, first as usize, end)
 }
 
 /// Adds the ranges that are left, from the last one on, until none is. PERFORMs nest, so that there is an end to it.
@@ -422,11 +426,11 @@ fn ranges_between(
     alloc: Global,
     ranges: &mut Vec<Range>,
     program: &Program,
-    from: u32,
-    end: u32,
+    from: usize,
+    end: usize,
 ) -> Result<(), AllocError> {
     for place in from..end {
-        if let Some(para) = program.paras.get().get(place as usize) {
+        if let Some(para) = program.paras.get().get(place) {
             ranges_of(alloc, ranges, para)?;
         }
     }

@@ -36,7 +36,7 @@ fn lay_all(
     alloc: Global,
     program: &Program,
     table: &[Entry],
-    paras: u32,
+    paras: usize,
     nodes: u32,
 ) -> Result<(Many<Node>, Many<Edge>), AllocError>
     requires table { IsTable (plain_program program.now) table.now }
@@ -69,7 +69,7 @@ fn graph_with(
     program: &Program,
     cells: Vec<Cell>,
     table: &[Entry],
-    paras: u32,
+    paras: usize,
 ) -> Result<Graph, FlowEnd>
     requires table { IsTable (plain_program program.now) table.now }
     requires fits { range_fits (is_in table.now) 0 (paras - 1) (plain_program program.now) 0 (paras - 0) ≡ true }
@@ -103,7 +103,7 @@ fn graph_with(
 }
 
 /// The graph with these cells.
-fn laid(alloc: Global, program: &Program, cells: Vec<Cell>, paras: u32) -> Result<Graph, FlowEnd>
+fn laid(alloc: Global, program: &Program, cells: Vec<Cell>, paras: usize) -> Result<Graph, FlowEnd>
     requires paras { paras ≡ length (plain_program program.now).paras }
     requires cells { cells.items ≡ cells_of (plain_program program.now) }
     requires few { length cells.items ≤ 512 }
@@ -123,13 +123,10 @@ fn laid(alloc: Global, program: &Program, cells: Vec<Cell>, paras: u32) -> Resul
 }
 
 /// How many paragraphs it has.
-fn count_paras(program: &Program) -> Result<u32, AllocError>
-    ensures { IfOk result (λ count. count ≡ length (plain_program program.now).paras) }
+fn count_paras(program: &Program) -> usize
+    ensures { result ≡ length (plain_program program.now).paras }
 {
-    match u32::try_from(program.paras.get().len()) {
-        Err(_) => Err(AllocError),
-        Ok(count) => Ok(count),
-    }
+    program.paras.get().len()
 }
 
 /// The graph where its cells and nodes are within the limits, or else a limit that it is over.
@@ -150,10 +147,7 @@ fn graph_or_limit(alloc: Global, program: &Program) -> Result<Graph, FlowEnd>
             count,
         });
     }
-    let Ok(paras) = count_paras(program) else {
-        return Err(FlowEnd::Memory);
-    };
-    laid(alloc, program, cells, paras)
+    laid(alloc, program, cells, count_paras(program))
 }
 
 /// The control graph of a program whose PERFORMs nest, where its cells and nodes are within the limits. A GO TO to no

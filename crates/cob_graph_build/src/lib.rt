@@ -5,6 +5,7 @@ mod cells;
 mod copies;
 mod counting;
 mod flow;
+mod laws;
 mod laying;
 mod numbers;
 mod places;
@@ -13,3 +14,4 @@ mod within;
 
 pub use cob_graph::{Edge, FlowEnd, Graph, Node, nested};
 pub use flow::graph_of;
+pub use laws::nested_programs_have_main_copies;

@@ -71,7 +71,7 @@ impl<'a> Within<'a> {
     pub fn para_node(&self, place: u32) -> Result<u32, AllocError>
         ensures { IfOk result (λ n. n ≡ (copied_of self.now).para place) }
     {
-        let mut skip = place.saturating_sub(self.first);
+        let mut skip = (place as usize).saturating_sub(self.first);
         let mut at = self.at;
         for from in self.first..self.end {
             if skip == 0 {
@@ -84,13 +84,13 @@ impl<'a> Within<'a> {
     }
 
     /// The first node of what a PERFORM does.
-    pub fn first_of_body(&self, body: &Body, at: u32, next: u32) -> Result<u32, AllocError>
-        ensures { IfOk result (λ n. n ≡ first_of_body
-            (lay_body (plan self.now) (copies_of self.now) (plain_body body.now)) at next) }
+    pub fn first_of_body(&self, body: &Body, at: u32, next: u32) -> u32
+        ensures { result ≡ first_of_body
+            (lay_body (plan self.now) (copies_of self.now) (plain_body body.now)) at next }
     {
         match body {
             Body::Range { first, last } => self.first_of_copy(*first, *last, at, next),
-            Body::Inline(list) => Ok(self.first_of_own(list, at, next)),
+            Body::Inline(list) => self.first_of_own(list, at, next),
         }
     }
 
@@ -100,14 +100,13 @@ impl<'a> Within<'a> {
         first_of_list(list, at, next)
     }
 
-    fn first_of_copy(&self, first: u32, last: u32, at: u32, next: u32) -> Result<u32, AllocError>
-        ensures { IfOk result (λ n. n ≡ first_of_paras (copies_of self.now first last) at next) }
+    fn first_of_copy(&self, first: u32, last: u32, at: u32, next: u32) -> u32
+        ensures { result ≡ first_of_paras (copies_of self.now first last) at next }
     {
         if is_in(self.table, first, last) {
-            let end = sum_of(last, 1)?;
-            Ok(first_of_range(self.program, first, end, at, next))
+            first_of_range(self.program, first as usize, last as usize + 1, at, next)
         } else {
-            Ok(next)
+            next
         }
     }
 
@@ -181,7 +180,7 @@ pub fn first_of_list(list: &[Stmt], at: u32, next: u32) -> u32
 }
 
 /// The first node of paragraphs from one up to, but not including, another.
-pub fn first_of_range(program: &Program, from: u32, end: u32, at: u32, next: u32) -> u32
+pub fn first_of_range(program: &Program, from: usize, end: usize, at: u32, next: u32) -> u32
     ensures { (copies : ℕ → ℕ → LaidParas) → result ≡ first_of_paras
         (lay_paras (plain_program program.now) copies from (end - from)) at next }
 {
@@ -195,7 +194,7 @@ pub fn first_of_range(program: &Program, from: u32, end: u32, at: u32, next: u32
 
 /// Where the statements of a paragraph go on: at the first node of the paragraphs behind it, which begin at another
 /// number. Where there are no statements nothing goes on, and no node is looked for.
-pub fn node_behind(within: &Within, list: &[Stmt], from: u32, at: u32) -> u32
+pub fn node_behind(within: &Within, list: &[Stmt], from: usize, at: u32) -> u32
     ensures { (c : Copied) (copies : ℕ → ℕ → LaidParas) (begin : ℕ) →
         list_nodes c (lay_list (plan within.now) copies (plain_stmts list.now)) begin result
         ≡ list_nodes c (lay_list (plan within.now) copies (plain_stmts list.now)) begin (first_of_paras

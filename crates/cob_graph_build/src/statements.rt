@@ -583,7 +583,7 @@ impl Laying {
         let size = within.body_nodes(body)?;
         let begin = inner_at(turns, at)?;
         let behind = body_next(turns, at, size, next)?;
-        let enter = within.first_of_body(body, begin, behind)?;
+        let enter = within.first_of_body(body, begin, behind);
         self.lay_before(within, number, turns, at, next, enter, left)?;
         self.lay_body(within, number, body, begin, behind, left)?;
         self.lay_behind(within, number, turns, size, at, next, enter, left)
@@ -628,13 +628,12 @@ impl Laying {
             None => Ok(()),
             Some(table) => {
                 let sites = sites_with(self.allocator(), within.sites, number)?;
-                let end = sum_of(last, 1)?;
                 let inner = Within {
                     program: within.program,
                     table,
                     sites: sites.as_slice(),
-                    first,
-                    end,
+                    first: first as usize,
+                    end: last as usize + 1,
                     at,
                     next,
                     final_node: within.final_node,

@@ -14,7 +14,7 @@ use Rattle.cob_runs.specs.Files.{Choice}
 use Rattle.cob_runs.specs.State.{World}
 use Rattle.cob_runs.specs.Acts.{compute, is_fine, count_of, open_one, close_one, take_one, write_one, file_from}
 use Rattle.cob_runs.specs.Steps.{is_given, is_left}
-use Rattle.cob_runs.specs.Effects.{act_at, tests_in_act, Effect, taken_if, not_taken, effect_of, effect, computed, decided, tested, by_status, opened, closed, wrote, file_call, called_bad, read_with}
+use Rattle.cob_runs.specs.Effects.{act_at, tests_in_act, Effect, taken_if, not_taken, effect_of, effect, edge_computed, edge_decided, edge_tested, by_status, edge_opened, edge_closed, edge_wrote, file_call, called_bad, read_with}
 
 -- not both are taken, nor is one where the other meets a fault, and two faults are the same
 abbrev pub Exclusive : Effect → Effect → Type 0
@@ -84,31 +84,31 @@ not_else false false e f = cc
 module _ (p : Program) (number : ℕ) (c : Choice) (w : World) where
   -- ---- the parts of a statement
 
-  of_test : (t : Option Test) → Exclusive (decided p number c w true t) (decided p number c w false t)
+  of_test : (t : Option Test) → Exclusive (edge_decided p number c w true t) (edge_decided p number c w false t)
   of_test None = tt
   of_test (Some t) = of_answer (test_holds p.layout w.storage t) w
 
-  of_tested : (k : ℕ) (a : Act) → Exclusive (tested p number c w true k a) (tested p number c w false k a)
-  of_tested k (perform body (times x)) = one_of_two (is_left p c (count_of p.layout number w)) w
+  of_tested : (k : ℕ) (a : Act) → Exclusive (edge_tested p number c w true k a) (edge_tested p number c w false k a)
+  of_tested k (perform body (times x)) = one_of_two (is_left (count_of number w)) w
   of_tested k a = of_test (slice_get (tests_in_act a) k)
 
-  of_computed : (a : Act) → Exclusive (computed p number c w false a) (computed p number c w true a)
+  of_computed : (a : Act) → Exclusive (edge_computed p number c w false a) (edge_computed p number c w true a)
   of_computed (arith_ s targets remainder size fine) =
       of_computing (compute p.layout (is_given size) s targets remainder w)
-  of_computed a = beside_none (computed p number c w false a)
+  of_computed a = beside_none (edge_computed p number c w false a)
 
   of_status : (x : World × ℕ) → Exclusive (by_status p number c w true x) (by_status p number c w false x)
   of_status x = one_of_two (is_fine x.1) x.0
 
-  of_opened : (o : Option Opening) → Exclusive (opened p number c w true o) (opened p number c w false o)
+  of_opened : (o : Option Opening) → Exclusive (edge_opened p number c w true o) (edge_opened p number c w false o)
   of_opened None = tt
   of_opened (Some o) = of_status (open_one p.layout o w)
 
-  of_closed : (f : Option ℕ) → Exclusive (closed p number c w true f) (closed p number c w false f)
+  of_closed : (f : Option ℕ) → Exclusive (edge_closed p number c w true f) (edge_closed p number c w false f)
   of_closed None = tt
   of_closed (Some f) = of_status (close_one p.layout f w)
 
-  of_wrote : (r : ℕ) (f : Option ℕ) → Exclusive (wrote p number c w true r f) (wrote p number c w false r f)
+  of_wrote : (r : ℕ) (f : Option ℕ) → Exclusive (edge_wrote p number c w true r f) (edge_wrote p number c w false r f)
   of_wrote r None = tt
   of_wrote r (Some f) = of_status (write_one p.layout c f r w)
 

@@ -1,5 +1,5 @@
 -- What is to be done next stands at a node of its statement, at which a step begins.
-use Rattle.std.proofs.Common.{◌≡◌, ℕ, ◌+◌, ◌≤◌, Bool, true, false, List, [], ◌∷◌, ◌++◌, length, Some, None, is_some, refl, sym, subst, arith}
+use Rattle.std.proofs.Common.{◌≡◌, ℕ, ◌+◌, ◌≤◌, Bool, true, false, List, [], ◌∷◌, ◌++◌, length, Some, is_some, refl, sym, subst, arith}
 use Rattle.cob_program.specs.declared.act.Opening.{Opening}
 use Rattle.cob_program.specs.Logic.{Logic, all_of, any_of, not_, test, Logics, no_logics, more_logics}
 use Rattle.cob_program.specs.Act.{Turns, once, times, until, varying, MkStmt, Stmts, no_stmts, more_stmts, Act, move, arith as arithmetic, if_, evaluate, perform, go, nothing, stop, open_files, close_files, read, write, show, Body, Program}
@@ -204,7 +204,7 @@ module _ (s : Setting) where
         }
 
   pub ready_steps : (d : Doing) (ds : List Doing) (hs : List (Here s)) (n : ℕ) → Stands s (d ∷ ds) hs n →
-      IsReady (d ∷ ds) → StepsAt (number_of s.p None d) n
+      IsReady (d ∷ ds) → StepsAt (number_of d) n
   ready_steps d ds [] n st r = absurd st
   ready_steps (rest no_stmts) ds (h ∷ hs) n st r = absurd r
   ready_steps (rest (more_stmts (MkStmt number line a) ss)) ds (h ∷ hs) n st r =

@@ -10,7 +10,7 @@ use Rattle.cob_runs.specs.Faults.{◌>>=◌}
 use Rattle.cob_runs.specs.Deciding.{some_holds}
 use Rattle.cob_runs.specs.State.{World, Doing, rest, going}
 use Rattle.cob_runs.specs.Steps.{chosen}
-use Rattle.cob_runs.specs.Effects.{taken, act_at, tests_of, tests_in_list, tests_in_whens, decided, tested}
+use Rattle.cob_runs.specs.Effects.{edge_taken, act_at, tests_of, tests_in_list, tests_in_whens, edge_decided, edge_tested}
 use Rattle.cob_runs.specs.Effects as effect
 use Rattle.cob_graph.specs.Laid.{LaidList, LaidWhens, no_laid_whens, more_laid_whens, choosing, tests_among, list_size, whens_size}
 use Rattle.cob_graph.specs.Places.{first_of_list, first_of_whens}
@@ -41,7 +41,7 @@ module _ (s : Setting) (h : Here s) (hs : List (Here s)) (ds : List Doing) (numb
   when_on tr fa ss later (Err kind) d stand f = d
 
   module _ (other : Stmts) (other_at : ℕ) (act : Act) (tests : List Test) (its : act_at s.p number ≡ Some act)
-      (f : (wanted : Bool) (i : ℕ) → tested s.p number (choice s k) w wanted i act ≡ decided s.p number (choice s k) w
+      (f : (wanted : Bool) (i : ℕ) → edge_tested s.p number (choice s k) w wanted i act ≡ edge_decided s.p number (choice s k) w
       wanted (slice_get tests i))
       (others : Standing s (rest other ∷ ds) other_at) where
     whens_lead : (ws : Whens) (xs : LaidWhens) (i at : ℕ) → AreWellFormedWhens s.p ws → AreLaidWhens s.p h.lo h.hi ws xs →
@@ -93,4 +93,4 @@ module _ (s : Setting) (h : Here s) (hs : List (Here s)) (ds : List Doing) (numb
       ws xs 0 (at + 1) x.whole.0 x.laid.0 (behind [] (tests_in_whens ws) 0 refl) (front all (at + 1) ns ms x.stand.1)
       (leaves s h.c number k true _ at action.Skip refl (first_of_whens xs (at + 1) other_at next) w w way x.stand.0
       (0, omega arith, refl)
-      (by_act s number (choice s k) w action.Skip act (taken w) x.its refl))
+      (by_act s number (choice s k) w action.Skip act (edge_taken w) x.its refl))

@@ -9,7 +9,7 @@ use Rattle.cob_runs.specs.declared.action.Action.TheVariants as action
 use Rattle.cob_runs.specs.Faults.{◌>>=◌}
 use Rattle.cob_runs.specs.Deciding.{test_holds, logic_holds, all_hold, some_holds, denied}
 use Rattle.cob_runs.specs.State.{World}
-use Rattle.cob_runs.specs.Effects.{act_at, taken, taken_if, tests_of, decided, tested}
+use Rattle.cob_runs.specs.Effects.{act_at, edge_taken, taken_if, tests_of, edge_decided, edge_tested}
 use Rattle.cob_runs.specs.Effects as effect
 use Rattle.cob_graph.specs.Laid.{tests_in, tests_among}
 use Rattle.cob_graph.specs.Places.{first_of_logic, first_of_all, first_of_any}
@@ -80,18 +80,18 @@ module _ (s : Setting) (c : Copied) (number k : ℕ) (w : World) where
   -- a node with a way for each answer
   pub two_ways : (b : Bool) (n i tr fa : ℕ) (act : Act) (answer : Result Bool Kind) → Way s (so_far k b) n w →
       IsNode s c number b ((action.True i, tr) ∷ (action.False i, fa) ∷ []) n → act_at s.p number ≡ Some act →
-      ((wanted : Bool) → tested s.p number (choice s k) w wanted i act ≡
+      ((wanted : Bool) → edge_tested s.p number (choice s k) w wanted i act ≡
       (answer >>= λ h. taken_if (if wanted then h else not h) w)) →
       (r : Result Bool Kind) → answer ≡ r → Decides tr fa r
   two_ways b n i tr fa act answer way is its f (Ok true) e =
       leaves s c number k b ((action.True i, tr) ∷ (action.False i, fa) ∷ []) n (action.True i) refl tr w w way is
       (0, omega arith, refl)
-      (by_act s number (choice s k) w (action.True i) act (taken w) its
+      (by_act s number (choice s k) w (action.True i) act (edge_taken w) its
       (f true ∙ ap (λ r. r >>= λ h. taken_if (if true then h else not h) w) e))
   two_ways b n i tr fa act answer way is its f (Ok false) e =
       leaves s c number k b ((action.True i, tr) ∷ (action.False i, fa) ∷ []) n (action.False i) refl fa w w way is
       (1, omega arith, refl)
-      (by_act s number (choice s k) w (action.False i) act (taken w) its
+      (by_act s number (choice s k) w (action.False i) act (edge_taken w) its
       (f false ∙ ap (λ r. r >>= λ h. taken_if (if false then h else not h) w) e))
   two_ways b n i tr fa act answer way is its f (Err kind) e =
       meets s c number k b ((action.True i, tr) ∷ (action.False i, fa) ∷ []) n (action.True i) tr w kind way is
@@ -100,26 +100,26 @@ module _ (s : Setting) (c : Copied) (number k : ℕ) (w : World) where
       (f true ∙ ap (λ r. r >>= λ h. taken_if (if true then h else not h) w) e))
 
   module _ (act : Act) (tests : List Test) (its : act_at s.p number ≡ Some act)
-      (f : (wanted : Bool) (i : ℕ) → tested s.p number (choice s k) w wanted i act ≡ decided s.p number (choice s k) w
+      (f : (wanted : Bool) (i : ℕ) → edge_tested s.p number (choice s k) w wanted i act ≡ edge_decided s.p number (choice s k) w
       wanted (slice_get tests i)) where
     test_decides : (b : Bool) (t : Test) (i at tr fa : ℕ) → slice_get tests i ≡ Some t →
         IsNode s c number b (test_edges c number t i tr fa) at → Way s (so_far k b) at w →
         Decides tr fa (test_holds s.p.layout w.storage t)
     test_decides b always i at tr fa e is way =
         leaves s c number k b ((action.Skip, tr) ∷ []) at action.Skip refl tr w w way is (0, omega arith, refl)
-        (by_act s number (choice s k) w action.Skip act (taken w) its refl)
+        (by_act s number (choice s k) w action.Skip act (edge_taken w) its refl)
     test_decides b (numbers x r y) i at tr fa e is way =
         two_ways b at i tr fa act (test_holds s.p.layout w.storage (numbers x r y)) way is its
-        (λ wanted. f wanted i ∙ ap (decided s.p number (choice s k) w wanted) e) _ refl
+        (λ wanted. f wanted i ∙ ap (edge_decided s.p number (choice s k) w wanted) e) _ refl
     test_decides b (texts x r y) i at tr fa e is way =
         two_ways b at i tr fa act (test_holds s.p.layout w.storage (texts x r y)) way is its
-        (λ wanted. f wanted i ∙ ap (decided s.p number (choice s k) w wanted) e) _ refl
+        (λ wanted. f wanted i ∙ ap (edge_decided s.p number (choice s k) w wanted) e) _ refl
     test_decides b (member x ps) i at tr fa e is way =
         two_ways b at i tr fa act (test_holds s.p.layout w.storage (member x ps)) way is its
-        (λ wanted. f wanted i ∙ ap (decided s.p number (choice s k) w wanted) e) _ refl
+        (λ wanted. f wanted i ∙ ap (edge_decided s.p number (choice s k) w wanted) e) _ refl
     test_decides b (numeric x) i at tr fa e is way =
         two_ways b at i tr fa act (test_holds s.p.layout w.storage (numeric x)) way is its
-        (λ wanted. f wanted i ∙ ap (decided s.p number (choice s k) w wanted) e) _ refl
+        (λ wanted. f wanted i ∙ ap (edge_decided s.p number (choice s k) w wanted) e) _ refl
 
     mutual
       pub logic_decides : (b : Bool) (t : Logic) (i at tr fa : ℕ) → (b ≡ true → Begins t) →

@@ -7,7 +7,7 @@ use Rattle.cob_runs.specs.State.{World, Doing, rest, paras, testing, augmenting}
 use Rattle.cob_runs.specs.Acts as acts
 use Rattle.cob_runs.specs.Acts.{compute, file_from}
 use Rattle.cob_runs.specs.Steps.{is_given, gone_to, done, number_of, front_done}
-use Rattle.cob_runs.specs.Effects.{taken}
+use Rattle.cob_runs.specs.Effects.{edge_taken}
 use Rattle.cob_graph.specs.Laid.{MkLaid, LaidList, no_laid, more_laid, LaidAct, moving, showing, skipping, going, ending, computing, deciding, choosing, performing, opening, closing, reading, writing, size, act_size}
 use Rattle.cob_graph.specs.Places.{first_of_list}
 use Rattle.cob_graph.specs.Nodes.{list_nodes, act_nodes}
@@ -56,7 +56,7 @@ module _ (s : Setting) where
       within = omega arith;
       way = subst (λ (n : ℕ). Way s (suc k) n w) h.final
           (leaves s h.c number k true _ at action.Skip refl h.c.final w w way (as_laid stop x ending y y.laid).0
-          (0, omega arith, refl) (by_act s number (choice s k) w action.Skip stop (taken w) y.its refl));
+          (0, omega arith, refl) (by_act s number (choice s k) w action.Skip stop (edge_taken w) y.its refl));
     }
     act_leads (open_files os) x y =
         opens s h number k hs ds next st os os true 0 at w y.its y.whole (behind [] os 0 refl)
@@ -124,7 +124,7 @@ module _ (s : Setting) where
 
   pub front_leads : (d : Doing) (ds : List Doing) (hs : List (Here s)) (k n : ℕ) (w : World) → Stands s (d ∷ ds) hs n →
       IsReady (d ∷ ds) → Way s k n w →
-      Leads s k (number_of s.p (choice s k) d) w (front_done s.p (choice s k) d w ds)
+      Leads s k (number_of d) w (front_done s.p (choice s k) d w ds)
   front_leads d ds [] k n w st r way = absurd st
   front_leads (rest no_stmts) ds (h ∷ hs) k n w st r way = absurd r
   front_leads (rest (more_stmts (MkStmt number line a) ss)) ds (h ∷ hs) k n w st r way =

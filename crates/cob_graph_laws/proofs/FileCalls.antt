@@ -15,7 +15,7 @@ use Rattle.cob_runs.specs.Faults.{◌>>=◌}
 use Rattle.cob_runs.specs.State.{World, Doing, state}
 use Rattle.cob_runs.specs.Acts.{has_status, is_fine, open_one, close_one, write_one, file_from, move_if}
 use Rattle.cob_runs.specs.Steps.{outcome_of, unless_over, each_from, written_by}
-use Rattle.cob_runs.specs.Effects.{effect_of, met, taken, taken_if, act_at, by_status, status_of, status_in, is_handled, handled_by, handled_in}
+use Rattle.cob_runs.specs.Effects.{effect_of, met, edge_taken, taken_if, act_at, by_status, status_of, status_if, is_handled, handled_by, handled_in}
 use Rattle.cob_runs.specs.Effects as effect
 use Rattle.cob_graph.specs.Nodes.{bad_to, open_nodes, close_nodes, write_nodes, write_edges}
 use Rattle.cob_graph.specs.Lookup.{final_in}
@@ -57,10 +57,10 @@ module _ (s : Setting) (h : Here s) (number k : ℕ) where
       called_by : (fine : Bool) → is_fine x.1 ≡ fine →
           Called m x.0 (if fine then Going else (if has_status s.p.layout file then Going else IoStop x.1 number))
       called_by true e = leaves s h.c number k b _ n good on m w x.0 way is (0, omega arith, refl)
-          (by_act s number (choice s k) w good act (taken x.0) its (does ∙ ap (λ f. taken_if f x.0) e))
+          (by_act s number (choice s k) w good act (edge_taken x.0) its (does ∙ ap (λ f. taken_if f x.0) e))
       called_by false e =
           let to = bad_to h.c number file m in
-          let does_so = by_act s number (choice s k) w (action.Bad i) act (taken x.0) its
+          let does_so = by_act s number (choice s k) w (action.Bad i) act (edge_taken x.0) its
           (fails ∙ ap (λ f. taken_if (not f) x.0) e) in
           let told = bad_by_act s number i act (has_status s.p.layout file) its handles in
           bad_lands (has_status s.p.layout file) file m x.1 x.0 (same_status file)
@@ -100,9 +100,9 @@ module _ (s : Setting) (h : Here s) (number k : ℕ) where
         goes_on (open_one s.p.layout) (λ o. o.file) (outcome_of number (has_status s.p.layout o.file) x.1) x.0 next
         (x.0, Going)
         (called b at o.file i next (action.Open i) w (open_files all) x way ns.0 its
-        (ap (effect.opened s.p number (choice s k) w true) r.0)
-        (ap (effect.opened s.p number (choice s k) w false) r.0)
-        (ap (λ (y : Option Opening). status_in s.p number (choice s k) w y (λ o. open_one s.p.layout o w)) r.0) refl
+        (ap (effect.edge_opened s.p number (choice s k) w true) r.0)
+        (ap (effect.edge_opened s.p number (choice s k) w false) r.0)
+        (ap (λ (y : Option Opening). status_if s.p number (choice s k) w y (λ o. open_one s.p.layout o w)) r.0) refl
         (ap (λ (y : Option Opening). handled_in s.p number (option_map (λ o. o.file) y)) r.0))
         (λ d. landed Going x.0 d)
     opens all (o ∷ o2 ∷ os) b i at w its l r ns way =
@@ -110,9 +110,9 @@ module _ (s : Setting) (h : Here s) (number k : ℕ) where
         goes_on (open_one s.p.layout) (λ o. o.file) (outcome_of number (has_status s.p.layout o.file) x.1) x.0 (at + 1)
         (each_from s.p.layout (open_one s.p.layout) (λ o. o.file) number (o2 ∷ os) x.0)
         (called b at o.file i (at + 1) (action.Open i) w (open_files all) x way ns.0 its
-        (ap (effect.opened s.p number (choice s k) w true) r.0)
-        (ap (effect.opened s.p number (choice s k) w false) r.0)
-        (ap (λ (y : Option Opening). status_in s.p number (choice s k) w y (λ o. open_one s.p.layout o w)) r.0) refl
+        (ap (effect.edge_opened s.p number (choice s k) w true) r.0)
+        (ap (effect.edge_opened s.p number (choice s k) w false) r.0)
+        (ap (λ (y : Option Opening). status_if s.p number (choice s k) w y (λ o. open_one s.p.layout o w)) r.0) refl
         (ap (λ (y : Option Opening). handled_in s.p number (option_map (λ o. o.file) y)) r.0))
         (λ d. opens all (o2 ∷ os) false (i + 1) (at + 1) x.0 its (omega arith) r.1 ns.1 d)
 
@@ -126,9 +126,9 @@ module _ (s : Setting) (h : Here s) (number k : ℕ) where
         let x = close_one s.p.layout f w in
         goes_on (close_one s.p.layout) (λ f. f) (outcome_of number (has_status s.p.layout f) x.1) x.0 next (x.0, Going)
         (called b at f i next (action.Close i) w (close_files all) x way ns.0 its
-        (ap (effect.closed s.p number (choice s k) w true) r.0)
-        (ap (effect.closed s.p number (choice s k) w false) r.0)
-        (ap (λ (y : Option ℕ). status_in s.p number (choice s k) w y (λ f. close_one s.p.layout f w)) r.0) refl
+        (ap (effect.edge_closed s.p number (choice s k) w true) r.0)
+        (ap (effect.edge_closed s.p number (choice s k) w false) r.0)
+        (ap (λ (y : Option ℕ). status_if s.p number (choice s k) w y (λ f. close_one s.p.layout f w)) r.0) refl
         (ap (handled_in s.p number) r.0))
         (λ d. landed Going x.0 d)
     closes all (f ∷ g ∷ fs) b i at w its l r ns way =
@@ -136,9 +136,9 @@ module _ (s : Setting) (h : Here s) (number k : ℕ) where
         goes_on (close_one s.p.layout) (λ f. f) (outcome_of number (has_status s.p.layout f) x.1) x.0 (at + 1)
         (each_from s.p.layout (close_one s.p.layout) (λ f. f) number (g ∷ fs) x.0)
         (called b at f i (at + 1) (action.Close i) w (close_files all) x way ns.0 its
-        (ap (effect.closed s.p number (choice s k) w true) r.0)
-        (ap (effect.closed s.p number (choice s k) w false) r.0)
-        (ap (λ (y : Option ℕ). status_in s.p number (choice s k) w y (λ f. close_one s.p.layout f w)) r.0) refl
+        (ap (effect.edge_closed s.p number (choice s k) w true) r.0)
+        (ap (effect.edge_closed s.p number (choice s k) w false) r.0)
+        (ap (λ (y : Option ℕ). status_if s.p number (choice s k) w y (λ f. close_one s.p.layout f w)) r.0) refl
         (ap (handled_in s.p number) r.0))
         (λ d. closes all (g ∷ fs) false (i + 1) (at + 1) x.0 its (omega arith) r.1 ns.1 d)
 
@@ -154,9 +154,9 @@ module _ (s : Setting) (h : Here s) (number k : ℕ) where
           let x = write_one s.p.layout (choice s k) f r v in
           landed (outcome_of number (has_status s.p.layout f) x.1) x.0
           (called b n f 0 next action.Write v (write r from) x way is its
-          (ap (effect.wrote s.p number (choice s k) v true r) found)
-          (ap (effect.wrote s.p number (choice s k) v false r) found)
-          (ap (λ (y : Option ℕ). status_in s.p number (choice s k) v y (λ f. write_one s.p.layout (choice s k) f r v))
+          (ap (effect.edge_wrote s.p number (choice s k) v true r) found)
+          (ap (effect.edge_wrote s.p number (choice s k) v false r) found)
+          (ap (λ (y : Option ℕ). status_if s.p number (choice s k) v y (λ f. write_one s.p.layout (choice s k) f r v))
           found) refl (ap (handled_in s.p number) found))
 
       writes_moved : (at : ℕ) (w : World) → IsNode s h.c number true ((action.Assign, at + 1) ∷ []) at →
@@ -168,7 +168,7 @@ module _ (s : Setting) (h : Here s) (number k : ℕ) where
       writes_moved at w is then_is way (Ok v) e =
           writes false (at + 1) v then_is
           (leaves s h.c number k true _ at action.Assign refl (at + 1) w v way is (0, omega arith, refl)
-          (by_act s number (choice s k) w action.Assign (write r from) (taken v) its (ap met e)))
+          (by_act s number (choice s k) w action.Assign (write r from) (edge_taken v) its (ap met e)))
       writes_moved at w is then_is way (Err kind) e =
           meets s h.c number k true _ at action.Assign (at + 1) w kind way is (0, omega arith, refl)
           (by_act s number (choice s k) w action.Assign (write r from) (Err kind) its (ap met e))

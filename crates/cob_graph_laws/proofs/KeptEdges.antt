@@ -25,7 +25,7 @@ use Rattle.cob_runs.specs.State.{World, with_storage}
 use Rattle.cob_runs.specs.Acts as acts
 use Rattle.cob_runs.specs.Acts.{is_fine, decl_at, with_file, file_act, open_one, close_one, take_on, take_one, into_if, undefined_if, write_on, write_one, file_from, move_if, count_of, set_count, augment, with_count}
 use Rattle.cob_runs.specs.Steps.{is_given, is_left}
-use Rattle.cob_runs.specs.Effects.{act_at, tests_in_act, Effect, taken_if, not_taken, met, assigned, computed, decided, tested, counted, file_call, called_bad, read_with, shown, effect_of, effect}
+use Rattle.cob_runs.specs.Effects.{act_at, tests_in_act, Effect, taken_if, not_taken, met, edge_assigned, edge_computed, edge_decided, edge_tested, edge_counted, file_call, called_bad, read_with, edge_shown, effect_of, effect}
 use Rattle.cob_runs.specs.Effects as effects
 use Rattle.cob_runs.specs.Runs.{Contents}
 use Rattle.cob_graph_laws.specs.Kept.{NeverMakes, IsKept}
@@ -88,7 +88,7 @@ module _ (contents : Contents) (place : ℕ) (there : Bool) where
     from_kept None r = kept
     from_kept (Some x) r = moved x (r ∷ [])
 
-    assigned_kept : (a : Act) → KeptBy (assigned p number c w a)
+    assigned_kept : (a : Act) → KeptBy (edge_assigned p number c w a)
     assigned_kept (move x places) = moved x places
     assigned_kept (perform body (varying after item start by t)) = moved start (item ∷ [])
     assigned_kept (read f into end fine) = into_kept f into
@@ -104,7 +104,7 @@ module _ (contents : Contents) (place : ℕ) (there : Bool) where
         if_taken (if failed then r.failed else not r.failed) (with_storage w r.storage) kept
     received_kept failed (Err kind) = tt
 
-    computed_kept : (failed : Bool) (a : Act) → KeptBy (computed p number c w failed a)
+    computed_kept : (failed : Bool) (a : Act) → KeptBy (edge_computed p number c w failed a)
     computed_kept true (arith_ s targets remainder size fine) =
         received_kept true (after_arithmetic p.layout (is_given size) w.storage s targets remainder)
     computed_kept false (arith_ s targets remainder size fine) =
@@ -118,16 +118,16 @@ module _ (contents : Contents) (place : ℕ) (there : Bool) where
     answered wanted (Ok b) = if_taken (if wanted then b else not b) w kept
     answered wanted (Err kind) = tt
 
-    decided_kept : (wanted : Bool) (t : Option Test) → KeptBy (decided p number c w wanted t)
+    decided_kept : (wanted : Bool) (t : Option Test) → KeptBy (edge_decided p number c w wanted t)
     decided_kept wanted None = tt
     decided_kept wanted (Some t) = answered wanted (test_holds p.layout w.storage t)
 
-    tested_kept : (wanted : Bool) (i : ℕ) (a : Act) → KeptBy (tested p number c w wanted i a)
+    tested_kept : (wanted : Bool) (i : ℕ) (a : Act) → KeptBy (edge_tested p number c w wanted i a)
     tested_kept wanted i (perform body (times x)) =
-        let left = is_left p c (count_of p.layout number w) in if_taken (if wanted then left else not left) w kept
+        let left = is_left (count_of number w) in if_taken (if wanted then left else not left) w kept
     tested_kept wanted i a = decided_kept wanted (slice_get (tests_in_act a) i)
 
-    counted_kept : (a : Act) → KeptBy (counted p number c w a)
+    counted_kept : (a : Act) → KeptBy (edge_counted p number c w a)
     counted_kept (perform body (times x)) = count_set x
     counted_kept a = tt
 
@@ -142,7 +142,7 @@ module _ (contents : Contents) (place : ℕ) (there : Bool) where
     call_kept act i None o e own = kept
 
     opened_kept : (fine : Bool) (os : List Opening) (i : ℕ) (x : Option Opening)
-        → act_at p number ≡ Some (open_files os) → slice_get os i ≡ x → KeptBy (effects.opened p number c w fine x)
+        → act_at p number ≡ Some (open_files os) → slice_get os i ≡ x → KeptBy (effects.edge_opened p number c w fine x)
     opened_kept fine os i None is e = tt
     opened_kept fine os i (Some o) is e =
         let x = open_one p.layout o w in
@@ -152,7 +152,7 @@ module _ (contents : Contents) (place : ℕ) (there : Bool) where
         (call_kept (opened o.output) o.file (decl_at p.layout o.file) (slice_get w.files o.file) refl
         (λ f at k. open_kept contents place o.output f (never_out at) k))
 
-    closed_kept : (fine : Bool) (x : Option ℕ) → KeptBy (effects.closed p number c w fine x)
+    closed_kept : (fine : Bool) (x : Option ℕ) → KeptBy (effects.edge_closed p number c w fine x)
     closed_kept fine None = tt
     closed_kept fine (Some f) =
         let x = close_one p.layout f w in
@@ -175,7 +175,7 @@ module _ (contents : Contents) (place : ℕ) (there : Bool) where
     write_on_kept i r (Some d) None e = kept
     write_on_kept i r None o e = kept
 
-    wrote_kept : (fine : Bool) (r : ℕ) (x : Option ℕ) → KeptBy (effects.wrote p number c w fine r x)
+    wrote_kept : (fine : Bool) (r : ℕ) (x : Option ℕ) → KeptBy (effects.edge_wrote p number c w fine r x)
     wrote_kept fine r None = tt
     wrote_kept fine r (Some f) =
         let x = write_one p.layout c f r w in
@@ -211,7 +211,7 @@ module _ (contents : Contents) (place : ℕ) (there : Bool) where
         let x = take_one p.layout c f w in if_taken (x.1 == status) x.0 (take_one_kept f)
     read_with_kept status a = tt
 
-    shown_kept : (a : Act) → KeptBy (shown p number c w a)
+    shown_kept : (a : Act) → KeptBy (edge_shown p number c w a)
     shown_kept (show xs) = kept
     shown_kept a = tt
 
@@ -225,7 +225,7 @@ module _ (contents : Contents) (place : ℕ) (there : Bool) where
     act_kept (action.True i) a is = tested_kept true i a
     act_kept (action.False i) a is = tested_kept false i a
     act_kept action.SetCount a is = counted_kept a
-    act_kept action.Down a is = counted_down (count_of p.layout number w)
+    act_kept action.Down a is = counted_down (count_of number w)
     act_kept (action.Open i) a is = file_call_kept true i a is
     act_kept (action.Close i) a is = file_call_kept true i a is
     act_kept action.Take a is = read_with_kept 0 a

@@ -10,7 +10,7 @@ use Rattle.cob_runs.specs.Deciding.{logic_holds}
 use Rattle.cob_runs.specs.State.{World, Doing, testing, augmenting, going}
 use Rattle.cob_runs.specs.Acts.{count_of, set_count, count_down, set_varied, augment}
 use Rattle.cob_runs.specs.Steps.{body_of, loop_begun, is_left, turn, tested, augmented}
-use Rattle.cob_runs.specs.Effects.{act_at, tests_of, tests_in_turns, decided, tested as edge_tested}
+use Rattle.cob_runs.specs.Effects.{act_at, tests_of, tests_in_turns, edge_decided, edge_tested}
 use Rattle.cob_graph.specs.Laid.{LaidBody, performing, tests_in, body_size}
 use Rattle.cob_graph.specs.Places.{first_of_body, body_at, tests_at, augment_at, body_next}
 use Rattle.cob_graph.specs.Nodes.{Copied, logic_nodes, loop_before, loop_behind, body_nodes}
@@ -155,7 +155,7 @@ module _ (s : Setting) (h : Here s) (hs : List (Here s)) (ds : List Doing) (numb
   -- the test of a loop's condition, whose nodes begin at a node
   condition_leads : (body : Body) (turns : Turns) (t : Logic) (at fa next : ℕ) (more : List Doing) →
       act_at s.p number ≡ Some (perform body turns) → tests_in_turns turns ≡ tests_of t → Begins t →
-      ((wanted : Bool) (i : ℕ) → edge_tested s.p number (choice s k) w wanted i (perform body turns) ≡ decided s.p
+      ((wanted : Bool) (i : ℕ) → edge_tested s.p number (choice s k) w wanted i (perform body turns) ≡ edge_decided s.p
       number (choice s k) w wanted (slice_get (tests_in_turns turns) i)) →
       Stand s at (logic_nodes h.c number true t 0 at next fa) → Way s k at w → Standing s ds next → Standing s more fa →
       Leads s k number w ((logic_holds s.p.layout w.storage t >>= λ b. Ok (if b then false else true)) >>= λ b. Ok
@@ -175,10 +175,10 @@ module _ (s : Setting) (h : Here s) (hs : List (Here s)) (ds : List Doing) (numb
   test_leads body (times v) x at next y t way st =
       turn_on (first_of_body x (at + 2) (augment_at (times v) at x)) next
       (turn s.p (choice s k) number body (times v) ds)
-      (Ok (is_left s.p (choice s k) (count_of s.p.layout number w)))
+      (Ok (is_left (count_of number w)))
       (two_ways s h.c number k w true (at + 1) 0 (first_of_body x (at + 2) (augment_at (times v) at x)) next
       (perform body (times v))
-      (Ok (is_left s.p (choice s k) (count_of s.p.layout number w))) way
+      (Ok (is_left (count_of number w))) way
       (before s h number body (times v) x at next y).1.0 y.its (λ wanted. refl) _ refl)
       (body_there s h number body (times v) x at next y hs _
       (augment_there s h number body (times v) x at next y hs ds tt tt st))

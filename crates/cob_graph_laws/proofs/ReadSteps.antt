@@ -7,7 +7,7 @@ use Rattle.cob_meaning.specs.declared.straight.Outcome.TheVariants.{Going, IoSto
 use Rattle.cob_runs.specs.State.{World, Doing, rest, state, going}
 use Rattle.cob_runs.specs.Acts.{has_status, is_fine, take_one, into_if, where_fine}
 use Rattle.cob_runs.specs.Steps.{outcome_of, behind_read, is_given, list_of}
-use Rattle.cob_runs.specs.Effects.{taken, taken_if}
+use Rattle.cob_runs.specs.Effects.{edge_taken, taken_if}
 use Rattle.cob_graph.specs.Laid.{LaidList, LaidPhrase, no_phrase, a_phrase, reading, one_if, phrase_size}
 use Rattle.cob_graph.specs.Places.{first_of_list}
 use Rattle.cob_graph.specs.Nodes.{bad_to, end_to, read_nodes, phrase_nodes, list_nodes}
@@ -76,18 +76,18 @@ module _ (s : Setting) (h : Here s) (hs : List (Here s)) (ds : List Doing) (numb
       Way s (suc k) fine_at (into_if s.p.layout f into2 found.0)
   fine_moved None same ns e =
       leaves s h.c number k true _ at action.Take refl fine_at w found.0 way ns.0 (0, omega arith, refl)
-      (by_act s number (choice s k) w action.Take (read f into end fine) (taken found.0) y.its
+      (by_act s number (choice s k) w action.Take (read f into end fine) (edge_taken found.0) y.its
       (ap (λ c. taken_if c found.0) e))
   fine_moved (Some place) same ns e =
       leaves s h.c number k false _ (at + 1) action.Assign refl fine_at found.0
       (into_if s.p.layout f (Some place) found.0)
       (leaves s h.c number k true _ at action.Take refl (at + 1) w found.0 way ns.0 (0, omega arith, refl)
-      (by_act s number (choice s k) w action.Take (read f into end fine) (taken found.0) y.its
+      (by_act s number (choice s k) w action.Take (read f into end fine) (edge_taken found.0) y.its
       (ap (λ c. taken_if c found.0) e)))
       ns.1.0 (0, omega arith, refl)
       (by_act s number (choice s k) found.0 action.Assign (read f into end fine)
-      (taken (into_if s.p.layout f (Some place) found.0)) y.its
-      (ap (λ i. taken (into_if s.p.layout f i found.0)) same))
+      (edge_taken (into_if s.p.layout f (Some place) found.0)) y.its
+      (ap (λ i. edge_taken (into_if s.p.layout f i found.0)) same))
 
   -- ---- none was found
 
@@ -135,7 +135,7 @@ module _ (s : Setting) (h : Here s) (hs : List (Here s)) (ds : List Doing) (numb
       (outcome_of number (has_status s.p.layout f) found.1)))
   none_found true t e =
       let n = first_node (is_some into) own in
-      let does_so = by_act s number (choice s k) w action.AtEnd (read f into end fine) (taken found.0) y.its
+      let does_so = by_act s number (choice s k) w action.AtEnd (read f into end fine) (edge_taken found.0) y.its
       (ap (λ c. taken_if c found.0) t) in
       let told = end_by_act s number (read f into end fine) y.its in
       at_end found.1 e end a y.whole.0 y.laid.2 end_list
@@ -147,7 +147,7 @@ module _ (s : Setting) (h : Here s) (hs : List (Here s)) (ds : List Doing) (numb
   none_found false t e =
       let n = first_node (is_some into) own in
       let to = bad_to h.c number f next in
-      let does_so = by_act s number (choice s k) w (action.Bad 0) (read f into end fine) (taken found.0) y.its
+      let does_so = by_act s number (choice s k) w (action.Bad 0) (read f into end fine) (edge_taken found.0) y.its
       (ap (λ c. taken_if (not c && not (found.1 == 10)) found.0) e ∙ ap (λ c. taken_if (true && not c) found.0) t) in
       let told = bad_by_act s number 0 (read f into end fine) (has_status s.p.layout f) y.its refl in
       unhandled found.1 e

@@ -71,7 +71,7 @@ module _ (s : Setting) where
       Holds (suc k) (step s.p (choice s k) (state w ds o))
   step_holds Going k w [] h = absurd h.1
   step_holds Going k w (d ∷ ds) h =
-      led (going w (d ∷ ds)) k (number_of s.p (choice s k) d) (front_done s.p (choice s k) d w ds)
+      led (going w (d ∷ ds)) k (number_of d) (front_done s.p (choice s k) d w ds)
       (front_leads s d ds h.0.standing.copies k h.0.node w h.0.standing.stands h.1 h.0.way)
   step_holds Ended k w ds h = (later k w h.0, tt)
   step_holds (IoStop status statement) k w ds h =

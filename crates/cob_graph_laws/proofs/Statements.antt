@@ -14,7 +14,7 @@ use Rattle.cob_runs.specs.Deciding.{logic_holds}
 use Rattle.cob_runs.specs.State.{World, Doing, rest, State, going}
 use Rattle.cob_runs.specs.Acts.{compute}
 use Rattle.cob_runs.specs.Steps.{is_given, list_of}
-use Rattle.cob_runs.specs.Effects.{effect_of, met, taken, taken_if, act_at, tests_of, is_handled}
+use Rattle.cob_runs.specs.Effects.{effect_of, met, edge_taken, taken_if, act_at, tests_of, is_handled}
 use Rattle.cob_graph.specs.Laid.{LaidList, LaidPhrase, no_phrase, a_phrase, computing, deciding, tests_in, phrase_size, list_size}
 use Rattle.cob_graph.specs.Places.{first_of_list}
 use Rattle.cob_graph.specs.Nodes.{Copied, list_nodes, phrase_nodes, logic_nodes}
@@ -55,7 +55,7 @@ module _ (s : Setting) where
   one_way c number k at w act out a on m ds way its is there stand part e (Ok v) f = record {
     node = m;
     way = leaves s c number k true out at a on m w v way is there
-        (by_act s number (choice s k) w a act (taken v) its (e ∙ ap met f));
+        (by_act s number (choice s k) w a act (edge_taken v) its (e ∙ ap met f));
     standing = stand;
   }
   one_way c number k at w act out a on m ds way its is there stand part e (Err kind) f =
@@ -108,7 +108,7 @@ module _ (s : Setting) where
       node = first_of_list xs (at + 1) next;
       way = leaves s h.c number k true _ at action.Size refl (first_of_list xs (at + 1) next) w x.0 way y.stand.0
           (1, omega arith, refl)
-          (by_act s number (choice s k) w action.Size (arithmetic sum ts remainder (given ss) fine) (taken x.0) y.its
+          (by_act s number (choice s k) w action.Size (arithmetic sum ts remainder (given ss) fine) (edge_taken x.0) y.its
           (ap (λ r. r >>= λ (z : World × Bool). taken_if (if true then z.1 else not z.1) z.0) e ∙ ap
           (λ c. taken_if c x.0) f));
       standing = listed h hs ds ss xs (at + 1) next whole laid stand st;
@@ -130,7 +130,7 @@ module _ (s : Setting) where
         node = first_of_list b (at + 1 + phrase_size a) next;
         way = leaves s h.c number k true _ at action.Done refl (first_of_list b (at + 1 + phrase_size a) next) w x.0 way
             y.stand.0 (0, omega arith, refl)
-            (by_act s number (choice s k) w action.Done (arithmetic sum ts remainder size fine) (taken x.0) y.its
+            (by_act s number (choice s k) w action.Done (arithmetic sum ts remainder size fine) (edge_taken x.0) y.its
             (ap (λ r. r >>= λ (z : World × Bool). taken_if (if false then z.1 else not z.1) z.0) e ∙ ap
             (λ c. taken_if (not c) x.0) f));
         standing = listed h hs ds fine b (at + 1 + phrase_size a) next y.whole.1 y.laid.1

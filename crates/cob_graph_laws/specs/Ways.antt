@@ -1,5 +1,5 @@
 -- Ways through a program's graph, and that they show what its runs do.
-use Rattle.std.specs.Prelude.{◌≡◌, ◌≤◌, ℕ, ◌+◌, ◌-◌, true, false, List, [], ◌∷◌, Contains, Some, None, Ok, Err}
+use Rattle.std.specs.Prelude.{◌≡◌, ◌≤◌, ℕ, ◌+◌, ◌-◌, true, false, List, [], ◌∷◌, Contains, Some, Ok, Err}
 use Rattle.cob_tree.specs.declared.fault.Kind.{Kind}
 use Rattle.cob_program.specs.Act.{Program}
 use Rattle.cob_runs.specs.declared.action.Action.{Action}
@@ -20,7 +20,7 @@ use Rattle.cob_graph.specs.WellFormed.{IsWellFormed}
 -- the number of the statement to which what is to be done next belongs
 abbrev pub next_statement : Program → List Doing → ℕ
 next_statement p [] = 0
-next_statement p (d ∷ ds) = number_of p None d
+next_statement p (d ∷ ds) = number_of d
 
 -- how many nodes at which a step begins were left, where so many were left before this one
 abbrev pub passed : ℕ → Node → ℕ

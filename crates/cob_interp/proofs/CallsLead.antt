@@ -9,7 +9,7 @@ use Rattle.cob_runs.specs.declared.action.Action.{Action}
 use Rattle.cob_runs.specs.declared.action.Action.TheVariants as action
 use Rattle.cob_runs.specs.State.{World}
 use Rattle.cob_runs.specs.Acts.{is_fine, open_one, close_one}
-use Rattle.cob_runs.specs.Effects.{effect, effect_of, status, status_of, status_in, act_at, by_status, taken_if, opened, closed}
+use Rattle.cob_runs.specs.Effects.{effect, effect_of, status, status_of, status_if, act_at, by_status, taken_if, edge_opened, edge_closed}
 use Rattle.cob_plan.specs.declared.node.Op.TheVariants as op
 use Rattle.cob_plan.specs.Plan.{op_edges}
 use Rattle.cob_interp.specs.Told.{seen, AgreeBut, KeepsNames}
@@ -69,11 +69,11 @@ module _ (p : Program) (number : ℕ) (told now : Contents) (paths : List (List 
       (follows : CallFollows now paths text (close_one p.layout file w)
       (close_one p.layout file (seen told paths text w))) where
     close_effect : (v : World) (fine : Bool)
-        → closed p number None v fine (slice_get fs k) ≡ by_status p number None v fine (close_one p.layout file v)
+        → edge_closed p number None v fine (slice_get fs k) ≡ by_status p number None v fine (close_one p.layout file v)
     close_effect v fine = rw at refl
 
     close_status : (v : World)
-        → status_in p number None v (slice_get fs k) (λ f. close_one p.layout f v) ≡ Some (close_one p.layout file v).1
+        → status_if p number None v (slice_get fs k) (λ f. close_one p.layout f v) ≡ Some (close_one p.layout file v).1
     close_status v = rw at refl
 
     pub close_edge : (a : Action) (m fine bad : ℕ) → Contains (op_edges (op.Close k fine bad)) (a, m) → EdgeFollows a
@@ -92,11 +92,11 @@ module _ (p : Program) (number : ℕ) (told now : Contents) (paths : List (List 
       (follows : CallFollows now paths text (open_one p.layout o w)
       (open_one p.layout o (seen told paths text w))) where
     pub open_effect : (v : World) (fine : Bool)
-        → opened p number None v fine (slice_get os k) ≡ by_status p number None v fine (open_one p.layout o v)
+        → edge_opened p number None v fine (slice_get os k) ≡ by_status p number None v fine (open_one p.layout o v)
     open_effect v fine = rw at refl
 
     open_status : (v : World)
-        → status_in p number None v (slice_get os k) (λ f. open_one p.layout f v) ≡ Some (open_one p.layout o v).1
+        → status_if p number None v (slice_get os k) (λ f. open_one p.layout f v) ≡ Some (open_one p.layout o v).1
     open_status v = rw at refl
 
     pub open_edge : (a : Action) (m fine bad : ℕ) → Contains (op_edges (op.Open k fine bad)) (a, m) → EdgeFollows a

@@ -182,11 +182,11 @@ module _ (p : Program) (number k : ℕ) (w v : World) where
       sym (effect_by_act p number w x.0 b its)
       ∙ subst (λ (y : Action × ℕ). effect p number None w y.0 ≡ e) is does
 
-  closed_sound : (kind : Kind) (fine : Bool) (o : Option ℕ) → effects.closed p number None w fine o ≡ Err kind → ⊥
+  closed_sound : (kind : Kind) (fine : Bool) (o : Option ℕ) → effects.edge_closed p number None w fine o ≡ Err kind → ⊥
   closed_sound kind fine None e = not_faulty kind e
   closed_sound kind fine (Some file_) e = by_status_sound p number w fine (close_one p.layout file_ w) kind e
 
-  opened_sound : (kind : Kind) (fine : Bool) (o : Option Opening) → effects.opened p number None w fine o ≡ Err kind → ⊥
+  opened_sound : (kind : Kind) (fine : Bool) (o : Option Opening) → effects.edge_opened p number None w fine o ≡ Err kind → ⊥
   opened_sound kind fine None e = not_faulty kind e
   opened_sound kind fine (Some o) e = by_status_sound p number w fine (open_one p.layout o w) kind e
 
@@ -212,7 +212,7 @@ module _ (p : Program) (number k : ℕ) (w v : World) where
   -- what holds behind each CLOSE
   module _ (fs : List ℕ) (its : act_at p number ≡ Some (close_files fs)) (Is : World → Type 0)
       (each : (file_ : ℕ) → slice_get fs k ≡ Some file_ → Is (close_one p.layout file_ w).0) where
-    closed_so : (fine : Bool) (o : Option ℕ) → slice_get fs k ≡ o → effects.closed p number None w fine o ≡ Ok (Some v)
+    closed_so : (fine : Bool) (o : Option ℕ) → slice_get fs k ≡ o → effects.edge_closed p number None w fine o ≡ Ok (Some v)
         → Is v
     closed_so fine None at e = absurd (not_going v e)
     closed_so fine (Some file_) at e =
@@ -229,7 +229,7 @@ module _ (p : Program) (number k : ℕ) (w v : World) where
   module _ (os : List Opening) (its : act_at p number ≡ Some (open_files os)) (Is : World → Type 0)
       (each : (o : Opening) → slice_get os k ≡ Some o → Is (open_one p.layout o w).0) where
     opened_so : (fine : Bool) (o : Option Opening) → slice_get os k ≡ o
-        → effects.opened p number None w fine o ≡ Ok (Some v) → Is v
+        → effects.edge_opened p number None w fine o ≡ Ok (Some v) → Is v
     opened_so fine None at e = absurd (not_going v e)
     opened_so fine (Some o) at e =
         subst Is (by_status_is p number w v fine (open_one p.layout o w) e) (each o at)

@@ -24,7 +24,7 @@ use Rattle.cob_runs.specs.Showing.{line_of}
 use Rattle.cob_runs.specs.State.{World, with_storage}
 use Rattle.cob_runs.specs.Acts.{augment, is_fine, count_of, with_count, write_one, into_if, file_from}
 use Rattle.cob_runs.specs.Steps.{is_left, is_given}
-use Rattle.cob_runs.specs.Effects.{Effect, computed, tested, decided, counted, taken, taken_if, met, effect_of, by_status, ended_with, bad_read, tests_in_act, status_of, status_in, status_by, shown, wrote, file_call, read_with}
+use Rattle.cob_runs.specs.Effects.{Effect, edge_computed, edge_tested, edge_decided, edge_counted, edge_taken, taken_if, met, effect_of, by_status, ended_with, bad_read, tests_in_act, status_of, status_if, status_by, edge_shown, edge_wrote, file_call, read_with}
 use Rattle.cob_plan.specs.declared.node.Op.{Op}
 use Rattle.cob_plan.specs.declared.node.Op.TheVariants as op
 use Rattle.cob_plan.specs.Plan.{op_edges}
@@ -114,7 +114,7 @@ module _ (now : Contents) (paths : List (List ℕ)) (text : List ℕ) where
 
   taken_follows : (b : Bool) (v u : World) → u ≡ seen now paths text v → AreSynced now paths v.files
       → Follows now paths text (taken_if b v) (taken_if b u)
-  taken_follows true v u e s = (ap taken e, s)
+  taken_follows true v u e s = (ap edge_taken e, s)
   taken_follows false v u e s = refl
 
   -- ---- a call on a file, by its status
@@ -171,8 +171,8 @@ module _ (p : Program) (number : ℕ) (told : Contents) (paths : List (List ℕ)
   assigned_turns body (until after t) = refl
   assigned_turns body (varying after item start by t) = stored_follows (after_move p.layout w.storage start (item ∷ []))
 
-  into_follows : (f : ℕ) (into : Option ℕ) → Follows told paths text (taken (into_if p.layout f into w))
-      (taken (into_if p.layout f into as_seen))
+  into_follows : (f : ℕ) (into : Option ℕ) → Follows told paths text (edge_taken (into_if p.layout f into w))
+      (edge_taken (into_if p.layout f into as_seen))
   into_follows f None = (refl, s)
   into_follows f (Some place) = (refl, s)
 
@@ -223,7 +223,7 @@ module _ (p : Program) (number : ℕ) (told : Contents) (paths : List (List ℕ)
       (or_fault kind.Class (number_at p.layout w.storage item)) item
 
   computed_turns : (failed : Bool) (body : Body) (turns : Turns) → Follows told paths text
-      (computed p number None w failed (perform body turns)) (computed p number None as_seen failed
+      (edge_computed p number None w failed (perform body turns)) (edge_computed p number None as_seen failed
       (perform body turns))
   computed_turns true body turns = refl
   computed_turns false body once = refl
@@ -232,7 +232,7 @@ module _ (p : Program) (number : ℕ) (told : Contents) (paths : List (List ℕ)
   computed_turns false body (varying after item start by t) = augmented item by
 
   computed_follows : (failed : Bool) (b : Act) → Follows told paths text
-      (computed p number None w failed b) (computed p number None as_seen failed b)
+      (edge_computed p number None w failed b) (edge_computed p number None as_seen failed b)
   computed_follows failed (arith sum targets remainder size fine) =
       computed_by failed (after_arithmetic p.layout (is_given size) w.storage sum targets remainder)
   computed_follows failed (perform body turns) = computed_turns failed body turns
@@ -249,18 +249,18 @@ module _ (p : Program) (number : ℕ) (told : Contents) (paths : List (List ℕ)
   computed_follows failed (act.show xs) = refl
 
   decided_by : (wanted : Bool) (t : Option Test) → Follows told paths text
-      (decided p number None w wanted t) (decided p number None as_seen wanted t)
+      (edge_decided p number None w wanted t) (edge_decided p number None as_seen wanted t)
   decided_by wanted None = refl
   decided_by wanted (Some t) =
       bound told paths text (test_holds p.layout w.storage t) _ _
       (λ b. taken_follows told paths text (if wanted then b else not b) w as_seen refl s)
 
   tested_turns : (wanted : Bool) (k : ℕ) (body : Body) (turns : Turns) → Follows told paths text
-      (tested p number None w wanted k (perform body turns)) (tested p number None as_seen wanted k
+      (edge_tested p number None w wanted k (perform body turns)) (edge_tested p number None as_seen wanted k
       (perform body turns))
   tested_turns wanted k body (times x) =
-      taken_follows told paths text (if wanted then is_left p None (count_of p.layout number w) else not
-      (is_left p None (count_of p.layout number w)))
+      taken_follows told paths text (if wanted then is_left (count_of number w) else not
+      (is_left (count_of number w)))
       w as_seen refl s
   tested_turns wanted k body once = decided_by wanted (slice_get (tests_in_act (perform body once)) k)
   tested_turns wanted k body (until after t) = decided_by wanted
@@ -269,7 +269,7 @@ module _ (p : Program) (number : ℕ) (told : Contents) (paths : List (List ℕ)
       decided_by wanted (slice_get (tests_in_act (perform body (varying after item start by t))) k)
 
   tested_follows : (wanted : Bool) (k : ℕ) (b : Act) → Follows told paths text
-      (tested p number None w wanted k b) (tested p number None as_seen wanted k b)
+      (edge_tested p number None w wanted k b) (edge_tested p number None as_seen wanted k b)
   tested_follows wanted k (perform body turns) = tested_turns wanted k body turns
   tested_follows wanted k (arith sum targets remainder size fine) = decided_by wanted
       (slice_get (tests_in_act (arith sum targets remainder size fine)) k)
@@ -294,13 +294,13 @@ module _ (p : Program) (number : ℕ) (told : Contents) (paths : List (List ℕ)
   counted_by (Err kind) = refl
 
   counted_turns : (body : Body) (turns : Turns) → Follows told paths text
-      (counted p number None w (perform body turns)) (counted p number None as_seen (perform body turns))
+      (edge_counted p number None w (perform body turns)) (edge_counted p number None as_seen (perform body turns))
   counted_turns body (times x) = counted_by (or_fault kind.Class (number_of p.layout w.storage x))
   counted_turns body once = refl
   counted_turns body (until after t) = refl
   counted_turns body (varying after item start by t) = refl
 
-  counted_follows : (b : Act) → Follows told paths text (counted p number None w b) (counted p number None as_seen b)
+  counted_follows : (b : Act) → Follows told paths text (edge_counted p number None w b) (edge_counted p number None as_seen b)
   counted_follows (perform body turns) = counted_turns body turns
   counted_follows (arith sum targets remainder size fine) = refl
   counted_follows (act.move x places) = refl
@@ -316,16 +316,16 @@ module _ (p : Program) (number : ℕ) (told : Contents) (paths : List (List ℕ)
   counted_follows (act.show xs) = refl
 
   down_by : (count : Option ℤ) → Follows told paths text
-      (taken (option_map_or (λ n. with_count p.layout number (n -ℤ pos 1) w) count w))
-      (taken (option_map_or (λ n. with_count p.layout number (n -ℤ pos 1) as_seen) count as_seen))
+      (edge_taken (option_map_or (λ n. with_count p.layout number (n -ℤ pos 1) w) count w))
+      (edge_taken (option_map_or (λ n. with_count p.layout number (n -ℤ pos 1) as_seen) count as_seen))
   down_by None = (refl, s)
   down_by (Some n) = (refl, s)
 
   -- ---- DISPLAY
 
-  shown_follows : (b : Act) → Follows told paths text (shown p number None w b) (shown p number None as_seen b)
+  shown_follows : (b : Act) → Follows told paths text (edge_shown p number None w b) (edge_shown p number None as_seen b)
   shown_follows (act.show xs) = (
-    ap (λ (t : List ℕ). taken (record {
+    ap (λ (t : List ℕ). edge_taken (record {
       storage = w.storage;
       counts = w.counts;
       files = seen_files told paths w.files;
@@ -350,7 +350,7 @@ module _ (p : Program) (number : ℕ) (told : Contents) (paths : List (List ℕ)
   -- ---- READ and WRITE
 
   wrote_by : (fine : Bool) (r : ℕ) (file : Option ℕ) → Follows told paths text
-      (wrote p number None w fine r file) (wrote p number None as_seen fine r file)
+      (edge_wrote p number None w fine r file) (edge_wrote p number None as_seen fine r file)
   wrote_by fine r None = refl
   wrote_by fine r (Some f) =
       by_status_follows told paths text p number w as_seen _ _ (write_one_follows p.layout told paths text apart w s f
@@ -428,7 +428,7 @@ module _ (p : Program) (number : ℕ) (told : Contents) (paths : List (List ℕ)
   plain_follows (action.True k) b plain = tested_follows true k b
   plain_follows (action.False k) b plain = tested_follows false k b
   plain_follows action.SetCount b plain = counted_follows b
-  plain_follows action.Down b plain = down_by (count_of p.layout number w)
+  plain_follows action.Down b plain = down_by (count_of number w)
   plain_follows (action.Open k) b plain = call_follows true k b (no_call (action.Open k) b plain)
   plain_follows (action.Close k) b plain = call_follows true k b (no_call (action.Close k) b plain)
   plain_follows action.Take b plain = read_with_follows 0 b plain
@@ -438,8 +438,8 @@ module _ (p : Program) (number : ℕ) (told : Contents) (paths : List (List ℕ)
   plain_follows action.Show b plain = shown_follows b
 
   wrote_status : (r : ℕ) (file : Option ℕ) →
-      status_in p number None as_seen file (λ f. write_one p.layout None f r as_seen)
-      ≡ status_in p number None w file (λ f. write_one p.layout None f r w)
+      status_if p number None as_seen file (λ f. write_one p.layout None f r as_seen)
+      ≡ status_if p number None w file (λ f. write_one p.layout None f r w)
   wrote_status r None = refl
   wrote_status r (Some f) = ap Some (write_one_follows p.layout told paths text apart w s f r).status
 

@@ -11,7 +11,6 @@ use Rattle.batch_io.specs.FilesState.{Contents, FilesState, Told, Handle, Purpos
 use Rattle.batch_io.specs.declared.ends.MakeEnd.{MakeEnd}
 use Rattle.batch_io.specs.FilesCalls.{OpensId, Opens, Empties, Creates, Closes}
 use Rattle.batch_io.specs.Wholes.{ReadsRecord, PutsWhole, Grows}
-use Rattle.cob_interp.specs.declared.handles.Held.{Held}
 use Rattle.cob_interp.specs.Tracking.{Ids, IsHeld, purpose_by, AreNone, AreOpen}
 use Rattle.cob_interp.specs.Readying.{AreWell, Keeps, IsEmpty, KeepsHandles, OpensFor, CreatesFor, IsCreatedIn, CreatesPart, PutsUnder, PutsUnderPart, ClosesFor, ClosesAll, GivesRecord, IsRefusal, close_fault, first_refusal}
 use Rattle.cob_interp.specs.declared.ends.RunEnd.{RunEnd}
@@ -65,11 +64,6 @@ none_below ids place none p id writes below is = by (cases_order p place) where
   ]
   by (inr (inl l)) = none p id writes l (sym (get_set_other ids place p None (λ e. omega (arith, e, l))) ∙ is)
   by (inr (inr l)) = omega (arith, l, below)
-
-pub size_kept : (ids : Ids) (place : ℕ) (x : Option Held) → length (slice_set ids place x) ≡ length ids
-size_kept [] place x = refl
-size_kept (y ∷ ids) zero x = refl
-size_kept (y ∷ ids) (suc place) x = ap suc (size_kept ids place x)
 
 -- ---- an OPEN
 

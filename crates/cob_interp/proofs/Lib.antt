@@ -44,3 +44,4 @@ pub mod RoomLemmas
 pub mod Starting
 mod OpLemmas
 pub mod FitLemmas
+pub mod Declared

@@ -24,7 +24,7 @@ use Rattle.cob_runs.specs.Files.{File, file, Mode, closed, reading, writing, aft
 use Rattle.cob_runs.specs.State.{World, with_storage}
 use Rattle.cob_runs.specs.Acts.{show, undefined_if, with_file, with_count, count_of, write_on, write_one, into_if, file_from, is_fine, decl_at}
 use Rattle.cob_runs.specs.Contents.{fitted, bytes_at, number_at, form_at, filled_at, stored}
-use Rattle.cob_runs.specs.Effects.{Effect, taken, taken_if, met, effect_of, computed, counted, tested, decided, shown, wrote, file_call, read_with, tests_in_act, assigned}
+use Rattle.cob_runs.specs.Effects.{Effect, edge_taken, taken_if, met, effect_of, edge_computed, edge_counted, edge_tested, edge_decided, edge_shown, edge_wrote, file_call, read_with, tests_in_act, edge_assigned}
 use Rattle.cob_interp.specs.Tracking.{IsOpen, purpose_in, StayAt, KeepsPlaces}
 use Rattle.cob_interp.proofs.Purposes.{purposes_kept}
 use Rattle.cob_interp.proofs.Following.{IsPlainFor}
@@ -108,21 +108,21 @@ module _ (p : Program) (number : ℕ) (w : World) where
   ended_keeps (Ok bytes) put = stays w (with_storage w (put bytes)) refl
   ended_keeps (Err kind) put = tt
 
-  moved_if : (from : Option Sender) (r : ℕ) → Keeps w (assigned p number None w (write r from))
+  moved_if : (from : Option Sender) (r : ℕ) → Keeps w (edge_assigned p number None w (write r from))
   moved_if None r = stays w w refl
   moved_if (Some x) r = stored_keeps (after_move p.layout w.storage x (r ∷ []))
 
-  assigned_turns : (body : Body) (turns : Turns) → Keeps w (assigned p number None w (perform body turns))
+  assigned_turns : (body : Body) (turns : Turns) → Keeps w (edge_assigned p number None w (perform body turns))
   assigned_turns body once = tt
   assigned_turns body (times x) = tt
   assigned_turns body (until after t) = tt
   assigned_turns body (varying after item start by t) = stored_keeps (after_move p.layout w.storage start (item ∷ []))
 
-  into_keeps : (f : ℕ) (into : Option ℕ) → Keeps w (taken (into_if p.layout f into w))
+  into_keeps : (f : ℕ) (into : Option ℕ) → Keeps w (edge_taken (into_if p.layout f into w))
   into_keeps f None = stays w w refl
   into_keeps f (Some place) = stays w (into_if p.layout f (Some place) w) refl
 
-  assigned_keeps : (b : Act) → Keeps w (assigned p number None w b)
+  assigned_keeps : (b : Act) → Keeps w (edge_assigned p number None w b)
   assigned_keeps (act.move x places) = stored_keeps (after_move p.layout w.storage x places)
   assigned_keeps (arith sum targets remainder size fine) = tt
   assigned_keeps (if_ t held other) = tt
@@ -157,7 +157,7 @@ module _ (p : Program) (number : ℕ) (w : World) where
       (filled_at p.layout w.storage item)
 
   computed_turns : (failed : Bool) (body : Body) (turns : Turns)
-      → Keeps w (computed p number None w failed (perform body turns))
+      → Keeps w (edge_computed p number None w failed (perform body turns))
   computed_turns true body turns = tt
   computed_turns false body once = tt
   computed_turns false body (times x) = tt
@@ -166,7 +166,7 @@ module _ (p : Program) (number : ℕ) (w : World) where
       augmented_by (or_fault kind.Class (number_of p.layout w.storage by))
       (or_fault kind.Class (number_at p.layout w.storage item)) item
 
-  computed_keeps : (failed : Bool) (b : Act) → Keeps w (computed p number None w failed b)
+  computed_keeps : (failed : Bool) (b : Act) → Keeps w (edge_computed p number None w failed b)
   computed_keeps failed (act.move x places) = tt
   computed_keeps failed (arith sum targets remainder size fine) = computed_by failed (after_arithmetic p.layout (is_given size) w.storage sum targets remainder)
   computed_keeps failed (if_ t held other) = tt
@@ -181,21 +181,21 @@ module _ (p : Program) (number : ℕ) (w : World) where
   computed_keeps failed (write r from) = tt
   computed_keeps failed (act.show xs) = tt
 
-  decided_by : (wanted : Bool) (t : Option Test) → Keeps w (decided p number None w wanted t)
+  decided_by : (wanted : Bool) (t : Option Test) → Keeps w (edge_decided p number None w wanted t)
   decided_by wanted None = tt
   decided_by wanted (Some t) =
       bound w (test_holds p.layout w.storage t) _ (λ b. kept_if w (if wanted then b else not b) w (stays w w refl))
 
   tested_turns : (wanted : Bool) (k : ℕ) (body : Body) (turns : Turns)
-      → Keeps w (tested p number None w wanted k (perform body turns))
+      → Keeps w (edge_tested p number None w wanted k (perform body turns))
   tested_turns wanted k body (times x) =
-      kept_if w (if wanted then is_left p None (count_of p.layout number w) else not
-      (is_left p None (count_of p.layout number w))) w (stays w w refl)
+      kept_if w (if wanted then is_left (count_of number w) else not
+      (is_left (count_of number w))) w (stays w w refl)
   tested_turns wanted k body once = decided_by wanted (slice_get (tests_in_act (perform body once)) k)
   tested_turns wanted k body (until after t) = decided_by wanted (slice_get (tests_in_act (perform body (until after t))) k)
   tested_turns wanted k body (varying after item start by t) = decided_by wanted (slice_get (tests_in_act (perform body (varying after item start by t))) k)
 
-  tested_keeps : (wanted : Bool) (k : ℕ) (b : Act) → Keeps w (tested p number None w wanted k b)
+  tested_keeps : (wanted : Bool) (k : ℕ) (b : Act) → Keeps w (edge_tested p number None w wanted k b)
   tested_keeps wanted k (act.move x places) = decided_by wanted (slice_get (tests_in_act (act.move x places)) k)
   tested_keeps wanted k (arith sum targets remainder size fine) = decided_by wanted (slice_get (tests_in_act (arith sum targets remainder size fine)) k)
   tested_keeps wanted k (if_ t held other) = decided_by wanted (slice_get (tests_in_act (if_ t held other)) k)
@@ -214,13 +214,13 @@ module _ (p : Program) (number : ℕ) (w : World) where
   counted_by (Ok n) = stays w (with_count p.layout number n.units w) refl
   counted_by (Err kind) = tt
 
-  counted_turns : (body : Body) (turns : Turns) → Keeps w (counted p number None w (perform body turns))
+  counted_turns : (body : Body) (turns : Turns) → Keeps w (edge_counted p number None w (perform body turns))
   counted_turns body (times x) = counted_by (or_fault kind.Class (number_of p.layout w.storage x))
   counted_turns body once = tt
   counted_turns body (until after t) = tt
   counted_turns body (varying after item start by t) = tt
 
-  counted_keeps : (b : Act) → Keeps w (counted p number None w b)
+  counted_keeps : (b : Act) → Keeps w (edge_counted p number None w b)
   counted_keeps (act.move x places) = tt
   counted_keeps (arith sum targets remainder size fine) = tt
   counted_keeps (if_ t held other) = tt
@@ -236,11 +236,11 @@ module _ (p : Program) (number : ℕ) (w : World) where
   counted_keeps (act.show xs) = tt
 
   down_by : (count : Option ℤ)
-      → Keeps w (taken (option_map_or (λ n. with_count p.layout number (n -ℤ pos 1) w) count w))
+      → Keeps w (edge_taken (option_map_or (λ n. with_count p.layout number (n -ℤ pos 1) w) count w))
   down_by None = stays w w refl
   down_by (Some n) = stays w (with_count p.layout number (n -ℤ pos 1) w) refl
 
-  shown_keeps : (b : Act) → Keeps w (shown p number None w b)
+  shown_keeps : (b : Act) → Keeps w (edge_shown p number None w b)
   shown_keeps (act.move x places) = tt
   shown_keeps (arith sum targets remainder size fine) = tt
   shown_keeps (if_ t held other) = tt
@@ -288,7 +288,7 @@ module _ (p : Program) (number : ℕ) (w : World) where
       subst (λ (u : World). KeepsPlaces w.files u.files) (sym (undefined_none (is_fine x.1) d x.0))
       (set_keeps_as w.files place f (after_write r f).0 has (written_mode r f) (written_purpose r f))
 
-  wrote_by : (fine : Bool) (r : ℕ) (file : Option ℕ) → Keeps w (wrote p number None w fine r file)
+  wrote_by : (fine : Bool) (r : ℕ) (file : Option ℕ) → Keeps w (edge_wrote p number None w fine r file)
   wrote_by fine r None = tt
   wrote_by fine r (Some f) =
       kept_if w (if fine then is_fine (write_one p.layout None f r w).1 else not (is_fine (write_one p.layout None f r w).1))
@@ -363,7 +363,7 @@ module _ (p : Program) (number : ℕ) (w : World) where
   plain_keeps (action.True k) b plain = tested_keeps true k b
   plain_keeps (action.False k) b plain = tested_keeps false k b
   plain_keeps action.SetCount b plain = counted_keeps b
-  plain_keeps action.Down b plain = down_by (count_of p.layout number w)
+  plain_keeps action.Down b plain = down_by (count_of number w)
   plain_keeps (action.Open k) b plain = call_keeps true k (action.Open k) b plain
   plain_keeps (action.Close k) b plain = call_keeps true k (action.Close k) b plain
   plain_keeps action.Take b plain = take_keeps 0 b plain

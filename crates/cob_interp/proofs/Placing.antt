@@ -18,7 +18,7 @@ use Rattle.cob_program.specs.declared.act.Opening.{Opening}
 use Rattle.cob_interp.specs.Readying.{StandsOrBegins}
 use Rattle.cob_interp.proofs.Places.{got_in_set, set_keeps_as}
 use Rattle.cob_interp.proofs.TrackLemmas.{get_set_other, same_slot, stand_on, places_stay}
-use Rattle.cob_interp.proofs.Purposes.{map_set, purposes_set, purposes_kept}
+use Rattle.cob_interp.proofs.Purposes.{map_set, purposes_set, purposes_kept, set_length, count_set}
 use Rattle.cob_interp.proofs.OneFile.{takes, from_place, from_end}
 use Rattle.cob_plan.specs.declared.node.Op.TheVariants as op
 use Rattle.cob_plan.specs.Plan.{op_edges}
@@ -103,6 +103,7 @@ module _ (old new : FilesState) (paths : List (List ℕ)) (ids : Ids) (live : Ar
 
   pub window_placed : ArePlaced paths new ids (slice_set files place g)
   window_placed = record {
+    count = set_length files place g ∙ placed.count;
     stand = window_stand;
     purposes = placed.purposes ∙ sym (purposes_kept files place f g has still);
   }
@@ -202,21 +203,24 @@ module _ (l : Layout) (paths : List (List ℕ)) (old new : FilesState) (before a
       purposes_set w.files o.file (opened o.output y).0
       ∙ ap (λ (z : File). slice_set (purposes_of w.files) o.file (purpose_in (opened o.output z).0.mode)) (sym same)
 
-  pub open_one_placed : (d : FileDecl) → decl_at l o.file ≡ Some d
+  pub open_one_placed : (d : FileDecl) → decl_at l o.file ≡ Some d → length w.files ≡ length paths
       → purposes_for after ≡ slice_set (purposes_of w.files) o.file (purpose_in (opened o.output f).0.mode)
       → ArePlaced paths new after (open_one l o w).0.files
-  open_one_placed d declared purposes = record {
-    stand = open_one_stand;
-    purposes = purposes
-        ∙ sym (opened_purpose (decl_at l o.file) (slice_get w.files o.file)
-        (subst (λ (x : Option FileDecl). IsSome x) (sym declared) refl) has);
-  }
+  open_one_placed d declared as_many purposes =
+      let now = opened_purpose (decl_at l o.file) (slice_get w.files o.file)
+      (subst (λ (x : Option FileDecl). IsSome x) (sym declared) refl) has in
+      record {
+        count = count_set w.files (open_one l o w).0.files o.file (purpose_in (opened o.output f).0.mode) now ∙ as_many;
+        stand = open_one_stand;
+        purposes = purposes ∙ sym now;
+      }
 
 -- where a file is closed
 pub placed_ends : (paths : List (List ℕ)) (old new : FilesState) (before after : Ids) (fs gs : List File) (place : ℕ)
     → EndsAt fs place gs → ArePlaced paths old before fs → StandAt paths new after fs
     → after ≡ slice_set before place None → ArePlaced paths new after gs
 placed_ends paths old new before after fs gs place ends placed stand is = record {
+  count = count_set fs gs place None ends.1 ∙ placed.count;
   stand = stand_on paths new after fs gs ends.0 stand;
   purposes = ap purposes_for is ∙ map_set purpose_for before place None
       ∙ ap (λ (ps : List (Option Purpose)). slice_set ps place None) placed.purposes ∙ sym ends.1;

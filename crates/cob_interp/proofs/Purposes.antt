@@ -1,6 +1,7 @@
 -- Which files have ids, and what for.
-use Rattle.std.proofs.Common.{◌≡◌, ℕ, zero, suc, ◌+◌, Bool, true, false, List, [], ◌∷◌, ◌++◌, map, replicate, Option, Some, None, refl, sym, ap, ◌∙◌, arith}
+use Rattle.std.proofs.Common.{◌≡◌, ℕ, zero, suc, ◌+◌, Bool, true, false, List, [], ◌∷◌, ◌++◌, length, map, replicate, Option, Some, None, refl, sym, ap, ◌∙◌, arith}
 use Rattle.std.specs.Prelude.{slice_get, slice_set, option_map}
+use Rattle.std.proofs.lemmas.List.{length-map}
 use Rattle.std.proofs.lemmas.Option.{slice_get-map}
 use Rattle.batch_io.specs.FilesState.{Purpose}
 use Rattle.cob_runs.specs.Files.{File}
@@ -37,6 +38,27 @@ purposes_kept fs place f g has same =
     purposes_set fs place g
     ∙ set_same (purposes_of fs) place (purpose_in g.mode)
     (purpose_at fs place f has ∙ ap (λ (o : Option Purpose). Some o) (sym same))
+
+-- ---- how many files there are
+
+pub set_length : {X : Type 0} (xs : List X) (place : ℕ) (x : X) → length (slice_set xs place x) ≡ length xs
+set_length [] place x = refl
+set_length (y ∷ xs) zero x = refl
+set_length (y ∷ xs) (suc place) x = ap suc (set_length xs place x)
+
+purposes_length : (fs : List File) → length (purposes_of fs) ≡ length fs
+purposes_length fs = length-map fs (λ (f : File). purpose_in f.mode)
+
+pub count_kept : (fs gs : List File) → purposes_of gs ≡ purposes_of fs → length gs ≡ length fs
+count_kept fs gs same =
+    sym (purposes_length gs) ∙ ap (λ (ps : List (Option Purpose)). length ps) same ∙ purposes_length fs
+
+-- where one of them is new
+pub count_set : (fs gs : List File) (place : ℕ) (p : Option Purpose) → purposes_of gs ≡ slice_set (purposes_of fs) place p
+    → length gs ≡ length fs
+count_set fs gs place p same =
+    sym (purposes_length gs) ∙ ap (λ (ps : List (Option Purpose)). length ps) same
+    ∙ set_length (purposes_of fs) place p ∙ purposes_length fs
 
 -- ---- files that are closed
 

@@ -19,6 +19,7 @@ module _ (paths : List (List ℕ)) (a b : FilesState) (fs : List File) where
 
   pub placed_ids : (ids : Ids) → KeepsIds a b → AreOpen a ids → ArePlaced paths a ids fs → ArePlaced paths b ids fs
   placed_ids ids keeps live placed = record {
+    count = placed.count;
     stand = stand_ids ids keeps live placed.stand;
     purposes = placed.purposes;
   }

@@ -60,6 +60,11 @@ first_synced told [] (d ∷ ds) n same = cc
 first_synced told (path ∷ paths) [] n same = cc
 first_synced told (path ∷ paths) (d ∷ ds) n same = (tt, first_synced told paths ds (suc n) (omega (arith, same)))
 
+first_count : (contents : runs.Contents) (n : ℕ) (ds : List FileDecl)
+    → length (first_files contents n ds) ≡ length ds
+first_count contents n [] = refl
+first_count contents n (d ∷ ds) = ap suc (first_count contents (suc n) ds)
+
 -- none of them is open
 pub first_purposes : (contents : runs.Contents) (n : ℕ) (ds : List FileDecl)
     → purposes_of (first_files contents n ds) ≡ replicate (length ds) None
@@ -67,9 +72,11 @@ first_purposes contents n [] = refl
 first_purposes contents n (d ∷ ds) = ap (λ (ps : List (Option Purpose)). None ∷ ps) (first_purposes contents (suc n) ds)
 
 pub placed_first : (p : Program) (contents : runs.Contents) (paths : List (List ℕ)) (state : FilesState) (ids : Ids)
-    (w : World) (count : ℕ) → count ≡ length p.layout.files → AreNone ids → purposes_for ids ≡ replicate count None
+    (w : World) (count : ℕ) → count ≡ length p.layout.files → length paths ≡ count → AreNone ids
+    → purposes_for ids ≡ replicate count None
     → w ≡ first_world p contents [] → ArePlaced paths state ids w.files
-placed_first p contents paths state ids w count same none purposes is = record {
+placed_first p contents paths state ids w count same as_many none purposes is = record {
+  count = ap (λ (v : World). length v.files) is ∙ first_count contents 0 p.layout.files ∙ sym same ∙ sym as_many;
   stand = none_stand paths state ids w.files none;
   purposes = purposes ∙ ap (λ (n : ℕ). replicate n None) same ∙ sym (first_purposes contents 0 p.layout.files)
       ∙ sym (ap (λ (v : World). purposes_of v.files) is);

@@ -7,6 +7,7 @@ use Rattle.batch_io.specs.FilesCalls.{OpensId}
 use Rattle.cob_runs.specs.Files.{File}
 use Rattle.cob_interp.specs.declared.handles.Held.{Held}
 use Rattle.cob_interp.specs.Tracking.{Ids, purpose_by, IsHeld, IsElse, AreNone, AreOpen, KeepsBut, Tracks, StandAt, ArePlaced, StayAt, KeepsPlaces}
+use Rattle.cob_interp.proofs.Purposes.{count_kept}
 
 -- ---- no id changes
 
@@ -254,6 +255,7 @@ stand_on paths a ids fs gs stay stand place id writes path g is at has open_ =
 pub placed_on : (paths : List (List ℕ)) (a : FilesState) (ids : Ids) (fs gs : List File) → KeepsPlaces fs gs
     → ArePlaced paths a ids fs → ArePlaced paths a ids gs
 placed_on paths a ids fs gs keeps placed = record {
+  count = count_kept fs gs keeps.purposes ∙ placed.count;
   stand = stand_on paths a ids fs gs keeps.each placed.stand;
   purposes = placed.purposes ∙ sym keeps.purposes;
 }

@@ -20,12 +20,13 @@ use Rattle.cob_interp.specs.Meeting.{is_failure, ShowsRest}
 use Rattle.cob_interp.specs.Readying.{IsRefusal}
 use Rattle.cob_interp.specs.Tracking.{Ids, IsHeld, AreOpen, IsOpen, purpose_in, ArePlaced, AreWritten, AreLeft, KeepsPlaces}
 use Rattle.cob_interp.specs.Walking.{by_sink, as_result, is_refused}
-use Rattle.cob_interp.proofs.Purposes.{purpose_at, slot_held}
+use Rattle.cob_interp.proofs.Purposes.{count_kept, purpose_at, slot_held}
 use Rattle.cob_interp.proofs.TrackLemmas.{same_slot, placed_on, places_pass}
 
 pub written_placed : (paths : List (List ℕ)) (a : FilesState) (ids : Ids) (fs : List File) → ArePlaced paths a ids fs
     → AreWritten paths a ids fs
 written_placed paths a ids fs placed = record {
+  count = placed.count;
   held = λ place f has mode_. slot_held ids fs placed.purposes place f has true (ap purpose_in mode_);
   stand = λ place id writes path f is at has mode_. placed.stand place id writes path f is at has
       (subst IsOpen (sym mode_) tt);
@@ -54,6 +55,7 @@ was_written fs gs keeps place g has mode_ =
 pub written_on : (paths : List (List ℕ)) (a : FilesState) (ids : Ids) (fs gs : List File) → KeepsPlaces fs gs
     → AreWritten paths a ids fs → AreWritten paths a ids gs
 written_on paths a ids fs gs keeps written = record {
+  count = count_kept fs gs keeps.purposes ∙ written.count;
   held = λ place g has mode_.
       let f = was_written fs gs keeps place g has mode_ in written.held place f.0 f.1 f.2;
   stand = λ place id writes path g is at has mode_.
@@ -73,6 +75,7 @@ module _ (paths : List (List ℕ)) (a b : FilesState) (ids : Ids) (live : AreOpe
   -- where they keep all that they stand for
   pub written_ids : KeepsIds a b → AreWritten paths b ids fs
   written_ids keeps = record {
+    count = written.count;
     held = written.held;
     stand = λ place id writes path f is at has mode_.
         subst (λ (o : Option Handle). IfSome o (λ handle. handle ≡ record { name = path; place = f.place }))
@@ -92,6 +95,7 @@ module _ (paths : List (List ℕ)) (a b : FilesState) (ids : Ids) (live : AreOpe
 
     pub written_given : (bytes : List ℕ) → Gives a b id bytes → AreWritten paths b ids fs
     written_given bytes given = record {
+      count = written.count;
       held = written.held;
       stand = λ p i u path f is at has mode_.
           let own = written.held p f has mode_ in

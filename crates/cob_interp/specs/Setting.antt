@@ -17,6 +17,7 @@ use Rattle.cob_interp.specs.declared.parts.Call.{Call}
 use Rattle.cob_interp.specs.declared.parts.Call.TheVariants as call
 use Rattle.cob_interp.specs.declared.setting.Setting.{Setting}
 use Rattle.cob_interp.specs.declared.setting.Place.{Place}
+use Rattle.cob_interp.specs.Able.{HasItsFiles}
 use Rattle.cob_interp.specs.Told.{AreDistinct}
 
 abbrev pub texts : List (String Global) → List (List ℕ)
@@ -33,6 +34,9 @@ pub record IsReady (s : Setting) : Type 0 where
   pub steps : HasSteps (program_of s) s.plan.nodes.items s.plan.statements.items
   pub statements : All (IsStatement (program_of s)) s.plan.statements.items
   pub distinct : AreDistinct (paths_of s)
+  pub files : HasItsFiles (program_of s)
+  -- each file has a path
+  pub count : length s.paths.now ≡ length s.program.now.layout.files
 
 -- A place's statement is the program's, and the operation of its node is one of that statement.
 pub record IsPlaced (s : Setting) (x : Place) : Type 0 where

@@ -1,5 +1,5 @@
 -- Which ids are open for the files that are read and written, and where they stand.
-use Rattle.std.specs.Prelude.{◌≡◌, ℕ, Bool, true, false, List, map, slice_get, Option, Some, None, IsSome, IfSome, Result, MatchResult}
+use Rattle.std.specs.Prelude.{◌≡◌, ℕ, Bool, true, false, List, length, map, slice_get, Option, Some, None, IsSome, IfSome, Result, MatchResult}
 use Rattle.batch_io.specs.FilesState.{FilesState, Purpose, Reading, Writing, known_handle}
 use Rattle.cob_runs.specs.Files.{File, Mode, closed, reading, writing}
 use Rattle.cob_interp.specs.declared.ends.RunEnd.{RunEnd}
@@ -76,13 +76,15 @@ StandAt paths state ids files =
     → slice_get paths place ≡ Some path → slice_get files place ≡ Some f → IsOpen f.mode
     → IfSome (known_handle state id) (λ handle. handle ≡ record { name = path; place = f.place })
 
--- Each file has the id that its mode asks for, and it stands where the file does.
+-- Each path has its file; each file has the id that its mode asks for, and it stands where the file does.
 pub record ArePlaced (paths : List (List ℕ)) (state : FilesState) (ids : Ids) (files : List File) : Type 0 where
+  pub count : length files ≡ length paths
   pub stand : StandAt paths state ids files
   pub purposes : purposes_for ids ≡ purposes_of files
 
--- Each file that is written is so under an id that stands for its path.
+-- Each path has its file; each file that is written is so under an id that stands for its path.
 pub record AreWritten (paths : List (List ℕ)) (state : FilesState) (ids : Ids) (files : List File) : Type 0 where
+  pub count : length files ≡ length paths
   pub held : (place : ℕ) (f : File) → slice_get files place ≡ Some f → f.mode ≡ writing → IsHeldFor ids place true
   pub stand : (place id : ℕ) (writes : Bool) (path : List ℕ) (f : File) → IsHeld ids place writes id
       → slice_get paths place ≡ Some path → slice_get files place ≡ Some f → f.mode ≡ writing

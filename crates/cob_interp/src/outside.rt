@@ -44,7 +44,7 @@ fn put_waiting<F: Files>(
     }
 }
 
-/// Writes what waits of the file at a place, where it is being written.
+/// Writes what waits of the file at a place, which is declared, where it is being written.
 fn put_out<F: Files>(
     setting: &Setting,
     files: &mut F,
@@ -53,6 +53,7 @@ fn put_out<F: Files>(
     place: usize,
 ) -> Result<(), RunEnd>
     requires ready { IsReady setting.now }
+    requires declared { IsDeclared setting.now place }
     requires live { AreOpen (F.state files.old) handles.now }
     requires written { AreWritten (paths_of setting.now) (F.state files.old) handles.now world.now.world.files }
     ensures goes { MatchResult result
@@ -63,9 +64,9 @@ fn put_out<F: Files>(
         (F.state files.new) }
     ensures ids { KeepsIds (F.state files.old) (F.state files.new) }
 {
-    match (setting.path(place), world.file(place)) {
-        (Some(_path), Some(file)) => put_waiting(files, handles, place, file),
-        _ => Err(RunEnd::Memory),
+    match world.file(place) {
+        Some(file) => put_waiting(files, handles, place, file),
+        None => unreachable!(),
     }
 }
 
@@ -96,7 +97,7 @@ fn empty_waiting(alloc: Global, world: &mut World, place: usize)
     world.set_content(place, Some(room));
 }
 
-/// Writes out what waits of the file at a place, where it is being written.
+/// Writes out what waits of the file at a place, which is declared, where it is being written.
 pub fn write_out<F: Files>(
     alloc: Global,
     setting: &Setting,
@@ -106,6 +107,7 @@ pub fn write_out<F: Files>(
     place: usize,
 ) -> Result<(), RunEnd>
     requires ready { IsReady setting.now }
+    requires declared { IsDeclared setting.now place }
     requires live { AreOpen (F.state files.old) handles.now }
     requires written { AreWritten (paths_of setting.now) (F.state files.old) handles.now world.old.world.files }
     ensures kept { world.new.program ≡ world.old.program }
@@ -134,6 +136,7 @@ pub fn ready_to_close<F: Files>(
     place: u32,
 ) -> Result<(), RunEnd>
     requires ready { IsReady setting.now }
+    requires declared { IsDeclared setting.now place }
     requires live { AreOpen (F.state files.old) handles.old }
     requires placed { ArePlaced (paths_of setting.now) (F.state files.old) handles.old world.old.world.files }
     ensures kept { world.new.program ≡ world.old.program }
@@ -202,6 +205,7 @@ pub fn ready_to_open<F: Files>(
     opening: Opening,
 ) -> Result<(), RunEnd>
     requires ready { IsReady setting.now }
+    requires declared { IsDeclared setting.now opening.file }
     requires live { AreOpen (F.state files.old) handles.old }
     requires placed { ArePlaced (paths_of setting.now) (F.state files.old) handles.old world.old.world.files }
     ensures tracks { Tracks (F.state files.old) (F.state files.new) handles.old handles.new }
@@ -215,11 +219,9 @@ pub fn ready_to_open<F: Files>(
     ensures opens { OpensOnly world.old.world world.new.world }
     ensures fault { FailsBy opening.output result }
 {
-    let Some(path) = setting.path(opening.file as usize) else {
-        return Err(RunEnd::Memory);
-    };
+    let path = setting.path(opening.file as usize);
     let Some(mode) = world.file_mode(opening.file as usize) else {
-        return Err(RunEnd::Memory);
+        unreachable!();
     };
     if !is_closed(mode) {
         return Ok(());

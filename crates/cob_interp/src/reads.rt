@@ -7,7 +7,7 @@ ghost use Rattle.cob_interp.specs.declared.parts.Call.TheVariants as call;
 ghost use Rattle.cob_interp.specs.declared.ends.RunEnd.TheVariants as end;
 ghost use Rattle.cob_interp.specs.Doing.{ReadsPart};
 ghost use Rattle.cob_interp.specs.Meeting.{FailsBy, IfFailed};
-ghost use Rattle.cob_interp.specs.Readying.{GivesWindow, IsRestOr, IsReadOn, settled};
+ghost use Rattle.cob_interp.specs.Readying.{GivesWindow, IsDeclared, IsRestOr, IsReadOn, settled};
 ghost use Rattle.cob_interp.specs.Running.{Outside, outside, Stands, Arrives};
 ghost use Rattle.cob_interp.specs.Setting.{IsReady, StartsAt, IsCall, IsPlaced, LeadsBy, program_of, paths_of};
 ghost use Rattle.cob_interp.specs.Tracking.{IsHeldFor, AreLeft, AreOpen, ArePlaced, Tracks};
@@ -109,6 +109,7 @@ fn do_window<F: Files>(
     requires ready { IsReady setting.now }
     requires runs { world.old.program ≡ setting.now.program.now }
     requires placed { IsPlaced setting.now place.now }
+    requires declared { IsDeclared setting.now file }
     requires live { AreOpen (F.state files.old) handles.old }
     requires reads { IsHeldFor handles.old file false }
     ensures kept { world.new.program ≡ world.old.program }
@@ -121,9 +122,7 @@ fn do_window<F: Files>(
     ensures still { IfFailed result (world.new.world ≡ world.old.world) }
     ensures on { LeadsBy setting.now place.now.plan_node.now.op result }
 {
-    let Some(size) = setting.size(file as usize) else {
-        return Err(RunEnd::Memory);
-    };
+    let size = setting.size_at(file as usize);
     let window = window_of(alloc, files, handles, file, size, before)?;
     let _ = world.replace_content(file as usize, Some(window), 0);
     let next = do_part(alloc, setting, place, world, step);

@@ -10,7 +10,7 @@ ghost use Rattle.cob_world.specs.Doing.{CanDoProgram};
 ghost use Rattle.cob_interp.specs.declared.ends.Ended.{Ended};
 ghost use Rattle.cob_interp.specs.declared.ends.RunEnd.{RunEnd};
 ghost use Rattle.cob_interp.specs.Meeting.{end_behind};
-ghost use Rattle.cob_interp.specs.Able.{CanBeRun};
+ghost use Rattle.cob_interp.specs.Able.{CanBeRun, HasItsFiles};
 ghost use Rattle.cob_interp.specs.Readying.{IsRefusal, Sees, AreEmptied};
 ghost use Rattle.cob_interp.specs.Running.{Outside, outside, HaltsOff, IsBroken, IfTold, KeepsUnmade, Runs, TellsOfSink};
 ghost use Rattle.cob_interp.specs.Setting.{IsReady, program_of, paths_of, texts};
@@ -238,6 +238,7 @@ fn run_through<F: Files, O: Sink>(
     requires whole { IsWellFormed (plain_program program.now) }
     requires sound { HasWellFormedItems program.now.layout }
     requires able { CanDoProgram (plain_program program.now) }
+    requires files { HasItsFiles (plain_program program.now) }
     requires paths { length paths.now ≡ length program.now.layout.files }
     requires distinct { AreDistinct (texts paths.now) }
     ensures runs { Runs (plain_program program.now) graph.now (texts paths.now) budget

@@ -88,12 +88,15 @@ impl<'b> Setting<'b> {
         }
     }
 
-    /// The path of the file at a place.
-    pub fn path(&self, place: usize) -> Option<&str>
-        ensures { IfSome result (λ path. IsPath self.now place path.now) }
+    /// The path of the file at a place, which is declared.
+    pub fn path(&self, place: usize) -> &str
+        requires ready { IsReady self.now }
+        requires declared { IsDeclared self.now place }
+        ensures { IsPath self.now place result.now }
     {
-        let _decl = self.program.layout.files.get().get(place)?;
-        let path = self.paths.get(place)?;
-        Some(path.as_str())
+        match self.paths.get(place) {
+            Some(path) => path.as_str(),
+            None => unreachable!(),
+        }
     }
 }

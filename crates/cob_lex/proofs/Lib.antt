@@ -4,3 +4,6 @@ pub mod PieceLemmas
 pub mod RowLemmas
 pub mod TokenLemmas
 pub mod SpelledLemmas
+pub mod Most
+pub mod TextLengths
+pub mod TokenCounts

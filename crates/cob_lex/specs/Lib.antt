@@ -6,3 +6,5 @@ pub mod Pieces
 pub mod Spelled
 pub mod Rows
 pub mod Canonical
+pub mod Scan
+pub mod Few

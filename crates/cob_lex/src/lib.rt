@@ -11,14 +11,16 @@ mod laws;
 mod mark;
 mod piece;
 mod row;
+mod scan;
 mod token;
 mod word;
 
 use cob_lines::Mark;
 use cob_tree::Token;
-pub use laws::{one_spelling, spelling_is_read};
+pub use laws::{one_spelling, sources_have_few_tokens, spelling_is_read};
 use piece::{Piece, raw_tokens};
 use row::rewritten;
+pub use scan::{ScanEnd, tokens_in};
 use std::alloc::{AllocError, AllocFailed, Global};
 use token::tokens;
 

@@ -12,7 +12,7 @@ use Rattle.cob_runs.specs.Faults.{◌>>=◌}
 use Rattle.cob_runs.specs.Computing.{worth, Receiving, receiving, received, own_worth, receive, receive_all, remainder_received, has_zero_divisor, after_divisors, after_arithmetic}
 use Rattle.cob_runs.specs.State.{World}
 use Rattle.cob_runs.specs.Acts.{compute}
-use Rattle.cob_runs.specs.Effects.{taken_if, computed}
+use Rattle.cob_runs.specs.Effects.{taken_if, edge_computed}
 use Rattle.cob_plan.specs.declared.end.DoEnd.{DoEnd}
 use Rattle.cob_plan.specs.Doing.{Forks}
 use Rattle.cob_plan.specs.Fitting.{HandlesSize}
@@ -91,7 +91,7 @@ not_taken_by (Ok x) v h e =
 not_taken_by (Err k_) v h e = absurd cc
 
 module _ (p : Program) (number : ℕ) (w v : World) where
-  never : (a : Act) → HandlesSize false a → computed p number None w true a ≡ Ok (Some v) → ⊥
+  never : (a : Act) → HandlesSize false a → edge_computed p number None w true a ≡ Ok (Some v) → ⊥
   never (arith s ts remainder size fine) h e =
       not_taken_by (compute p.layout false s ts remainder w) v (compute_sure p.layout s ts remainder w)
       (subst (λ b. (compute p.layout b s ts remainder w >>= λ x. taken_if x.1 x.0) ≡ Ok (Some v)) h e)
@@ -112,7 +112,7 @@ module _ (p : Program) (number : ℕ) (w v : World) where
   never (show xs) h e = absurd cc
 
   pub first_alone : (a : Act) (r : Result Bool DoEnd) → HandlesSize false a →
-      Forks (computed p number None w false a) (computed p number None w true a) w v r → r ≡ Ok false → ⊥
+      Forks (edge_computed p number None w false a) (edge_computed p number None w true a) w v r → r ≡ Ok false → ⊥
   first_alone a r h forks is =
-      never a h (subst (λ (o : Result Bool DoEnd). Forks (computed p number None w false a)
-      (computed p number None w true a) w v o) is forks)
+      never a h (subst (λ (o : Result Bool DoEnd). Forks (edge_computed p number None w false a)
+      (edge_computed p number None w true a) w v o) is forks)

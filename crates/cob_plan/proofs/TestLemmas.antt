@@ -9,9 +9,8 @@ use Rattle.cob_program.specs.LogicView.{plain_test}
 use Rattle.cob_program.specs.Logic.{Test, always}
 use Rattle.cob_program.specs.Act.{times, Act, perform, Program}
 use Rattle.cob_runs.specs.State.{World}
-use Rattle.cob_runs.specs.Effects.{tests_in_act, decided, tested}
+use Rattle.cob_runs.specs.Effects.{tests_in_act, edge_decided, edge_tested, is_times}
 use Rattle.cob_plan.specs.Listing.{plain_tests}
-use Rattle.cob_plan.specs.Doing.{is_times}
 use Rattle.cob_plan.specs.Fitting.{Tests}
 
 pub found_test : (r : Option (Bor declared_test.Test)) (x : Bor declared_test.Test) (tests : List (Bor declared_test.Test))
@@ -34,6 +33,6 @@ test_there k (perform body (times x)) e h = absurd cc
 test_there k _ e h = h
 
 pub tested_is : (p : Program) (number : ℕ) (w : World) (wanted : Bool) (k : ℕ) (a : Act) → is_times a ≡ false →
-    tested p number None w wanted k a ≡ decided p number None w wanted (slice_get (tests_in_act a) k)
+    edge_tested p number None w wanted k a ≡ edge_decided p number None w wanted (slice_get (tests_in_act a) k)
 tested_is p number w wanted k (perform body (times x)) e = absurd cc
 tested_is p number w wanted k _ e = refl

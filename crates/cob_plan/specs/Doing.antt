@@ -1,7 +1,7 @@
 -- What doing a node's part of its statement comes to.
 use Rattle.std.specs.Prelude.{◌≡◌, ℕ, ◌==◌, ◌&&◌, not, Bool, true, false, Contains, Some, None, Result, Ok, Err}
 use Rattle.cob_tree.specs.declared.fault.Kind.{Kind}
-use Rattle.cob_program.specs.Act.{times, Act, perform, Program}
+use Rattle.cob_program.specs.Act.{Act, Program}
 use Rattle.cob_runs.specs.declared.action.Action.{Action}
 use Rattle.cob_runs.specs.Acts.{is_fine}
 use Rattle.cob_runs.specs.Faults.{◌>>=◌}
@@ -71,11 +71,6 @@ without_error r = r >>= λ x. taken_if (not x.1) x.0
 
 abbrev pub with_error : Result (World × Bool) Kind → Effect
 with_error r = r >>= λ x. taken_if x.1 x.0
-
--- The statement is a loop with TIMES.
-abbrev pub is_times : Act → Bool
-is_times (perform body (times x)) = true
-is_times _ = false
 
 module _ (p : Program) (number k : ℕ) (old new : World) (a : Act) where
   -- OPEN, CLOSE or WRITE of the k-th file of a statement: its status, and whether the file has FILE STATUS

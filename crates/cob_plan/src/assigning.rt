@@ -6,7 +6,7 @@ ghost use Rattle.cob_program.specs.Act as act;
 ghost use Rattle.cob_program.specs.ActView.{plain_act, plain_turns, plain_program};
 ghost use Rattle.cob_runs.specs.State as state;
 ghost use Rattle.cob_runs.specs.Acts.{move, set_varied, into_if, move_if, set_count, show, count_down};
-ghost use Rattle.cob_runs.specs.Effects.{met, taken, assigned, counted, shown};
+ghost use Rattle.cob_runs.specs.Effects.{met, edge_taken, edge_assigned, edge_counted, edge_shown};
 ghost use Rattle.cob_world.specs.Becoming.{Becomes, BecomesBy};
 ghost use Rattle.cob_world.specs.Needs.{IsNumber};
 ghost use Rattle.cob_world.specs.Doing.{CanMoveTo, CanTurn, CanDoAct};
@@ -77,7 +77,7 @@ fn begin_turns(alloc: Global, turns: &Turns, world: &mut World) -> Result<(), Do
     requires varies { IsVarying (plain_turns turns.now) }
     requires able { CanTurn world.old.program.layout (plain_turns turns.now) }
     ensures value { (number : ℕ) (body : act.Body)
-        → Meets (assigned (plain_program world.old.program) number None world.old.world
+        → Meets (edge_assigned (plain_program world.old.program) number None world.old.world
         (act.perform body (plain_turns turns.now))) world.old.world world.new.world result }
     ensures kept { world.new.program ≡ world.old.program }
 {
@@ -88,7 +88,7 @@ fn begin_turns(alloc: Global, turns: &Turns, world: &mut World) -> Result<(), Do
 }
 
 fn move_into(file: u32, into: Option<u32>, world: &mut World) -> Result<(), DoEnd>
-    ensures value { Meets (taken (into_if world.old.program.layout file into world.old.world)) world.old.world
+    ensures value { Meets (edge_taken (into_if world.old.program.layout file into world.old.world)) world.old.world
         world.new.world result }
     ensures kept { world.new.program ≡ world.old.program }
 {
@@ -100,7 +100,7 @@ fn move_into(file: u32, into: Option<u32>, world: &mut World) -> Result<(), DoEn
 pub fn assign(alloc: Global, act: &Act, world: &mut World) -> Result<(), DoEnd>
     requires fits { Assigns (plain_act act.now) }
     requires able { CanDoAct world.old.program.layout (plain_act act.now) }
-    ensures value { (number : ℕ) → Meets (assigned (plain_program world.old.program) number None world.old.world
+    ensures value { (number : ℕ) → Meets (edge_assigned (plain_program world.old.program) number None world.old.world
         (plain_act act.now))
         world.old.world world.new.world result }
     ensures kept { world.new.program ≡ world.old.program }
@@ -119,7 +119,7 @@ pub fn assign(alloc: Global, act: &Act, world: &mut World) -> Result<(), DoEnd>
 fn count_turns(number: u32, turns: &Turns, world: &mut World) -> Result<(), DoEnd>
     requires times { IsTimes (plain_turns turns.now) }
     requires able { CanTurn world.old.program.layout (plain_turns turns.now) }
-    ensures value { (body : act.Body) → Meets (counted (plain_program world.old.program) number None world.old.world
+    ensures value { (body : act.Body) → Meets (edge_counted (plain_program world.old.program) number None world.old.world
         (act.perform body (plain_turns turns.now))) world.old.world world.new.world result }
     ensures kept { world.new.program ≡ world.old.program }
 {
@@ -133,7 +133,7 @@ fn count_turns(number: u32, turns: &Turns, world: &mut World) -> Result<(), DoEn
 pub fn set_count(number: u32, act: &Act, world: &mut World) -> Result<(), DoEnd>
     requires fits { Counts (plain_act act.now) }
     requires able { CanDoAct world.old.program.layout (plain_act act.now) }
-    ensures value { Meets (counted (plain_program world.old.program) number None world.old.world (plain_act act.now))
+    ensures value { Meets (edge_counted (plain_program world.old.program) number None world.old.world (plain_act act.now))
         world.old.world world.new.world result }
     ensures kept { world.new.program ≡ world.old.program }
 {
@@ -145,7 +145,7 @@ pub fn set_count(number: u32, act: &Act, world: &mut World) -> Result<(), DoEnd>
 
 /// One turn fewer of a loop with TIMES is left.
 pub fn count_down(number: u32, world: &mut World) -> Result<(), DoEnd>
-    ensures value { Meets (taken (count_down world.old.program.layout number world.old.world)) world.old.world
+    ensures value { Meets (edge_taken (count_down world.old.program.layout number world.old.world)) world.old.world
         world.new.world result }
     ensures kept { world.new.program ≡ world.old.program }
 {
@@ -156,7 +156,7 @@ pub fn count_down(number: u32, world: &mut World) -> Result<(), DoEnd>
 // ---- shown text
 
 fn show_all(senders: &[Sender], world: &mut World) -> Result<(), DoEnd>
-    ensures value { Meets (taken (show world.old.program.layout senders.now world.old.world)) world.old.world
+    ensures value { Meets (edge_taken (show world.old.program.layout senders.now world.old.world)) world.old.world
         world.new.world result }
     ensures kept { world.new.program ≡ world.old.program }
 {
@@ -167,7 +167,7 @@ fn show_all(senders: &[Sender], world: &mut World) -> Result<(), DoEnd>
 /// DISPLAY.
 pub fn show(act: &Act, world: &mut World) -> Result<(), DoEnd>
     requires fits { Shows (plain_act act.now) }
-    ensures value { (number : ℕ) → Meets (shown (plain_program world.old.program) number None world.old.world
+    ensures value { (number : ℕ) → Meets (edge_shown (plain_program world.old.program) number None world.old.world
         (plain_act act.now))
         world.old.world world.new.world result }
     ensures kept { world.new.program ≡ world.old.program }

@@ -5,8 +5,9 @@ ghost use Rattle.cob_program.specs.ActView.{plain_act, plain_turns, plain_progra
 ghost use Rattle.cob_program.specs.SumView.{plain_sum};
 ghost use Rattle.cob_runs.specs.Acts.{compute, augment};
 ghost use Rattle.cob_runs.specs.Steps.{is_given};
-ghost use Rattle.cob_runs.specs.Effects.{met, not_taken, computed};
-ghost use Rattle.cob_calc.specs.Arithmetic.{CanCompute, is_number_form};
+ghost use Rattle.cob_runs.specs.Effects.{met, not_taken, edge_computed};
+ghost use Rattle.cob_calc.specs.Arithmetic.{CanCompute};
+ghost use Rattle.cob_runs.specs.Deciding.{is_number_form};
 ghost use Rattle.cob_runs.specs.Contents.{form_at};
 ghost use Rattle.cob_world.specs.Needs.{IsNumber};
 ghost use Rattle.cob_world.specs.Doing.{CanTurn, CanDoAct};
@@ -68,9 +69,9 @@ fn augment_turns(turns: &Turns, world: &mut World) -> Result<bool, DoEnd>
     requires varies { IsVarying (plain_turns turns.now) }
     requires able { CanTurn world.old.program.layout (plain_turns turns.now) }
     ensures value { (number : ℕ) (body : act.Body) → Forks
-        (computed (plain_program world.old.program) number None world.old.world false
+        (edge_computed (plain_program world.old.program) number None world.old.world false
         (act.perform body (plain_turns turns.now)))
-        (computed (plain_program world.old.program) number None world.old.world true
+        (edge_computed (plain_program world.old.program) number None world.old.world true
         (act.perform body (plain_turns turns.now)))
         world.old.world world.new.world result }
     ensures kept { world.new.program ≡ world.old.program }
@@ -86,8 +87,8 @@ pub fn compute(act: &Act, world: &mut World) -> Result<bool, DoEnd>
     requires fits { Computes (plain_act act.now) }
     requires able { CanDoAct world.old.program.layout (plain_act act.now) }
     ensures value { (number : ℕ) → Forks
-        (computed (plain_program world.old.program) number None world.old.world false (plain_act act.now))
-        (computed (plain_program world.old.program) number None world.old.world true (plain_act act.now))
+        (edge_computed (plain_program world.old.program) number None world.old.world false (plain_act act.now))
+        (edge_computed (plain_program world.old.program) number None world.old.world true (plain_act act.now))
         world.old.world world.new.world result }
     ensures kept { world.new.program ≡ world.old.program }
 {

@@ -6,11 +6,11 @@ ghost use Rattle.cob_program.specs.ActView.{plain_act, plain_turns, plain_progra
 ghost use Rattle.cob_program.specs.LogicView.{plain_test};
 ghost use Rattle.cob_runs.specs.Acts.{count_of};
 ghost use Rattle.cob_runs.specs.Steps.{is_left};
-ghost use Rattle.cob_runs.specs.Effects.{decided, tested, tests_in_act};
+ghost use Rattle.cob_runs.specs.Effects.{edge_decided, edge_tested, tests_in_act, is_times};
 ghost use Rattle.cob_calc.specs.Comparing.{CanTest};
 ghost use Rattle.cob_plan.specs.Listing.{plain_tests};
 ghost use Rattle.cob_plan.specs.Plan.{IsStatement};
-ghost use Rattle.cob_plan.specs.Doing.{Forks, is_times};
+ghost use Rattle.cob_plan.specs.Doing.{Forks};
 ghost use Rattle.cob_plan.specs.Fitting.{Tests};
 
 use crate::end::DoEnd;
@@ -30,8 +30,8 @@ fn test_at<'b>(statement: &'b Statement, place: u32) -> Option<&'b Test>
 fn decide(test: &Test, world: &World) -> Result<bool, DoEnd>
     requires able { CanTest world.now.program.layout (plain_test test.now) }
     ensures { (number : ℕ) → Forks
-        (decided (plain_program world.now.program) number None world.now.world true (Some (plain_test test.now)))
-        (decided (plain_program world.now.program) number None world.now.world false (Some (plain_test test.now)))
+        (edge_decided (plain_program world.now.program) number None world.now.world true (Some (plain_test test.now)))
+        (edge_decided (plain_program world.now.program) number None world.now.world false (Some (plain_test test.now)))
         world.now.world world.now.world result }
 {
     match world.test(test) {
@@ -45,9 +45,9 @@ fn decide_at(statement: &Statement, place: u32, world: &World) -> Result<bool, D
     requires its { IsStatement (plain_program world.now.program) statement.now }
     requires there { place < length (tests_in_act (plain_act statement.now.act.now)) }
     ensures { (number : ℕ) → Forks
-        (decided (plain_program world.now.program) number None world.now.world true
+        (edge_decided (plain_program world.now.program) number None world.now.world true
         (slice_get (tests_in_act (plain_act statement.now.act.now)) place))
-        (decided (plain_program world.now.program) number None world.now.world false
+        (edge_decided (plain_program world.now.program) number None world.now.world false
         (slice_get (tests_in_act (plain_act statement.now.act.now)) place))
         world.now.world world.now.world result }
 {
@@ -59,8 +59,7 @@ fn decide_at(statement: &Statement, place: u32, world: &World) -> Result<bool, D
 
 // Whether turns are left.
 fn is_left(number: u32, world: &World) -> bool
-    ensures { result ≡ is_left (plain_program world.now.program) None
-        (count_of world.now.program.layout number world.now.world) }
+    ensures { result ≡ is_left (count_of number world.now.world) }
 {
     match world.count_of(number) {
         None => false,
@@ -91,9 +90,9 @@ pub fn test(statement: &Statement, place: u32, world: &World) -> Result<bool, Do
     requires its { IsStatement (plain_program world.now.program) statement.now }
     requires fits { Tests place (plain_act statement.now.act.now) }
     ensures { Forks
-        (tested (plain_program world.now.program) statement.now.number None world.now.world true place
+        (edge_tested (plain_program world.now.program) statement.now.number None world.now.world true place
         (plain_act statement.now.act.now))
-        (tested (plain_program world.now.program) statement.now.number None world.now.world false place
+        (edge_tested (plain_program world.now.program) statement.now.number None world.now.world false place
         (plain_act statement.now.act.now))
         world.now.world world.now.world result }
 {

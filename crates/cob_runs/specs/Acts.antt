@@ -25,6 +25,10 @@ use Rattle.cob_runs.specs.State.{World, with_storage, with_counts, with_files, w
 abbrev pub is_fine : ℕ → Bool
 is_fine status = status == 0
 
+-- the count of a statement, whose numbers begin with 1
+abbrev pub count_of : ℕ → World → Option ℤ
+count_of statement w = option_map_or (λ c. c) (slice_get w.counts (statement - 1)) None
+
 module _ (l : Layout) where
   abbrev pub move : Sender → List ℕ → World → Result World Kind
   move x places w = after_move l w.storage x places >>= λ storage. Ok (with_storage w storage)
@@ -38,10 +42,6 @@ module _ (l : Layout) where
   show xs w = with_shown w (line_of l w.storage xs)
 
   -- ---- loops
-
-  -- the count of a statement, whose numbers begin with 1
-  abbrev pub count_of : ℕ → World → Option ℤ
-  count_of statement w = option_map_or (λ c. c) (slice_get w.counts (statement - 1)) None
 
   abbrev pub with_count : ℕ → ℤ → World → World
   with_count statement n w = with_counts w (slice_set w.counts (statement - 1) (Some n))

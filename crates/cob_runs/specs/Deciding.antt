@@ -58,6 +58,15 @@ text_order a b = bytes_order (fitted (max (length a) (length b)) a) (fitted (max
 
 -- ---- relations
 
+-- how many characters an item of this form has beside text
+abbrev pub form_length : Form → ℕ → ℕ
+form_length (form.Number digits scale signed kept) n = digits
+form_length f n = n
+
+abbrev pub is_number_form : Form → Bool
+is_number_form (form.Number digits scale signed kept) = true
+is_number_form _ = false
+
 module _ (l : Layout) (storage : List ℕ) where
   abbrev pub decided : Rel → Option Scaled → Option Scaled → Result Bool Kind
   decided r a b = or_fault kind.Zero a >>= λ x. or_fault kind.Zero b >>= λ y. Ok (holds r (number_order x y))
@@ -68,10 +77,6 @@ module _ (l : Layout) (storage : List ℕ) where
       if are_numeric l storage (items_in a) && are_numeric l storage (items_in b)
       then decided r (sum_value (worth l storage) a) (sum_value (worth l storage) b)
       else Err kind.Class
-
-  abbrev pub form_length : Form → ℕ → ℕ
-  form_length (form.Number digits scale signed kept) n = digits
-  form_length f n = n
 
   -- how long a side is as text; figurative constants take the other side's length
   abbrev pub side_length : Sender → ℕ → ℕ
@@ -88,10 +93,6 @@ module _ (l : Layout) (storage : List ℕ) where
       Ok (holds r (text_order x y))
 
   -- ---- ranges
-
-  abbrev pub is_number_form : Form → Bool
-  is_number_form (form.Number digits scale signed kept) = true
-  is_number_form _ = false
 
   abbrev pub is_number_end : Sender → Bool
   is_number_end (sender.Number n) = true

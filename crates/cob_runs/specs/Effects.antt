@@ -26,36 +26,41 @@ abbrev pub if_same : {A : Type 0} → ℕ → ℕ → A → Option A → Option 
 if_same n m a other = if n == m then Some a else other
 
 abbrev mutual
-  pub found : ℕ → Stmts → Option Act
-  found n no_stmts = None
-  found n (more_stmts (MkStmt m line a) ss) = if_same n m a (or_else (found_in n a) (found n ss))
+  pub act_among : ℕ → Stmts → Option Act
+  act_among n no_stmts = None
+  act_among n (more_stmts (MkStmt m line a) ss) = if_same n m a (or_else (act_below n a) (act_among n ss))
 
-  pub found_phrase : ℕ → Phrase → Option Act
-  found_phrase n left_out = None
-  found_phrase n (given ss) = found n ss
+  pub act_in_phrase : ℕ → Phrase → Option Act
+  act_in_phrase n left_out = None
+  act_in_phrase n (given ss) = act_among n ss
 
-  pub found_in : ℕ → Act → Option Act
-  found_in n (arith s targets remainder size fine) = or_else (found_phrase n size) (found n fine)
-  found_in n (if_ t held other) = or_else (found n held) (found n other)
-  found_in n (evaluate ws other) = or_else (found_whens n ws) (found n other)
-  found_in n (perform body turns) = found_body n body
-  found_in n (read f into end fine) = or_else (found_phrase n end) (found n fine)
-  found_in n _ = None
+  pub act_below : ℕ → Act → Option Act
+  act_below n (arith s targets remainder size fine) = or_else (act_in_phrase n size) (act_among n fine)
+  act_below n (if_ t held other) = or_else (act_among n held) (act_among n other)
+  act_below n (evaluate ws other) = or_else (act_in_whens n ws) (act_among n other)
+  act_below n (perform body turns) = act_in_body n body
+  act_below n (read f into end fine) = or_else (act_in_phrase n end) (act_among n fine)
+  act_below n _ = None
 
-  pub found_whens : ℕ → Whens → Option Act
-  found_whens n no_whens = None
-  found_whens n (more_whens (MkWhen tests ss) ws) = or_else (found n ss) (found_whens n ws)
+  pub act_in_whens : ℕ → Whens → Option Act
+  act_in_whens n no_whens = None
+  act_in_whens n (more_whens (MkWhen tests ss) ws) = or_else (act_among n ss) (act_in_whens n ws)
 
-  pub found_body : ℕ → Body → Option Act
-  found_body n (range first last) = None
-  found_body n (inline ss) = found n ss
+  pub act_in_body : ℕ → Body → Option Act
+  act_in_body n (range first last) = None
+  act_in_body n (inline ss) = act_among n ss
 
-abbrev pub found_among : ℕ → List Para → Option Act
-found_among n [] = None
-found_among n (x ∷ xs) = or_else (found n x.body) (found_among n xs)
+abbrev pub act_in_paras : ℕ → List Para → Option Act
+act_in_paras n [] = None
+act_in_paras n (x ∷ xs) = or_else (act_among n x.body) (act_in_paras n xs)
 
 abbrev pub act_at : Program → ℕ → Option Act
-act_at p n = found_among n p.paras
+act_at p n = act_in_paras n p.paras
+
+-- a loop with TIMES
+abbrev pub is_times : Act → Bool
+is_times (perform body (times x)) = true
+is_times _ = false
 
 -- ---- the simple conditions of a statement, in the order of its nodes
 
@@ -94,67 +99,67 @@ tests_in_act _ = []
 abbrev pub Effect : Type 0
 Effect = Result (Option World) Kind
 
-abbrev pub taken : World → Effect
-taken w = Ok (Some w)
+abbrev pub edge_taken : World → Effect
+edge_taken w = Ok (Some w)
 
 abbrev pub not_taken : Effect
 not_taken = Ok None
 
 abbrev pub taken_if : Bool → World → Effect
-taken_if true w = taken w
+taken_if true w = edge_taken w
 taken_if false w = not_taken
 
 abbrev pub met : Result World Kind → Effect
-met r = r >>= taken
+met r = r >>= edge_taken
 
 module _ (p : Program) (number : ℕ) (c : Choice) (w : World) where
-  abbrev pub assigned : Act → Effect
-  assigned (act.move x places) = met (move p.layout x places w)
-  assigned (perform body (varying after item start by t)) = met (set_varied p.layout item start w)
-  assigned (read f into end fine) = taken (into_if p.layout f into w)
-  assigned (write r from) = met (move_if p.layout from r w)
-  assigned _ = not_taken
+  abbrev pub edge_assigned : Act → Effect
+  edge_assigned (act.move x places) = met (move p.layout x places w)
+  edge_assigned (perform body (varying after item start by t)) = met (set_varied p.layout item start w)
+  edge_assigned (read f into end fine) = edge_taken (into_if p.layout f into w)
+  edge_assigned (write r from) = met (move_if p.layout from r w)
+  edge_assigned _ = not_taken
 
-  abbrev pub computed : Bool → Act → Effect
-  computed failed (arith s targets remainder size fine) =
+  abbrev pub edge_computed : Bool → Act → Effect
+  edge_computed failed (arith s targets remainder size fine) =
       compute p.layout (is_given size) s targets remainder w >>= λ x. taken_if (if failed then x.1 else not x.1) x.0
-  computed false (perform body (varying after item start by t)) = met (augment p.layout item by w)
-  computed failed _ = not_taken
+  edge_computed false (perform body (varying after item start by t)) = met (augment p.layout item by w)
+  edge_computed failed _ = not_taken
 
-  abbrev pub decided : Bool → Option Test → Effect
-  decided wanted None = not_taken
-  decided wanted (Some t) = test_holds p.layout w.storage t >>= λ b. taken_if (if wanted then b else not b) w
+  abbrev pub edge_decided : Bool → Option Test → Effect
+  edge_decided wanted None = not_taken
+  edge_decided wanted (Some t) = test_holds p.layout w.storage t >>= λ b. taken_if (if wanted then b else not b) w
 
   -- the test of TIMES, or a simple condition
-  abbrev pub tested : Bool → ℕ → Act → Effect
-  tested wanted k (perform body (times x)) =
-      taken_if (if wanted then is_left p c (count_of p.layout number w) else not (is_left p c (count_of p.layout number w))) w
-  tested wanted k a = decided wanted (slice_get (tests_in_act a) k)
+  abbrev pub edge_tested : Bool → ℕ → Act → Effect
+  edge_tested wanted k (perform body (times x)) =
+      taken_if (if wanted then is_left (count_of number w) else not (is_left (count_of number w))) w
+  edge_tested wanted k a = edge_decided wanted (slice_get (tests_in_act a) k)
 
-  abbrev pub counted : Act → Effect
-  counted (perform body (times x)) = met (set_count p.layout number x w)
-  counted _ = not_taken
+  abbrev pub edge_counted : Act → Effect
+  edge_counted (perform body (times x)) = met (set_count p.layout number x w)
+  edge_counted _ = not_taken
 
   -- a call on a file, where its status is as the edge says
   abbrev pub by_status : Bool → World × ℕ → Effect
   by_status fine x = taken_if (if fine then is_fine x.1 else not (is_fine x.1)) x.0
 
-  abbrev pub opened : Bool → Option Opening → Effect
-  opened fine None = not_taken
-  opened fine (Some o) = by_status fine (open_one p.layout o w)
+  abbrev pub edge_opened : Bool → Option Opening → Effect
+  edge_opened fine None = not_taken
+  edge_opened fine (Some o) = by_status fine (open_one p.layout o w)
 
-  abbrev pub closed : Bool → Option ℕ → Effect
-  closed fine None = not_taken
-  closed fine (Some f) = by_status fine (close_one p.layout f w)
+  abbrev pub edge_closed : Bool → Option ℕ → Effect
+  edge_closed fine None = not_taken
+  edge_closed fine (Some f) = by_status fine (close_one p.layout f w)
 
-  abbrev pub wrote : Bool → ℕ → Option ℕ → Effect
-  wrote fine r None = not_taken
-  wrote fine r (Some f) = by_status fine (write_one p.layout c f r w)
+  abbrev pub edge_wrote : Bool → ℕ → Option ℕ → Effect
+  edge_wrote fine r None = not_taken
+  edge_wrote fine r (Some f) = by_status fine (write_one p.layout c f r w)
 
   abbrev pub file_call : Bool → ℕ → Act → Effect
-  file_call fine k (open_files os) = opened fine (slice_get os k)
-  file_call fine k (close_files fs) = closed fine (slice_get fs k)
-  file_call fine k (write r from) = wrote fine r (file_from p.layout 0 p.layout.files r)
+  file_call fine k (open_files os) = edge_opened fine (slice_get os k)
+  file_call fine k (close_files fs) = edge_closed fine (slice_get fs k)
+  file_call fine k (write r from) = edge_wrote fine r (file_from p.layout 0 p.layout.files r)
   file_call fine k _ = not_taken
 
   abbrev pub ended_with : ℕ → World × ℕ → Effect
@@ -172,26 +177,26 @@ module _ (p : Program) (number : ℕ) (c : Choice) (w : World) where
   read_with status (read f into end fine) = ended_with status (take_one p.layout c f w)
   read_with status _ = not_taken
 
-  abbrev pub shown : Act → Effect
-  shown (act.show xs) = taken (show p.layout xs w)
-  shown _ = not_taken
+  abbrev pub edge_shown : Act → Effect
+  edge_shown (act.show xs) = edge_taken (show p.layout xs w)
+  edge_shown _ = not_taken
 
   abbrev pub effect_of : Action → Act → Effect
-  effect_of action.Skip a = taken w
-  effect_of action.Assign a = assigned a
-  effect_of action.Done a = computed false a
-  effect_of action.Size a = computed true a
-  effect_of (action.True k) a = tested true k a
-  effect_of (action.False k) a = tested false k a
-  effect_of action.SetCount a = counted a
-  effect_of action.Down a = taken (count_down p.layout number w)
+  effect_of action.Skip a = edge_taken w
+  effect_of action.Assign a = edge_assigned a
+  effect_of action.Done a = edge_computed false a
+  effect_of action.Size a = edge_computed true a
+  effect_of (action.True k) a = edge_tested true k a
+  effect_of (action.False k) a = edge_tested false k a
+  effect_of action.SetCount a = edge_counted a
+  effect_of action.Down a = edge_taken (count_down p.layout number w)
   effect_of (action.Open k) a = file_call true k a
   effect_of (action.Close k) a = file_call true k a
   effect_of action.Take a = read_with 0 a
   effect_of action.AtEnd a = read_with 10 a
   effect_of (action.Bad k) a = called_bad k a
   effect_of action.Write a = file_call true 0 a
-  effect_of action.Show a = shown a
+  effect_of action.Show a = edge_shown a
 
   -- what the edge does where the run is at its node, or the fault that the statement meets there
   abbrev pub effect : Action → Effect
@@ -199,15 +204,15 @@ module _ (p : Program) (number : ℕ) (c : Choice) (w : World) where
 
   -- ---- the status that a call on a file gives
 
-  abbrev pub status_in : {A : Type 0} → Option A → (A → World × ℕ) → Option ℕ
-  status_in None call = None
-  status_in (Some a) call = Some (call a).1
+  abbrev pub status_if : {A : Type 0} → Option A → (A → World × ℕ) → Option ℕ
+  status_if None call = None
+  status_if (Some a) call = Some (call a).1
 
   abbrev pub status_by : ℕ → Act → Option ℕ
-  status_by k (open_files os) = status_in (slice_get os k) (λ o. open_one p.layout o w)
-  status_by k (close_files fs) = status_in (slice_get fs k) (λ f. close_one p.layout f w)
+  status_by k (open_files os) = status_if (slice_get os k) (λ o. open_one p.layout o w)
+  status_by k (close_files fs) = status_if (slice_get fs k) (λ f. close_one p.layout f w)
   status_by k (read f into end fine) = Some (take_one p.layout c f w).1
-  status_by k (write r from) = status_in (file_from p.layout 0 p.layout.files r) (λ f. write_one p.layout c f r w)
+  status_by k (write r from) = status_if (file_from p.layout 0 p.layout.files r) (λ f. write_one p.layout c f r w)
   status_by k _ = None
 
   -- The status of the edge at the end of a file, and of one with another status.

@@ -30,13 +30,17 @@ is_group _ = false
 abbrev pub as_digits : ℕ → Scaled → List ℕ
 as_digits digits v = digit_text (last_digits digits (unsigned_abs v.units))
 
-module _ (l : Layout) (storage : List ℕ) where
-  -- an item's contents beside text: a numeric item's picture's digits, if it is numeric
-  abbrev pub item_text : Form → List ℕ → Option (List ℕ)
-  item_text (form.Number digits scale signed kept) bytes =
-      option_map (as_digits digits) (number_in (form.Number digits scale signed kept) bytes)
-  item_text f bytes = Some bytes
+-- an item's contents beside text: a numeric item's picture's digits, if it is numeric
+abbrev pub item_text : Form → List ℕ → Option (List ℕ)
+item_text (form.Number digits scale signed kept) bytes =
+    option_map (as_digits digits) (number_in (form.Number digits scale signed kept) bytes)
+item_text f bytes = Some bytes
 
+abbrev pub is_group_sender : Layout → Sender → Bool
+is_group_sender l (sender.Item place) = is_group (form_at l place)
+is_group_sender l _ = false
+
+module _ (l : Layout) (storage : List ℕ) where
   abbrev pub number_of : Sender → Option Scaled
   number_of (sender.Item place) = number_at l storage place
   number_of (sender.Number n) = Some (literal n)
@@ -57,10 +61,6 @@ module _ (l : Layout) (storage : List ℕ) where
   raw_text n (sender.Item place) = Some (bytes_at l storage place)
   raw_text n x = text_of n x
 
-  abbrev pub is_group_sender : Sender → Bool
-  is_group_sender (sender.Item place) = is_group (form_at l place)
-  is_group_sender _ = false
-
   abbrev pub moved_number : Form → Sender → Result (List ℕ) Kind
   moved_number f x = or_fault kind.Class (number_of x) >>= λ v. or_fault kind.Truncation (stored Trunc f (value_of v))
 
@@ -76,8 +76,10 @@ module _ (l : Layout) (storage : List ℕ) where
   abbrev pub moved : Form → ℕ → Sender → Result (List ℕ) Kind
   moved form.Group n x = moved_text n (raw_text n x)
   moved (form.Text k) n x = moved_text n (text_of n x)
-  moved (form.Number digits scale signed kept) n x = moved_amount (is_group_sender x) (form.Number digits scale signed kept) n x
-  moved (form.Edited picture digits scale) n x = moved_amount (is_group_sender x) (form.Edited picture digits scale) n x
+  moved (form.Number digits scale signed kept) n x =
+      moved_amount (is_group_sender l x) (form.Number digits scale signed kept) n x
+  moved (form.Edited picture digits scale) n x =
+      moved_amount (is_group_sender l x) (form.Edited picture digits scale) n x
 
   -- From left to right. The sender is what it was at first.
   abbrev pub moved_to : List ℕ → Sender → List ℕ → Result (List ℕ) Kind

@@ -56,6 +56,18 @@ abbrev pub is_given : Phrase → Bool
 is_given left_out = false
 is_given (given ss) = true
 
+-- whether a turn of TIMES is left
+abbrev pub is_left : Option ℤ → Bool
+is_left (Some (pos (suc n))) = true
+is_left _ = false
+
+-- the number of the statement that something to do belongs to
+abbrev pub number_of : Doing → ℕ
+number_of (rest (more_stmts (MkStmt number line a) ss)) = number
+number_of (testing number body turns) = number
+number_of (augmenting number body turns) = number
+number_of _ = 0
+
 -- ---- files
 
 -- A status that nothing handles goes on where the file has FILE STATUS, and else ends the run.
@@ -103,10 +115,6 @@ module _ (p : Program) (c : Choice) where
   loop_begun number body (varying true item start by t) w ds =
       set_varied p.layout item start w >>= λ v. Ok (going v (body_of body ∷ testing number body (varying true item start by t) ∷ ds))
 
-  abbrev pub is_left : Option ℤ → Bool
-  is_left (Some (pos (suc n))) = true
-  is_left _ = false
-
   -- what a loop does where it goes on
   abbrev pub turn : ℕ → Body → Turns → List Doing → List Doing
   turn number body once ds = ds
@@ -120,7 +128,7 @@ module _ (p : Program) (c : Choice) where
   -- whether a loop goes on
   abbrev pub goes_on : ℕ → Turns → World → Result Bool Kind
   goes_on number once w = Ok false
-  goes_on number (times x) w = Ok (is_left (count_of p.layout number w))
+  goes_on number (times x) w = Ok (is_left (count_of number w))
   goes_on number (until after t) w = logic_holds p.layout w.storage t >>= λ b. Ok (if b then false else true)
   goes_on number (varying after item start by t) w = logic_holds p.layout w.storage t >>= λ b. Ok (if b then false else true)
 
@@ -161,13 +169,6 @@ module _ (p : Program) (c : Choice) where
 
   abbrev pub first_done : Stmt → World → List Doing → Result State Kind
   first_done (MkStmt number line a) w ds = done number a w ds
-
-  -- the number of the statement that something to do belongs to
-  abbrev pub number_of : Doing → ℕ
-  number_of (rest (more_stmts (MkStmt number line a) ss)) = number
-  number_of (testing number body turns) = number
-  number_of (augmenting number body turns) = number
-  number_of _ = 0
 
   abbrev pub front_done : Doing → World → List Doing → Result State Kind
   front_done (rest no_stmts) w ds = Ok (going w ds)

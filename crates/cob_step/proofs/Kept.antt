@@ -243,7 +243,7 @@ module _ (p : Program) (able : CanDoProgram p) where
 
     pub can_step_on : (s : State) (ds : List Doing) → CanGoOn s → CanDoAll p.layout ds → CanGoOn (step_on p c s ds)
     can_step_on s [] h x = tt
-    can_step_on s (d ∷ ds) h (a, as_) = can_go_behind s (number_of p c d) (front_done p c d s.world ds) h
+    can_step_on s (d ∷ ds) h (a, as_) = can_go_behind s (number_of d) (front_done p c d s.world ds) h
         (can_do_front d s.world ds a as_)
 
     -- what a step makes of a run can be done too

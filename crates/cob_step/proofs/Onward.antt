@@ -46,17 +46,17 @@ onto (Err x) t a b e h = tt
 -- ---- a step
 
 module _ (p : Program) (c : Choice) (s : State) (d : Doing) (ds : List Doing) (front : s.control ≡ d ∷ ds) where
-  front_is : step_on p c s s.control ≡ faulty_or p c s (number_of p c d) (front_done p c d s.world ds)
+  front_is : step_on p c s s.control ≡ faulty_or p c s (number_of d) (front_done p c d s.world ds)
   front_is = ap (λ es. step_on p c s es) front
 
   pub step_done : (next : State) → front_done p c d s.world ds ≡ Ok next →
       step_on p c s s.control ≡ settled_state p c next
-  step_done next e = front_is ∙ ap (λ r. faulty_or p c s (number_of p c d) r) e
+  step_done next e = front_is ∙ ap (λ r. faulty_or p c s (number_of d) r) e
 
   pub step_broken : (kind : Kind) → front_done p c d s.world ds ≡ Err kind →
-      step_on p c s s.control ≡ state s.world (d ∷ ds) (Fault kind (number_of p c d))
-  step_broken kind e = front_is ∙ ap (λ r. faulty_or p c s (number_of p c d) r) e
-      ∙ ap (λ es. state s.world es (Fault kind (number_of p c d))) front
+      step_on p c s s.control ≡ state s.world (d ∷ ds) (Fault kind (number_of d))
+  step_broken kind e = front_is ∙ ap (λ r. faulty_or p c s (number_of d) r) e
+      ∙ ap (λ es. state s.world es (Fault kind (number_of d))) front
 
 pub step_is : (p : Program) (c : Choice) (s : State) → s.outcome ≡ Going → step_on p c s s.control ≡ step p c s
 step_is p c s going_ = ap (λ o. step_in p c o s) (sym going_)

@@ -41,7 +41,7 @@ pub enum Todo<'a> {
 impl Todo<'_> {
     /// The number of the statement to which it belongs, 0 where there is none.
     pub fn number(&self) -> u32
-        ensures { (p : act.Program) (c : Choice) → result ≡ number_of p c (plain_doing self.now) }
+        ensures { result ≡ number_of (plain_doing self.now) }
     {
         match self {
             Todo::Rest([stmt, ..]) => stmt.number,

@@ -23,7 +23,7 @@ use std::alloc::{AllocError, Global};
 
 // Whether a turn is left.
 fn is_left(count: Option<i64>) -> bool
-    ensures { (p : act.Program) (c : Choice) → result ≡ is_left p c count }
+    ensures { result ≡ is_left count }
 {
     match count {
         None => false,

@@ -2,7 +2,6 @@
 ghost use Rattle.std.specs.Prelude.{◌≡◌, ◌∷◌, [], length, map, IfOk};
 ghost use Rattle.std.specs.Option.{option_map};
 ghost use Rattle.std.specs.Result.{OnOk};
-ghost use Rattle.cob_program.specs.Act as act;
 ghost use Rattle.cob_program.specs.ActView.{plain_program};
 ghost use Rattle.cob_runs.specs.Files.{Choice};
 ghost use Rattle.cob_runs.specs.Runs.{begin};
@@ -107,9 +106,9 @@ impl<'a> Run<'a> {
 
     // A step that met a fault changes nothing but the outcome.
     fn fail(&mut self, front: Todo<'a>, kind: Kind) -> Result<(), AllocError>
-        ensures done { (p : act.Program) (c : Choice) → OnOk result (plain_run self.new
+        ensures done { OnOk result (plain_run self.new
             ≡ state self.old.world.world (plain_doing front.entry ∷ plain_control self.old.control)
-            (Outcome.Fault kind (number_of p c (plain_doing front.entry)))) }
+            (Outcome.Fault kind (number_of (plain_doing front.entry)))) }
         ensures kept { self.new.world ≡ self.old.world }
     {
         let statement = front.number();

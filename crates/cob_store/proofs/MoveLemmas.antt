@@ -145,13 +145,13 @@ moved_to-cause l s x ps now end.Memory is = tt
 
 -- ---- one receiver that takes a number
 
-fits_number : (l : Layout) (s : List ℕ) (x : Sender) (f : Form) (n : ℕ) → IsTrue (takes_number f) → is_group_sender l s x ≡ false → moved l s f n x ≡ moved_number l s f x
+fits_number : (l : Layout) (s : List ℕ) (x : Sender) (f : Form) (n : ℕ) → IsTrue (takes_number f) → is_group_sender l x ≡ false → moved l s f n x ≡ moved_number l s f x
 fits_number l s x form.Group n takes single = absurd cc
 fits_number l s x (form.Text k) n takes single = absurd cc
 fits_number l s x (form.Number digits scale signed kept) n takes single = ap (λ g. moved_amount l s g (form.Number digits scale signed kept) n x) single
 fits_number l s x (form.Edited picture digits scale) n takes single = ap (λ g. moved_amount l s g (form.Edited picture digits scale) n x) single
 
-module _ (l : Layout) (s : List ℕ) (x : Sender) (p : ℕ) (takes : IsTrue (takes_number (form_at l p))) (single : is_group_sender l s x ≡ false) where
+module _ (l : Layout) (s : List ℕ) (x : Sender) (p : ℕ) (takes : IsTrue (takes_number (form_at l p))) (single : is_group_sender l x ≡ false) where
   moved_by : (o : Option Scaled) → o ≡ number_of l s x
       → moved_to l s s x (p ∷ []) ≡ (or_fault kind.Class o >>= λ v. or_fault kind.Truncation (stored Trunc (form_at l p) (value_of v)) >>= λ bytes. Ok (filled_at l s p bytes))
   moved_by o is =

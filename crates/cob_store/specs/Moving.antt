@@ -1,16 +1,13 @@
 -- What a MOVE relies on, and why one ends.
-use Rattle.std.specs.Prelude.{◌≡◌, ℕ, length, List, [], ◌∷◌, ◌++◌, Option, Some, Result, Ok, Err}
+use Rattle.std.specs.Prelude.{◌≡◌, ℕ, length, List, [], ◌∷◌, ◌++◌, Option, Result, Ok, Err}
 use Rattle.std.specs.List.{AllZip}
-use Rattle.std.specs.Option.{option_map}
 use Rattle.cob_tree.specs.declared.fault.Kind.{Kind}
 use Rattle.cob_tree.specs.declared.fault.Kind.TheVariants as kind
-use Rattle.cob_tree.specs.declared.form.Form.{Form}
-use Rattle.cob_tree.specs.declared.form.Form.TheVariants as form
 use Rattle.cob_data.specs.declared.layout.Layout.{Layout}
 use Rattle.cob_data.specs.declared.layout.Sender.{Sender}
 use Rattle.cob_data.specs.declared.layout.Sender.TheVariants as sender
-use Rattle.cob_runs.specs.Contents.{fitted, form_at, length_at, filled_at, number_in}
-use Rattle.cob_runs.specs.Moves.{as_digits, moved}
+use Rattle.cob_runs.specs.Contents.{fitted, form_at, length_at, filled_at}
+use Rattle.cob_runs.specs.Moves.{moved}
 use Rattle.cob_runs.specs.Faults.{◌>>=◌, or_fault}
 use Rattle.cob_store.specs.declared.end.MoveEnd.{MoveEnd}
 use Rattle.cob_store.specs.declared.end.MoveEnd.TheVariants as end
@@ -24,11 +21,6 @@ HasLayoutLength l storage _ = Unit {0}
 abbrev pub IsCause : {A : Type 0} → Result A Kind → MoveEnd → Type 0
 IsCause wanted (end.Fault kind) = wanted ≡ Err kind
 IsCause wanted end.Memory = Unit {0}
-
--- an item's contents beside text
-abbrev pub spelled : Form → List ℕ → Option (List ℕ)
-spelled (form.Number digits scale signed kept) bytes = option_map (as_digits digits) (number_in (form.Number digits scale signed kept) bytes)
-spelled f bytes = Some bytes
 
 -- a text of so many bytes, where there is one
 abbrev pub fitted_text : ℕ → Option (List ℕ) → Result (List ℕ) Kind

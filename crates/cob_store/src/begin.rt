@@ -73,7 +73,8 @@ fn put_values(alloc: Global, layout: &Layout, storage: &mut [u8]) -> Result<(), 
 /// Storage at the beginning of a run: each VALUE, and spaces elsewhere (ISO 1989:1985, "VALUE clause").
 pub fn start(alloc: Global, program: &Program) -> Result<Vec<u8>, AllocError>
     requires { HasWellFormedItems program.now.layout }
-    ensures { IfOk result (λ storage. storage.items ≡ first_storage program.now.layout []) }
+    ensures value { IfOk result (λ storage. storage.items ≡ first_storage program.now.layout []) }
+    ensures whole { IfOk result (λ storage. length storage.items ≡ program.now.layout.storage) }
 {
     let mut storage = room(alloc, program.layout.storage as usize)?;
     put_values(alloc, &program.layout, storage.as_mut_slice())?;

@@ -177,7 +177,7 @@ fn move_amount(
     requires whole { length storage.old ≡ layout.now.storage }
     requires able { CanMove layout.now sender.now (form_at layout.now place) }
     requires takes { IsTrue (takes_number (form_at layout.now place)) }
-    requires single { is_group_sender layout.now storage.old sender.now ≡ false }
+    requires single { is_group_sender layout.now sender.now ≡ false }
     ensures { MatchResult result
         (λ _. after_move layout.now storage.old sender.now (place ∷ []) ≡ Ok storage.new)
         (λ end. IsCause (after_move layout.now storage.old sender.now (place ∷ [])) end

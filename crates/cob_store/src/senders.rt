@@ -52,7 +52,7 @@ fn is_group(form: &Form) -> bool
 /// Whether the sender is a group.
 pub fn is_group_sender(layout: &Layout, storage: &[u8], sender: &Sender) -> bool
     requires { HasWellFormedItems layout.now }
-    ensures { result ≡ is_group_sender layout.now storage.now sender.now }
+    ensures { result ≡ is_group_sender layout.now sender.now }
 {
     match sender {
         Sender::Item(place) => match item_at(layout, *place) {

@@ -7,9 +7,9 @@ ghost use Rattle.cob_data.specs.declared.layout.Sender.TheVariants as sender;
 ghost use Rattle.cob_program.specs.Bounds.{IsSmall};
 ghost use Rattle.cob_runs.specs.Contents.{stored};
 ghost use Rattle.cob_runs.specs.Faults.{or_fault};
-ghost use Rattle.cob_runs.specs.Moves.{takes_number, is_group_sender, text_of, raw_text, moved_text, moved_number, moved_amount, moved};
+ghost use Rattle.cob_runs.specs.Moves.{takes_number, is_group_sender, item_text, text_of, raw_text, moved_text, moved_number, moved_amount, moved};
 ghost use Rattle.cob_items.specs.WellFormed.{HasWellFormedItems, IsWellFormedForm, IsCountable, CanMove};
-ghost use Rattle.cob_store.specs.Moving.{HasLayoutLength, Writes, fitted_text, spelled};
+ghost use Rattle.cob_store.specs.Moving.{HasLayoutLength, Writes, fitted_text};
 
 use crate::senders::{is_group_sender, number_of};
 use crate::texts::{write_fill, write_spelled, write_text};
@@ -23,7 +23,7 @@ use dec_num::{Fit, Mode, Scaled, fit};
 // Writes the text of an item of this form.
 fn write_contents(form: &Form, contents: &[u8], bytes: &mut [u8]) -> Result<(), Kind>
     requires { IsWellFormedForm form.now (length contents.now) }
-    ensures { Writes (fitted_text (length bytes.old) (spelled form.now contents.now)) result bytes.new }
+    ensures { Writes (fitted_text (length bytes.old) (item_text form.now contents.now)) result bytes.new }
 {
     match form {
         Form::Number { digits, .. } => match number_in(form, contents) {
@@ -146,7 +146,7 @@ fn write_amount(
     requires countable { IsCountable layout.now sender.now }
     requires takes { IsTrue (takes_number form.now) }
     requires form { IsWellFormedForm form.now (length bytes.old) }
-    ensures { Writes (moved_amount layout.now storage.now (is_group_sender layout.now storage.now sender.now) form.now
+    ensures { Writes (moved_amount layout.now storage.now (is_group_sender layout.now sender.now) form.now
         (length bytes.old) sender.now) result bytes.new }
 {
     if is_group_sender(layout, storage, sender) {

@@ -5,11 +5,11 @@ use std::marker::Model;
 
 /// A vector that contracts see as the list of its items.
 #[derive(Drop)]
-pub struct Many<T: Drop> {
+pub struct Many<T> {
     items: Vec<T>,
 }
 
-impl<T: Drop> Model for Many<T> {
+impl<T> Model for Many<T> {
     ghost use Rattle.std.specs.Prelude.{List};
 
     ghost Value = { List T };
@@ -17,7 +17,7 @@ impl<T: Drop> Model for Many<T> {
     ghost view = { λ many. many.items.items };
 }
 
-impl<T: Drop> Many<T> {
+impl<T> Many<T> {
     /// The items of a vector.
     pub fn of(items: Vec<T>) -> Many<T>
         ensures { result ≡ items.items }

@@ -1,5 +1,7 @@
 pub mod AnswerLemmas
 pub mod FoundLemmas
+pub mod HeadLemmas
 pub mod ListLemmas
 pub mod ParaLemmas
 pub mod StmtLemmas
+pub mod Weights

@@ -19,6 +19,7 @@ macro_rules! or_leave {
 
 mod acts;
 mod end;
+mod heads;
 mod performs;
 mod statements;
 mod typing;

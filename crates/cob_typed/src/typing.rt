@@ -120,14 +120,7 @@ fn add_sentence(
     ensures next { OnOk result (next.new ≡ (typed_stmts scope.now next.old (plain_sentence sentence.now)).next) }
     ensures found { OnOk result (findings.new.items ≡ found_behind findings.old.items (typed_stmts scope.now next.old (plain_sentence sentence.now)).found) }
 {
-    add_stmts(
-        scope,
-        findings,
-        next,
-        sentence.statements.get(),
-        typed,
-        u32::MAX,
-    )?;
+    add_stmts(scope, findings, next, sentence.statements.get(), typed)?;
     Ok(())
 }
 

@@ -15,7 +15,8 @@ use Rattle.cob_data.specs.declared.layout.Sender.TheVariants as sender
 use Rattle.cob_program.specs.Sum.{Part, MkPart, parts_of, Factor, MkFactor, factors_of}
 use Rattle.cob_runs.specs.Contents.{form_at}
 use Rattle.cob_runs.specs.Computing.{items_in, items_in_parts, items_in_factors, items_in_atom}
-use Rattle.cob_calc.specs.Arithmetic.{is_number_form, are_numbers}
+use Rattle.cob_calc.specs.Arithmetic.{are_numbers}
+use Rattle.cob_runs.specs.Deciding.{is_number_form}
 use Rattle.cob_typed_exprs.specs.Scope.{Scope}
 use Rattle.cob_typed_exprs.specs.Scope as scope
 use Rattle.cob_typed_exprs.specs.Kinds as kinds

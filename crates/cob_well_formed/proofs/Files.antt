@@ -92,7 +92,7 @@ all_places test (suc n) = all_append (λ m. test m ≡ true) (places test n) (pl
   at false e = tt
 
 -- what is found alone passes the test
-found_passes : (P : ℕ → Type 0) (xs : List ℕ) (place : ℕ) → found_in xs ≡ found.One place → AllByRecursion P xs → P place
+pub found_passes : (P : ℕ → Type 0) (xs : List ℕ) (place : ℕ) → found_in xs ≡ found.One place → AllByRecursion P xs → P place
 found_passes P [] place e all = absurd (cc)
 found_passes P (x ∷ []) place e all = let same : x ≡ place = cc in subst P same all.0
 found_passes P (x ∷ y ∷ zs) place e all = absurd (cc)

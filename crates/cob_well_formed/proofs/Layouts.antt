@@ -24,10 +24,9 @@ use Rattle.cob_data.specs.Layouts.{item_at, laid_items, status_place, file_of, f
 use Rattle.cob_data.proofs.AnswerLemmas.{seated}
 use Rattle.cob_items.specs.WellFormed.{IsWellFormedForm, IsWellFormedItem, IsWellFormedFile}
 use Rattle.cob_tree.specs.PrintFront.{print_front}
-use Rattle.cob_tree.specs.StmtView.{plain_tree}
-use Rattle.cob_well_formed.specs.Numerals.{HasShortNumerals}
+use Rattle.cob_well_formed.specs.Numerals.{AreShort}
 use Rattle.cob_well_formed.specs.Layouts.{IsWellFormedLayout}
-use Rattle.cob_well_formed.proofs.ShortValues.{short_left, short_values}
+use Rattle.cob_well_formed.proofs.ShortValues.{short_values}
 use Rattle.cob_well_formed.proofs.Flags.{flags_sound, short_conditions}
 use Rattle.cob_well_formed.proofs.Pairs.{AllPairs, HasOwnBytes, rule_kept, have_own_bytes}
 use Rattle.cob_well_formed.proofs.Forms.{IsFromEntry, are_from_entries, item_is_sound}
@@ -169,11 +168,11 @@ selects_kept : (a b c d e : List ℕ) → a ++ b ++ c ++ d ++ e ≡ [] → c ≡
 selects_kept a b c d e none =
     (nothing_in_both (a ++ b) c (nothing_in_both (a ++ b ++ c) d (nothing_in_both (a ++ b ++ c ++ d) e none).0).0).1
 
-pub layouts_are_well_formed : (t : Tree) → HasLayout t → HasShortNumerals (plain_tree t) → IsWellFormedLayout (layout t)
+pub layouts_are_well_formed : (t : Tree) → HasLayout t → AreShort (print_front t.front) → IsWellFormedLayout (layout t)
 layouts_are_well_formed t has numerals =
     let f = facts_of t in
     let rules = has.kept in
-    let short = short_values t.front (short_left (print_front t.front) _ numerals) in
+    let short = short_values t.front numerals in
     let kept : (rule : Rule) → lines_in f rule ≡ [] → AllPairs (λ d s. item_breaks rule d s ≡ false) f.items f.spots =
     λ rule none. rule_kept rule f.items f.spots (items_kept (item_lines rule f.items f.spots) (condition_lines rule f f.conditions) (select_lines rule f [] f.selects) (fd_lines rule f [] f.fds) (end_lines rule f.program f.end) none) in
     let named : (rule : Rule) → lines_in f rule ≡ [] → condition_lines rule f f.conditions ≡ [] =

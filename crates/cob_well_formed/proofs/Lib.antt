@@ -20,6 +20,7 @@ pub mod Statements
 pub mod Numbers
 pub mod Conditions
 pub mod Files
+pub mod Named
 pub mod Typed
 pub mod Tokens
 pub mod Running

@@ -8,15 +8,12 @@ use Rattle.cob_tree.specs.declared.form.Form.TheVariants.{Group, Text, Number, E
 use Rattle.cob_tree.specs.declared.operand.Opnd.{Opnd}
 use Rattle.cob_tree.specs.declared.operand.Opnd.TheVariants as opnd
 use Rattle.cob_tree.specs.PrintExpr.{print_opnd}
-use Rattle.cob_data.specs.declared.layout.Layout.{Layout}
 use Rattle.cob_data.specs.declared.layout.Sender.{Sender}
 use Rattle.cob_data.specs.declared.layout.Sender.TheVariants as sender
 use Rattle.cob_runs.specs.Contents.{form_at}
-use Rattle.cob_runs.specs.Deciding.{is_number_end}
-use Rattle.cob_runs.specs.Deciding as deciding
+use Rattle.cob_runs.specs.Deciding.{is_number_end, is_number_form}
 use Rattle.cob_runs.specs.Moves.{takes_number}
 use Rattle.cob_items.specs.WellFormed.{IsShort, IsCountable, CanMove}
-use Rattle.cob_calc.specs.Arithmetic.{is_number_form}
 use Rattle.cob_calc.specs.Comparing.{IsShortEnd}
 use Rattle.cob_world.specs.Needs.{IsNumber}
 use Rattle.cob_typed_exprs.specs.Scope.{Scope}
@@ -40,12 +37,6 @@ whole_form Group is = absurd (cc)
 whole_form (Text n) is = absurd (cc)
 whole_form (Number digits scale signed usage) is = refl
 whole_form (Edited picture digits scale) is = absurd (cc)
-
-form_counts : (l : Layout) (f : Form) → is_number_form f ≡ true → deciding.is_number_form l [] f ≡ true
-form_counts l Group is = absurd (cc)
-form_counts l (Text n) is = absurd (cc)
-form_counts l (Number digits scale signed usage) is = refl
-form_counts l (Edited picture digits scale) is = absurd (cc)
 
 -- text that isn't short is moved to no number
 moved_short : (f to : Form) → takes_number to ≡ true → may_move_item f to ≡ true → IsShort f
@@ -79,7 +70,7 @@ module _ (s : Scope) where
   countable_number sender.Zero short is = tt
 
   counts : (x : Sender) → is_number s x ≡ true → is_number_end s.layout [] x ≡ true
-  counts (sender.Item place) is = form_counts s.layout (form_at s.layout place) (number_item s place is)
+  counts (sender.Item place) is = number_item s place is
   counts (sender.Number n) is = refl
   counts (sender.Text text) is = absurd (cc)
   counts (sender.Fill byte) is = absurd (cc)

@@ -12,13 +12,12 @@ use Rattle.cob_tree.specs.Keywords.{keyword_of}
 use Rattle.cob_tree.specs.Symbols.{word_symbol, symbol_of, seen}
 use Rattle.cob_tree.specs.Items.{Item}
 use Rattle.cob_tree.specs.PrintStmt.{print_tree}
-use Rattle.cob_tree.specs.StmtView.{plain_tree}
-use Rattle.cob_tree.specs.declared.tree.Tree.{Tree}
+use Rattle.cob_tree.specs.Stmt.{Tree}
 use Rattle.reading.specs.Printing.{Matches}
 use Rattle.cob_lexemes.specs.Classes.{by_symbol}
 use Rattle.cob_lex.specs.declared.piece.Place as lex
 use Rattle.cob_lex.specs.Canonical.{canonical_tokens}
-use Rattle.cob_scan.specs.Scan.{Scan, BadLineAt, BadTokenAt, Tokens, lexed, joined, scan_of}
+use Rattle.cob_lex.specs.Scan.{Scan, BadLineAt, BadTokenAt, Tokens, lexed, joined, scan_of}
 use Rattle.cob_well_formed.specs.Tokens.{IsShortTok, IsShortToken}
 use Rattle.cob_well_formed.proofs.ShortTokens.{short_tokens}
 use Rattle.cob_well_formed.specs.Numerals.{IsShortSymbol, AreShort, HasShortNumerals}
@@ -71,7 +70,7 @@ spelled_short (i ∷ items) (t ∷ ts) spells short = (
   spelled_short items ts spells.1 short.1,
 )
 
-pub short_tree : (bytes : List ℕ) (t : Tree) → StandsFor bytes t → HasShortNumerals (plain_tree t)
+pub short_tree : (bytes : List ℕ) (t : Tree) → StandsFor bytes t → HasShortNumerals t
 short_tree bytes t stands =
-    spelled_short (print_tree (plain_tree t)) stands.tokens stands.parsed.spells
+    spelled_short (print_tree t) stands.tokens stands.parsed.spells
     (scanned_short bytes stands.tokens stands.has.scanned)

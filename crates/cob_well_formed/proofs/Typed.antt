@@ -8,7 +8,7 @@ use Rattle.cob_tree.specs.Shaped.{ShapedStmts, ShapedPhrase, ShapedTail, ShapedW
 use Rattle.cob_data.specs.declared.end.Rule.{Rule}
 use Rattle.cob_data.specs.declared.layout.Flag.{Flag}
 use Rattle.cob_data.specs.declared.layout.Layout.{Layout}
-use Rattle.cob_program.specs.Act.{Stmts, MkStmt, no_stmts, more_stmts, Phrase, left_out, given}
+use Rattle.cob_program.specs.Act.{Stmts, MkStmt, no_stmts, more_stmts, Phrase, left_out, given, Program}
 use Rattle.cob_graph.specs.WellFormed.{IsWellFormed}
 use Rattle.cob_typed_conds.specs.declared.selections.Looked.{Looked}
 use Rattle.cob_typed_exprs.specs.Judged.{Judged}
@@ -18,8 +18,10 @@ use Rattle.cob_typed.specs.Statements.{Numbered, found_on, stmts_if, typed_choic
 use Rattle.cob_typed_verbs.specs.Verbs.{set_flag, set_if}
 use Rattle.cob_typed_verbs.specs.Arithmetic.{Worked, add_to, add_giving, subtract_from, subtract_giving, multiply_by, multiply_giving, divide_into, divide_giving, compute}
 use Rattle.cob_typed.specs.Typing.{scope_of, joined, typed_sentences, typed_paras, typed_all, typed, clashes, IsTyped}
-use Rattle.cob_well_formed.proofs.Numbers.{Good, GoodPhrase, GoodAct, GoodWhens, GoodParas, is_well_formed}
+use Rattle.cob_interp.specs.Able.{HasItsFiles}
+use Rattle.cob_well_formed.proofs.Numbers.{Good, GoodPhrase, GoodAct, GoodWhens, GoodParas, is_well_formed, has_its_files}
 use Rattle.cob_well_formed.proofs.Conditions.{begins_cond, whole_turns}
+use Rattle.cob_well_formed.proofs.Named.{named_verb}
 use Rattle.cob_well_formed.proofs.Files.{IsClean, clean_left, clean_right, some_files, some_openings, some_record}
 
 abbrev Found : Type 0
@@ -31,7 +33,8 @@ good_if l lo hi (given ss) good = good
 
 good_joined : (l : Layout) (lo mid hi : ℕ) (xs ys : Stmts) → Good l lo mid xs → Good l mid hi ys → Good l lo hi (joined xs ys)
 good_joined l lo mid hi no_stmts ys first second = rw first second
-good_joined l lo mid hi (more_stmts (MkStmt n line a) xs) ys first second = (first.0, first.1, first.2, good_joined l first.0 mid hi xs ys first.3 second)
+good_joined l lo mid hi (more_stmts (MkStmt n line a) xs) ys first second =
+    (first.0, first.1, first.2, good_joined l first.0 mid hi xs ys first.3 second, first.4)
 
 good_set : (l : Layout) (n : ℕ) (o : Option Flag) → GoodAct l n n (set_flag o)
 good_set l n None = refl
@@ -57,14 +60,17 @@ module _ (s : Scope) where
     good_stmts n tree.no_stmts shaped clean = absurd shaped
     good_stmts n (tree.more_stmts (tree.MkStmt line v) tree.no_stmts) shaped clean =
         let x = typed_verb s line (suc n) v in
-        (x.next, refl, good_verb line (suc n) v shaped (clean_left x.found [] (clean_left (x.found ++ []) [] clean)), refl)
+        let here = clean_left x.found [] (clean_left (x.found ++ []) [] clean) in
+        (x.next, refl, good_verb line (suc n) v shaped here, refl, named_verb s line (suc n) v here)
     good_stmts n (tree.more_stmts (tree.MkStmt line v) (tree.more_stmts u us)) shaped clean =
         let x = typed_verb s line (suc n) v in
-        let later = typed_stmts s x.next (tree.more_stmts u us) in (
+        let later = typed_stmts s x.next (tree.more_stmts u us) in
+        let here = clean_left x.found [] (clean_left (x.found ++ []) (later.found ++ []) clean) in (
           x.next,
           refl,
-          good_verb line (suc n) v shaped.0 (clean_left x.found [] (clean_left (x.found ++ []) (later.found ++ []) clean)),
+          good_verb line (suc n) v shaped.0 here,
           good_stmts x.next (tree.more_stmts u us) shaped.2 (clean_left later.found [] (clean_right (x.found ++ []) (later.found ++ []) clean)),
+          named_verb s line (suc n) v here,
         )
 
     good_phrase : (n : ℕ) (x : tree.Phrase) (before : Bool) → ShapedPhrase x before → IsClean (typed_phrase s n x).found → GoodPhrase l n (typed_phrase s n x).next (typed_phrase s n x).value
@@ -165,15 +171,31 @@ module _ (s : Scope) where
         good_paras x.next ps shaped.1 (clean_left y.found [] (clean_right x.found (y.found ++ []) clean)),
       )
 
-pub programs_are_well_formed : (l : Layout) (t : tree.Tree) → Shaped t → IsTyped l t → IsWellFormed (typed l t)
-programs_are_well_formed l t shaped kept_ =
+-- all of a program, with numbers from 1 on
+record IsGoodProgram (p : Program) : Type 0 where
+  pub hi : ℕ
+  pub good : GoodParas p.layout 1 hi p.paras
+
+good_program : (l : Layout) (t : tree.Tree) → Shaped t → IsTyped l t → IsGoodProgram (typed l t)
+good_program l t shaped kept_ =
     let s = scope_of l t in
     let x = typed_sentences s 1 t.sentences in
     let y = typed_paras s x.next t.paragraphs in
     let clean : IsClean ((typed_all l t).found ++ clashes [] t.paragraphs) = record { names = kept_.0; files = kept_.1.1.1.1.1.1.1.1.0 } in
     let all = clean_left (x.found ++ (y.found ++ [])) (clashes [] t.paragraphs) clean in
-    is_well_formed (typed l t) 1 y.next (
-      x.next,
-      good_sentences s 1 t.sentences shaped.sentences (clean_left x.found (y.found ++ []) all),
-      good_paras s x.next t.paragraphs shaped.paragraphs (clean_left y.found [] (clean_right x.found (y.found ++ []) all)),
-    )
+    record {
+      hi = y.next;
+      good = (
+        x.next,
+        good_sentences s 1 t.sentences shaped.sentences (clean_left x.found (y.found ++ []) all),
+        good_paras s x.next t.paragraphs shaped.paragraphs (clean_left y.found [] (clean_right x.found (y.found ++ []) all)),
+      );
+    }
+
+pub programs_are_well_formed : (l : Layout) (t : tree.Tree) → Shaped t → IsTyped l t → IsWellFormed (typed l t)
+programs_are_well_formed l t shaped kept_ =
+    let it = good_program l t shaped kept_ in is_well_formed (typed l t) 1 it.hi it.good
+
+pub programs_have_their_files : (l : Layout) (t : tree.Tree) → Shaped t → IsTyped l t → HasItsFiles (typed l t)
+programs_have_their_files l t shaped kept_ =
+    let it = good_program l t shaped kept_ in has_its_files (typed l t) 1 it.hi it.good

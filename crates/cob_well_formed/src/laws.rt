@@ -11,9 +11,9 @@ pub fn numerals_are_short()
     ensures { NumeralsAreShort }
 {}
 
-/// A law: in the layout of a tree whose numerals have at most 18 digits, each item has the bytes of its form and lies
-/// within storage, and so does each file's record area; a FILE STATUS item has two bytes; items and condition-names
-/// have values of the item's category.
+/// A law: in the layout of a tree whose numerals before its statements have at most 18 digits, each item has the bytes
+/// of its form and lies within storage, and so does each file's record area; a FILE STATUS item has two bytes; items and
+/// condition-names have values of the item's category.
 pub fn layouts_are_well_formed()
     ensures { LayoutsAreWellFormed }
 {}
@@ -32,8 +32,8 @@ pub fn typed_statements_can_be_done()
 {}
 
 /// A law: the program of a source can be run. Its items and record areas lie within storage; its sums keep the rule of
-/// bounds, and its values can be moved where they go, also numerals, which have at most 18 digits; and each of its
-/// statements is found by its number.
+/// bounds, and its values can be moved where they go, also numerals, which have at most 18 digits; each of its
+/// statements is found by its number; and the files that they open, close and read are declared.
 pub fn sources_can_be_run()
     ensures { SourcesCanBeRun }
 {}

@@ -1,5 +1,5 @@
 -- Numbers of at most 18 digits, and their sums.
-use Rattle.std.proofs.Common.{rules, ◌≡◌, ℕ, ◌-◌, ◌^◌, ◌≤◌, true, List, [], refl, arith}
+use Rattle.std.proofs.Common.{rules, ◌≡◌, ℕ, ◌-◌, ◌^◌, ◌≤◌, true, List, [], arith}
 use Rattle.std.specs.Prelude.{unsigned_abs, IsTrue}
 use Rattle.std.proofs.lemmas.Int.{ints}
 use Rattle.std.proofs.lemmas.Nat.{mul-le}
@@ -16,9 +16,7 @@ use Rattle.cob_program.specs.Values.{plus}
 use Rattle.cob_program.specs.Bounds.{IsSmall}
 use Rattle.cob_runs.specs.Contents.{form_at}
 use Rattle.cob_runs.specs.Moves.{takes_number}
-use Rattle.cob_runs.specs.Deciding as deciding
-use Rattle.cob_runs.specs.Deciding.{is_number_end}
-use Rattle.cob_calc.specs.Arithmetic.{is_number_form}
+use Rattle.cob_runs.specs.Deciding.{is_number_end, is_number_form}
 use Rattle.cob_calc.specs.Comparing.{IsShortNumber}
 use Rattle.cob_calc.proofs.NumberLemmas.{scaled_is}
 use Rattle.cob_world.specs.Needs.{IsNumber}
@@ -31,14 +29,8 @@ is_number_here l storage (sender.Text text) e = e
 is_number_here l storage (sender.Fill byte) e = e
 is_number_here l storage sender.Zero e = e
 
-same_form : (l : Layout) (f : Form) → is_number_form f ≡ true → deciding.is_number_form l [] f ≡ true
-same_form l (form.Number digits scale signed kept) e = refl
-same_form l form.Group e = e
-same_form l (form.Text n) e = e
-same_form l (form.Edited picture digits scale) e = e
-
 pub item_is_number : (l : Layout) (place : ℕ) → is_number_form (form_at l place) ≡ true → IsNumber l (sender.Item place)
-item_is_number l place e = record { number = same_form l (form_at l place) e; literal = tt }
+item_is_number l place e = record { number = e; literal = tt }
 
 takes : (f : Form) → is_number_form f ≡ true → IsTrue (takes_number f)
 takes (form.Number digits scale signed kept) e = search rules

@@ -58,10 +58,6 @@ impl<'p> World<'p> {
         ensures its { IfOk result (λ w. w.program ≡ program.now) }
     {
         let storage = start(alloc, program)?;
-        // It is as long as the layout says, which its clause doesn't tell.
-        if storage.as_slice().len() != program.layout.storage as usize {
-            return Err(AllocError);
-        }
         let counts = vec![in alloc; None; program.statements as usize]?;
         let files = first_files(alloc, contents.as_mut_slice(), program.layout.files.get())?;
         Ok(World {

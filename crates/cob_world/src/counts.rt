@@ -7,7 +7,7 @@ ghost use Rattle.cob_runs.specs.Contents.{form_at, number_at};
 ghost use Rattle.cob_runs.specs.Moves.{number_of};
 ghost use Rattle.cob_runs.specs.Acts.{count_of, with_count, set_count, count_down, augment};
 ghost use Rattle.cob_items.specs.WellFormed.{HasWellFormedItems};
-ghost use Rattle.cob_calc.specs.Arithmetic.{is_number_form};
+ghost use Rattle.cob_runs.specs.Deciding.{is_number_form};
 ghost use Rattle.cob_calc.specs.Comparing.{IsShortNumber};
 ghost use Rattle.cob_world.specs.Becoming.{BecomesBy, put};
 ghost use Rattle.cob_world.specs.Needs.{IsNumber};
@@ -57,7 +57,7 @@ fn sum(own: Scaled, step: Scaled) -> Scaled
 impl<'p> World<'p> {
     /// The count of a PERFORM with TIMES, by its statement's number, if it has one.
     pub fn count_of(&self, statement: u32) -> Option<i64>
-        ensures { result ≡ count_of self.now.program.layout statement self.now.world }
+        ensures { result ≡ count_of statement self.now.world }
     {
         match self
             .counts

@@ -4,3 +4,4 @@ pub mod Limits
 pub mod Sources
 pub mod Statuses
 pub mod Refusals
+mod Profile

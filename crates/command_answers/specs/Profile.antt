@@ -23,3 +23,7 @@ pub record IsOfProfile (bytes : List ℕ) : Type 0 where
 abbrev pub IsProfileCause : List ℕ → Refusal → Type 0
 IsProfileCause bytes cause =
     IsCause bytes cause ⊎ ((program : Program) × IsSource bytes program × IsControlCause program cause)
+
+-- all bytes are a source of the profile, or there is a cause why not
+abbrev pub BytesAreOfProfileOrNot : Type 0
+BytesAreOfProfileOrNot = (bytes : List ℕ) → IsOfProfile bytes ⊎ ((cause : Refusal) × IsProfileCause bytes cause)

@@ -4,12 +4,14 @@
 #![tactic(auto)]
 
 mod answer;
+mod laws;
 mod show;
 mod source;
 mod text;
 
 pub use answer::{Answer, Stop};
 pub use cert_check::{CheckEnd, accepted_claims_cover_runs, check as check_claims};
+pub use laws::bytes_are_of_the_profile_or_not;
 pub use show::{
     CERTIFICATE_REFUSED, OUT_OF_MEMORY, READ_FAULT, WRITE_FAULT, show_found, show_line, show_text,
     status_of,

@@ -7,8 +7,6 @@ mod number;
 mod parts;
 mod reading;
 
+pub use by_clap::plain_by_clap;
 pub use command::{Command, RunWords};
 pub use reading::{command_of, one_reading};
-
-#[cfg(test)]
-mod tests;

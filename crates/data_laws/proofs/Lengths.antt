@@ -109,11 +109,11 @@ pub length-moved : (l : Layout) (storage : List ℕ) (f : Form) (n : ℕ) (x : S
     moved l storage f n x ≡ Ok bytes → length bytes ≡ n
 length-moved l storage Group n x bytes sound is = length-text n (raw_text l storage n x) bytes is
 length-moved l storage (Text k) n x bytes sound is = length-text n (text_of l storage n x) bytes is
-length-moved l storage (Number digits scale signed usage) n x bytes sound is = by (is_group_sender l storage x) is where
+length-moved l storage (Number digits scale signed usage) n x bytes sound is = by (is_group_sender l x) is where
   by : (b : Bool) → moved_amount l storage b (Number digits scale signed usage) n x ≡ Ok bytes → length bytes ≡ n
   by true is = length-text n (raw_text l storage n x) bytes is
   by false is = length-amount (Number digits scale signed usage) (number_of l storage x) n bytes sound refl is
-length-moved l storage (Edited picture digits scale) n x bytes sound is = by (is_group_sender l storage x) is where
+length-moved l storage (Edited picture digits scale) n x bytes sound is = by (is_group_sender l x) is where
   by : (b : Bool) → moved_amount l storage b (Edited picture digits scale) n x ≡ Ok bytes → length bytes ≡ n
   by true is = length-text n (raw_text l storage n x) bytes is
   by false is = length-amount (Edited picture digits scale) (number_of l storage x) n bytes sound refl is

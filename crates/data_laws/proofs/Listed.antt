@@ -5,7 +5,7 @@ use Rattle.std.proofs.lemmas.Bool.{eqb-true}
 use Rattle.std.proofs.lemmas.Option.{same_Some}
 use Rattle.cob_program.specs.Act.{Stmt, MkStmt, Stmts, no_stmts, more_stmts, Phrase, left_out, given, Act, move, arith as arith_, if_, evaluate, perform, go, nothing, stop, open_files, close_files, read, write, show, Whens, no_whens, more_whens, MkWhen, Body, range, inline, Para, Program}
 use Rattle.cob_program.specs.Statements.{list_statements, phrase_statements, inner_statements, whens_statements, body_statements, paras_statements}
-use Rattle.cob_runs.specs.Effects.{or_else, found, found_phrase, found_in, found_whens, found_body, found_among}
+use Rattle.cob_runs.specs.Effects.{or_else, act_among, act_in_phrase, act_below, act_in_whens, act_in_body, act_in_paras}
 use Rattle.cob_graph.specs.WellFormed.{AreWellFormed, IsWellFormedPhrase, IsWellFormedAct, AreWellFormedWhens, IsWellFormedBody, AreWellFormedParas}
 use Rattle.data_laws.specs.Statements.{IsIn, IsFound, FoundIsListed, ListedIsFound}
 
@@ -34,25 +34,25 @@ module _ (n : ℕ) (a : Act) where
   here_or_later false m line b other later same e rest = inr (rest e)
 
   mutual
-    in_list : (ss : Stmts) → found n ss ≡ Some a → In (list_statements ss)
+    in_list : (ss : Stmts) → act_among n ss ≡ Some a → In (list_statements ss)
     in_list no_stmts e = absurd (cc)
     in_list (more_stmts (MkStmt m line b) ss) e =
-        here_or_later (eqb n m) m line b (or_else (found_in n b) (found n ss)) (inner_statements b ++ list_statements ss) refl e
-        (λ f. either (found_in n b) (found n ss) (inner_statements b) (list_statements ss) f (in_act b) (in_list ss))
+        here_or_later (eqb n m) m line b (or_else (act_below n b) (act_among n ss)) (inner_statements b ++ list_statements ss) refl e
+        (λ f. either (act_below n b) (act_among n ss) (inner_statements b) (list_statements ss) f (in_act b) (in_list ss))
 
-    in_phrase : (x : Phrase) → found_phrase n x ≡ Some a → In (phrase_statements x)
+    in_phrase : (x : Phrase) → act_in_phrase n x ≡ Some a → In (phrase_statements x)
     in_phrase left_out e = absurd (cc)
     in_phrase (given ss) e = in_list ss e
 
-    in_act : (b : Act) → found_in n b ≡ Some a → In (inner_statements b)
+    in_act : (b : Act) → act_below n b ≡ Some a → In (inner_statements b)
     in_act (arith_ s targets remainder size fine) e =
-        either (found_phrase n size) (found n fine) (phrase_statements size) (list_statements fine) e (in_phrase size) (in_list fine)
-    in_act (if_ t held other) e = either (found n held) (found n other) (list_statements held) (list_statements other) e (in_list held) (in_list other)
+        either (act_in_phrase n size) (act_among n fine) (phrase_statements size) (list_statements fine) e (in_phrase size) (in_list fine)
+    in_act (if_ t held other) e = either (act_among n held) (act_among n other) (list_statements held) (list_statements other) e (in_list held) (in_list other)
     in_act (evaluate ws other) e =
-        either (found_whens n ws) (found n other) (whens_statements ws) (list_statements other) e (in_whens ws) (in_list other)
+        either (act_in_whens n ws) (act_among n other) (whens_statements ws) (list_statements other) e (in_whens ws) (in_list other)
     in_act (perform body turns) e = in_body body e
     in_act (read f into end fine) e =
-        either (found_phrase n end) (found n fine) (phrase_statements end) (list_statements fine) e (in_phrase end) (in_list fine)
+        either (act_in_phrase n end) (act_among n fine) (phrase_statements end) (list_statements fine) e (in_phrase end) (in_list fine)
     in_act (open_files os) e = absurd (cc)
     in_act (close_files fs) e = absurd (cc)
     in_act (write r from) e = absurd (cc)
@@ -62,19 +62,19 @@ module _ (n : ℕ) (a : Act) where
     in_act stop e = absurd (cc)
     in_act (show xs) e = absurd (cc)
 
-    in_whens : (ws : Whens) → found_whens n ws ≡ Some a → In (whens_statements ws)
+    in_whens : (ws : Whens) → act_in_whens n ws ≡ Some a → In (whens_statements ws)
     in_whens no_whens e = absurd (cc)
     in_whens (more_whens (MkWhen tests ss) ws) e =
-        either (found n ss) (found_whens n ws) (list_statements ss) (whens_statements ws) e (in_list ss) (in_whens ws)
+        either (act_among n ss) (act_in_whens n ws) (list_statements ss) (whens_statements ws) e (in_list ss) (in_whens ws)
 
-    in_body : (b : Body) → found_body n b ≡ Some a → In (body_statements b)
+    in_body : (b : Body) → act_in_body n b ≡ Some a → In (body_statements b)
     in_body (range first last) e = absurd (cc)
     in_body (inline ss) e = in_list ss e
 
-  in_paras : (xs : List Para) → found_among n xs ≡ Some a → In (paras_statements xs)
+  in_paras : (xs : List Para) → act_in_paras n xs ≡ Some a → In (paras_statements xs)
   in_paras [] e = absurd (cc)
   in_paras (x ∷ xs) e =
-      either (found n x.body) (found_among n xs) (list_statements x.body) (paras_statements xs) e (in_list x.body) (in_paras xs)
+      either (act_among n x.body) (act_in_paras n xs) (list_statements x.body) (paras_statements xs) e (in_list x.body) (in_paras xs)
 
 pub found_is_listed : FoundIsListed
 found_is_listed p n a e = in_paras n a p.paras e

@@ -9,3 +9,9 @@ pub mod WordByWord
 pub mod MatrixLattice
 pub mod Monotone
 pub mod NoBounds
+pub mod Closures
+pub mod Tight
+pub mod OneRow
+pub mod RowSums
+pub mod Lattices
+pub mod PackRows

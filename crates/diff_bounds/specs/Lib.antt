@@ -5,3 +5,8 @@ pub mod Sums
 pub mod Order
 pub mod Widening
 pub mod Lattice
+pub mod Closed
+pub mod Settled
+pub mod RowSums
+pub mod Lattices
+pub mod PackRows

@@ -5,19 +5,46 @@
 //! number zero, and the pack's cells have the places from 1. The word at row i and column j bounds the
 //! value at i minus the value at j: it is a number of at most 10^37 in absolute value, or 10^38 for no bound.
 //! The words of the diagonal are 0 and say nothing. No call takes memory.
+//!
+//! A matrix of which no more than one row and its column have changed since it was closed is closed again in time
+//! quadratic in the places, where a whole closing takes time cubic in them.
+//!
+//! The matrices of several packs, one behind the other, are rows of a lattice with a widening by thresholds. The
+//! first row that comes to a node is taken as it is.
 #![tactic(auto)]
 
 mod closing;
+mod closure_laws;
+mod joining;
 mod lattice;
 mod laws;
+mod least;
+mod one_row;
+mod order;
+mod row_laws;
+mod settling;
+mod sizes;
+mod widening;
 mod words;
 
 pub use closing::close;
+pub use closure_laws::{
+    closed_words_are_tight, closing_is_the_closure, closures_are_closings, closures_are_one,
+    matrices_stay_tight_beside_a_row,
+};
+pub use joining::join_rows;
 pub use lattice::{add_bound, join, leq, widen};
 pub use laws::{
     close_is_monotone, closed_words_are_least_sums, growth_is_bounded, matrices_are_a_lattice,
     stands_above,
 };
+pub use least::{is_least, set_least, set_least_matrix};
+pub use one_row::close_row;
+pub use order::leq_rows;
+pub use row_laws::rows_are_a_lattice;
+pub use settling::settled;
+pub use sizes::{height_of, width_of, words_of};
+pub use widening::widen_rows;
 
 /// Cells whose differences are tracked together, by their places from 1, in rising order.
 #[derive(Debug, PartialEq, Eq, Drop)]

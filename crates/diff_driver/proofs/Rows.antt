@@ -8,7 +8,7 @@ use Rattle.dom_laws.specs.Lattice.{IsElement}
 use Rattle.diff_bounds.specs.declared.Pack.{Pack}
 use Rattle.diff_bounds.specs.Matrix.{IsMatrix}
 use Rattle.diff_bounds.specs.Widening.{AreThresholds}
-use Rattle.pack_rows.specs.Rows.{words_of, width_of, lists_of}
+use Rattle.diff_bounds.specs.PackRows.{words_of, width_of, lists_of}
 use Rattle.claimed_rows.specs.MatrixClaims.{cells_in, sizes_of}
 use Rattle.diff_driver.specs.Rows.{no_thresholds, rows_for}
 

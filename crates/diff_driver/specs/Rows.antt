@@ -2,7 +2,7 @@
 use Rattle.std.specs.Prelude.{ℕ, List, [], map, ℤ}
 use Rattle.dom_laws.specs.Lattice.{Lattice}
 use Rattle.diff_bounds.specs.declared.Pack.{Pack}
-use Rattle.pack_rows.specs.Rows.{packs_lattice}
+use Rattle.diff_bounds.specs.PackRows.{packs_lattice}
 use Rattle.claimed_rows.specs.MatrixClaims.{cells_in, sizes_of}
 
 -- an empty list for each pack

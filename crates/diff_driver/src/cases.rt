@@ -8,7 +8,7 @@ ghost use Rattle.graph_runs.specs.Sources.{IsSourceGraph};
 ghost use Rattle.dom_laws.specs.Lattice.{IsElement};
 ghost use Rattle.cell_rows.specs.Rows.{IsRow};
 ghost use Rattle.cell_steps.specs.Homes.{owns};
-ghost use Rattle.pack_rows.specs.Rows.{lists_of};
+ghost use Rattle.diff_bounds.specs.PackRows.{lists_of};
 ghost use Rattle.claimed_rows.specs.MatrixClaims.{cells_in, sizes_of};
 ghost use Rattle.pack_laws.specs.Packs.{ArePacksOfCells};
 ghost use Rattle.diff_driver.specs.Rows.{no_thresholds, rows_of_packs};

@@ -7,8 +7,7 @@ ghost use Rattle.claimed_rows.specs.MatrixClaims.{cells_in, sizes_of};
 ghost use Rattle.diff_driver.specs.Rows.{rows_of_packs};
 
 use crate::matrices::shown_words;
-use diff_bounds::{Pack, close};
-use pack_rows::words_of;
+use diff_bounds::{Pack, close, words_of};
 use std::alloc::{AllocError, Global};
 
 // Makes the closure of a matrix, so often. Answers false where there is none.

@@ -8,8 +8,7 @@ ghost use Rattle.diff_driver.specs.Rows.{rows_of_packs};
 
 use cert_text::Element;
 use claimed_rows::{claimed_rows_are_elements, set_claimed};
-use diff_bounds::{Pack, add_bound};
-use pack_rows::words_of;
+use diff_bounds::{Pack, add_bound, words_of};
 use std::alloc::{AllocError, Global};
 
 /// The word of no bound.

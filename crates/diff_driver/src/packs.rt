@@ -1,6 +1,6 @@
 //! Packs, read.
 ghost use Rattle.std.specs.Prelude.{◌≡◌, ◌≤◌, length, IfOk, IfSome};
-ghost use Rattle.pack_rows.specs.Rows.{lists_of};
+ghost use Rattle.diff_bounds.specs.PackRows.{lists_of};
 ghost use Rattle.claimed_rows.specs.MatrixClaims.{cells_in, sizes_of};
 ghost use Rattle.pack_laws.specs.Packs.{AreRisingNumbers, ArePacksOfCells};
 ghost use Rattle.diff_driver.specs.Rows.{no_thresholds};

@@ -18,7 +18,7 @@ use Rattle.cell_walk.specs.ProgramRows.{IsRowOf}
 use Rattle.diff_steps.specs.Packs.{Pack, size_of}
 use Rattle.diff_steps.specs.Steps.{all_closed}
 use Rattle.diff_steps.specs.Edges.{or_bottoms, no_bounds, entry_packs}
-use Rattle.pack_rows.specs.Rows.{width_of, row_of, matrices_beside}
+use Rattle.diff_bounds.specs.PackRows.{width_of, row_of, matrices_beside}
 use Rattle.pack_laws.specs.Agreeing.{AreMatrices}
 use Rattle.diff_layer.specs.declared.plans.PackPlan.{PackPlan}
 use Rattle.diff_layer.specs.Plans.{plain_plan, plain_plans, ArePlansOf, matrices_for, IsRowFor}

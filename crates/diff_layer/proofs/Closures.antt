@@ -6,8 +6,8 @@ use Rattle.diff_bounds.specs.Paths.{path_sum, IsPath, cut_of, HasNoNegativeCycle
 use Rattle.diff_bounds.proofs.Walks.{AreWords, sum_join, bounds_join, below_join}
 use Rattle.diff_bounds.proofs.Steps.{cut_monotone}
 use Rattle.diff_bounds.proofs.Ends.{words_of}
-use Rattle.closed_matrices.specs.Closed.{closed, IsClosed, IsClosedOrNone}
-use Rattle.closed_matrices.proofs.Closures.{closed_or, closed_to}
+use Rattle.diff_bounds.specs.Closed.{closed, IsClosed, IsClosedOrNone}
+use Rattle.diff_bounds.proofs.Closures.{closed_or, closed_to}
 
 -- ---- one word
 

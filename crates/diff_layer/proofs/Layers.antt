@@ -23,7 +23,7 @@ use Rattle.cell_layer.proofs.Making.{sound_items}
 use Rattle.diff_bounds.specs.declared.Pack as declared
 use Rattle.diff_steps.specs.Packs.{Pack, size_of}
 use Rattle.diff_steps.specs.Edges.{bottoms}
-use Rattle.pack_rows.specs.Rows.{width_of, matrices_in, row_of, matrices_beside, lists_of}
+use Rattle.diff_bounds.specs.PackRows.{width_of, matrices_in, row_of, matrices_beside, lists_of}
 use Rattle.pack_laws.specs.Agreeing.{AreMatrices, IsPackOf, ArePacksOf}
 use Rattle.diff_layer.specs.declared.plans.PackPlan.{PackPlan}
 use Rattle.diff_layer.specs.Plans.{plain_plan, plain_plans, IsShortHome, ArePlansOf, matrices_for, IsRowFor}

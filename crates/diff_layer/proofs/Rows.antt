@@ -17,7 +17,7 @@ use Rattle.diff_bounds.specs.declared.Pack as declared
 use Rattle.diff_bounds.specs.Lattice.{matrices}
 use Rattle.diff_steps.specs.Packs.{Pack, size_of}
 use Rattle.diff_steps.specs.Edges.{bottoms, or_bottoms, walked_packs, post_packs}
-use Rattle.pack_rows.specs.Rows.{words_of, width_of, matrices_in, row_of, matrices_beside}
+use Rattle.diff_bounds.specs.PackRows.{words_of, width_of, matrices_in, row_of, matrices_beside}
 use Rattle.pack_laws.specs.Layer.{sizes_of, edge_packs, packs_post}
 use Rattle.pack_laws.specs.Packs.{home_at, pack_in, packs_in}
 use Rattle.diff_layer.specs.Planning.{sizes_in}

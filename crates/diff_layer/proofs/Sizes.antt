@@ -4,7 +4,7 @@ use Rattle.std.specs.List.{AllByRecursion}
 use Rattle.std.proofs.lemmas.List.{length-map}
 use Rattle.dom_laws.specs.Lattice.{IsElement}
 use Rattle.diff_steps.specs.Packs.{Pack, size_of}
-use Rattle.pack_rows.specs.Rows.{matrices_beside, packs_lattice}
+use Rattle.diff_bounds.specs.PackRows.{matrices_beside, packs_lattice}
 use Rattle.pack_laws.specs.Layer.{sizes_of, diff_lattice}
 use Rattle.diff_layer.proofs.Rows.{small_sizes}
 

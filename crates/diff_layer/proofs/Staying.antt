@@ -9,8 +9,8 @@ use Rattle.std.proofs.lemmas.List.{get_or_past}
 use Rattle.dec_num.proofs.Signed.{neg_ℤ_times}
 use Rattle.cob_program.specs.Act.{Program}
 use Rattle.diff_bounds.specs.Matrix.{word, IsWord, IsMatrix}
-use Rattle.closed_matrices.specs.Closed.{closed, IsClosed}
-use Rattle.closed_matrices.proofs.Tight.{tight_of_closure}
+use Rattle.diff_bounds.specs.Closed.{closed, IsClosed}
+use Rattle.diff_bounds.proofs.Tight.{tight_of_closure}
 use Rattle.cell_rows.specs.Known.{Known}
 use Rattle.cell_rows.specs.Elements.{CellsFit}
 use Rattle.cell_steps.specs.Homes.{Home, homes_of, owns}

@@ -24,8 +24,8 @@ use Rattle.cell_layer.specs.Held.{IsHeld}
 use Rattle.diff_bounds.specs.declared.Pack as declared
 use Rattle.diff_bounds.specs.Widening.{AreThresholds}
 use Rattle.diff_steps.specs.Packs.{Pack}
-use Rattle.pack_rows.specs.Rows.{lists_of}
-use Rattle.pack_rows.proofs.Rows.{packs_are_a_lattice}
+use Rattle.diff_bounds.specs.PackRows.{lists_of}
+use Rattle.diff_bounds.proofs.PackRows.{packs_are_a_lattice}
 use Rattle.pack_laws.specs.Layer.{Facts, AreFacts, ArePacks, sizes_of, diff_lattice, diff_flow, diff_meaning}
 use Rattle.pack_laws.proofs.Flow.{packs_flow}
 use Rattle.pack_laws.proofs.Meaning.{packs_mean}

@@ -5,7 +5,7 @@ use Rattle.cob_data.specs.declared.layout.Layout.{Layout}
 use Rattle.cob_program.specs.Act.{Program}
 use Rattle.cell_steps.specs.Homes.{Home, home_range}
 use Rattle.diff_steps.specs.Packs.{Pack, size_of, decimals_of, pack_decimals}
-use Rattle.pack_rows.specs.Rows.{width_of, matrices_in}
+use Rattle.diff_bounds.specs.PackRows.{width_of, matrices_in}
 use Rattle.pack_laws.specs.Agreeing.{AreMatrices, IsPackOf}
 use Rattle.pack_forms.specs.Cells.{plain_cells}
 use Rattle.diff_layer.specs.declared.plans.PackPlan.{PackPlan}

@@ -1,13 +1,13 @@
 //! Rows of matrices as a domain.
 ghost use Rattle.cob_program.specs.ActView.{plain_program};
-ghost use Rattle.pack_rows.specs.Rows.{lists_of};
+ghost use Rattle.diff_bounds.specs.PackRows.{lists_of};
 ghost use Rattle.pack_laws.specs.Layer.{diff_lattice};
 ghost use Rattle.pack_laws.specs.Packs.{packs_of};
 ghost use Rattle.diff_layer.specs.LayerLaws.{ordered_by};
 
 use crate::layer::DiffLayer;
+use diff_bounds::{height_of, join_rows, leq_rows, set_least, widen_rows, width_of};
 use dom_laws::{Domain, Rows};
-use pack_rows::{height_of, join, leq, set_least, widen, width_of};
 
 impl<'a, R: Rows> Domain for DiffLayer<'a, R> {
     ghost lattice = { λ s. diff_lattice (packs_of (plain_program s.program.now) s.packs.now) (lists_of s.thresholds.now) };
@@ -21,15 +21,15 @@ impl<'a, R: Rows> Domain for DiffLayer<'a, R> {
     }
 
     fn leq(&self, a: &[i128], b: &[i128]) -> bool {
-        leq(self.sizes.as_slice(), self.thresholds, a, b)
+        leq_rows(self.sizes.as_slice(), self.thresholds, a, b)
     }
 
     fn join(&self, a: &mut [i128], b: &[i128]) {
-        join(self.sizes.as_slice(), self.thresholds, a, b);
+        join_rows(self.sizes.as_slice(), self.thresholds, a, b);
     }
 
     fn widen(&self, a: &mut [i128], b: &[i128]) -> bool {
-        widen(self.sizes.as_slice(), self.thresholds, a, b)
+        widen_rows(self.sizes.as_slice(), self.thresholds, a, b)
     }
 
     fn height(&self) -> u64 {

@@ -10,7 +10,7 @@ ghost use Rattle.cell_steps.specs.Homes.{owns};
 ghost use Rattle.cell_laws.specs.Entry.{entry_cells};
 ghost use Rattle.diff_steps.specs.Packs.{size_of};
 ghost use Rattle.diff_steps.specs.Edges.{no_bounds, entry_packs};
-ghost use Rattle.pack_rows.specs.Rows.{words_of, width_of, row_of};
+ghost use Rattle.diff_bounds.specs.PackRows.{words_of, width_of, row_of};
 ghost use Rattle.diff_layer.specs.Plans.{plain_plans, ArePlansOf};
 ghost use Rattle.diff_layer.specs.Edges.{free_word};
 
@@ -19,7 +19,7 @@ use crate::plans::PackPlan;
 use cell_layer::entry_row;
 use cob_program::Program;
 use cob_runs::Cell;
-use pack_rows::{set_least, width_of, words_of};
+use diff_bounds::{set_least, width_of, words_of};
 use std::alloc::{AllocError, Global};
 
 /// The word of no bound.

@@ -1,6 +1,6 @@
 //! The graph of a program as a system over rows of matrices.
 ghost use Rattle.cob_program.specs.ActView.{plain_program};
-ghost use Rattle.pack_rows.specs.Rows.{lists_of};
+ghost use Rattle.diff_bounds.specs.PackRows.{lists_of};
 ghost use Rattle.pack_laws.specs.Layer.{diff_flow};
 ghost use Rattle.pack_laws.specs.Packs.{packs_of};
 ghost use Rattle.diff_layer.specs.LayerLaws.{flows_by};
@@ -8,8 +8,8 @@ ghost use Rattle.diff_layer.specs.LayerLaws.{flows_by};
 use crate::edges::passes_edge;
 use crate::layer::DiffLayer;
 use cell_layer::{edge_with, is_marked};
+use diff_bounds::set_least;
 use dom_laws::{Rows, Steps, System};
-use pack_rows::set_least;
 use std::sync::ledger::Ledger;
 
 impl<'a, R: Rows> System for DiffLayer<'a, R> {

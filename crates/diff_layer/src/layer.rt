@@ -8,7 +8,7 @@ ghost use Rattle.cell_layer.specs.Heads.{heads_of};
 ghost use Rattle.cell_layer.specs.Held.{IsHeld};
 ghost use Rattle.diff_bounds.specs.Widening.{AreThresholds};
 ghost use Rattle.diff_steps.specs.Edges.{entry_packs};
-ghost use Rattle.pack_rows.specs.Rows.{row_of, lists_of};
+ghost use Rattle.diff_bounds.specs.PackRows.{row_of, lists_of};
 ghost use Rattle.diff_layer.specs.Plans.{plain_plans};
 ghost use Rattle.pack_laws.specs.Layer.{AreFacts, sizes_of};
 ghost use Rattle.pack_laws.specs.Packs.{packs_of, ArePacksOfCells};

@@ -6,7 +6,7 @@ ghost use Rattle.cell_rows.specs.Elements.{CellsFit};
 ghost use Rattle.cell_rows.specs.Rows.{IsReached, cells_of};
 ghost use Rattle.cell_steps.specs.Homes.{owns};
 ghost use Rattle.cell_layer.specs.Held.{IsHeld};
-ghost use Rattle.pack_rows.specs.Rows.{lists_of};
+ghost use Rattle.diff_bounds.specs.PackRows.{lists_of};
 ghost use Rattle.diff_layer.specs.Plans.{plain_plans, ArePlansOf, matrices_for, IsRowFor};
 ghost use Rattle.pack_laws.specs.Layer.{leaves_clear2, diff_meaning};
 ghost use Rattle.pack_laws.specs.Packs.{packs_of};

@@ -2,11 +2,11 @@
 ghost use Rattle.std.specs.Prelude.{◌≡◌, ◌≤◌};
 ghost use Rattle.diff_steps.specs.Packs.{size_of};
 ghost use Rattle.pack_forms.specs.Views.{plain_pack};
-ghost use Rattle.pack_rows.specs.Rows.{words_of};
+ghost use Rattle.diff_bounds.specs.PackRows.{words_of};
 ghost use Rattle.diff_layer.specs.Plans.{plain_plan};
 
+use diff_bounds::words_of;
 use pack_forms::{PackCell, PackView};
-use pack_rows::words_of;
 
 /// A pack: its cells in turn, at most eight, and the decimals of its unit.
 #[derive(Drop)]

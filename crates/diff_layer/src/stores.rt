@@ -25,8 +25,8 @@ use borrowed_parts::Amount;
 use cell_amounts::receiver_at;
 use cell_walk::{Kept, KnownItems};
 use dec_num::Mode;
+use diff_bounds::set_least_matrix;
 use pack_forms::{PackCell, PackView, amount_form, cell_in, has_operands, store_at, unit_of};
-use pack_rows::set_least_matrix;
 use result_ranges::{AmountRange, Taken};
 
 // the range of an amount that is a decimal, by what it is worked out of

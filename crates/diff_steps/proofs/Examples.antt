@@ -21,7 +21,7 @@ use Rattle.cob_runs.specs.declared.action.Action.TheVariants as action
 use Rattle.decimal_interval.specs.Corners.{interval}
 use Rattle.linear_form.specs.Forms.{if_small, coefs_of}
 use Rattle.diff_bounds.specs.Matrix.{none}
-use Rattle.closed_matrices.specs.Closed.{sums_through}
+use Rattle.diff_bounds.specs.Closed.{sums_through}
 use Rattle.cell_rows.specs.Known.{Known}
 use Rattle.cell_steps.specs.Homes.{of_item}
 use Rattle.cell_steps.specs.Edges.{clears_edge}

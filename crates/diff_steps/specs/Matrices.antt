@@ -5,7 +5,7 @@ use Rattle.cob_data.specs.declared.layout.Layout.{Layout}
 use Rattle.linear_form.specs.declared.form.Lin.{Lin}
 use Rattle.diff_bounds.specs.Matrix.{word, none}
 use Rattle.diff_bounds.specs.Lattice.{matrix_of, bottom_word}
-use Rattle.closed_matrices.specs.Closed.{closed}
+use Rattle.diff_bounds.specs.Closed.{closed}
 use Rattle.form_bounds.specs.Numbers.{word_of}
 use Rattle.form_bounds.specs.Upper.{coef_at}
 use Rattle.form_bounds.specs.Assigned.{upper_less, less_upper}

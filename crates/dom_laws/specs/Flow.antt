@@ -35,7 +35,8 @@ pub record IsFlow (l : Lattice) (f : Flow) : Type 0 where
   pub by_source : (d e : ℕ) → IsEdge f d → IsEdge f e → d ≤ e → f.source d ≤ f.source e
   pub entry_element : IsElement l f.entry
   pub post_element : (edge : ℕ) (a : List ℤ) → IsEdge f edge → IsElement l a → IsElement l (f.post edge a)
-  pub post_monotone : (edge : ℕ) (a b : List ℤ) → IsEdge f edge → IsElement l a → IsElement l b → l.Below a b → l.Below (f.post edge a) (f.post edge b)
+  pub post_monotone : (edge : ℕ) (a b : List ℤ) → IsEdge f edge → IsElement l a → IsElement l b → l.Below a b
+      → l.Below (f.post edge a) (f.post edge b)
 
 -- what the nodes hold is kept by the entry and by every edge
 pub record IsInductive (l : Lattice) (f : Flow) (rows : ℕ → List ℤ) : Type 0 where
@@ -45,18 +46,23 @@ pub record IsInductive (l : Lattice) (f : Flow) (rows : ℕ → List ℤ) : Type
 
 -- Widening two rows at or below a head's row stays at or below it.
 abbrev pub HeadsAreFixed : Lattice → Flow → (ℕ → List ℤ) → Type 0
-HeadsAreFixed l f rows = (head : ℕ) → IsHead f head → (a b : List ℤ) → IsElement l a → IsElement l b → l.Below a (rows head) → l.Below b (rows head) → l.Below (l.widen a b) (rows head)
+HeadsAreFixed l f rows =
+    (head : ℕ) → IsHead f head → (a b : List ℤ) → IsElement l a → IsElement l b
+    → l.Below a (rows head) → l.Below b (rows head) → l.Below (l.widen a b) (rows head)
 
 -- below every inductive assignment whose heads are fixed
 abbrev pub IsDominated : Lattice → Flow → (ℕ → List ℤ) → Type 0
-IsDominated l f rows = (others : ℕ → List ℤ) → IsInductive l f others → HeadsAreFixed l f others → (node : ℕ) → IsNode f node → l.Below (rows node) (others node)
+IsDominated l f rows =
+    (others : ℕ → List ℤ) → IsInductive l f others → HeadsAreFixed l f others
+    → (node : ℕ) → IsNode f node → l.Below (rows node) (others node)
 
 -- ---- heads, counted
 
 -- an edge up to this one goes back to the node
 abbrev pub goes_back_to : Flow → ℕ → ℕ → Bool
 goes_back_to f node zero = false
-goes_back_to f node (suc e) = (nat_eq (f.target (suc e)) node && nat_le (f.target (suc e)) (f.source (suc e))) || goes_back_to f node e
+goes_back_to f node (suc e) =
+    (nat_eq (f.target (suc e)) node && nat_le (f.target (suc e)) (f.source (suc e))) || goes_back_to f node e
 
 -- how many of the nodes up to this one are heads
 abbrev pub heads_up_to : Flow → ℕ → ℕ

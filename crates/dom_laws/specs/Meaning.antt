@@ -29,16 +29,27 @@ pub record Meaning : Type 1 where
   pub Clears : ℕ → List ℤ → Kind → Type 0
 
 pub record IsMeaning (l : Lattice) (f : Flow) (m : Meaning) : Type 0 where
-  pub stands_above : (a b : List ℤ) (s : Storage) → IsElement l a → IsElement l b → l.Below a b → m.StandsFor a s → m.StandsFor b s
+  -- a row stands for all that a lower one stands for
+  pub stands_above : (a b : List ℤ) (s : Storage) → IsElement l a → IsElement l b → l.Below a b
+      → m.StandsFor a s → m.StandsFor b s
+  -- the entry stands for each first storage
   pub begins : (s : Storage) → m.runs.Begins s → m.Granted 1 s → m.StandsFor f.entry s
-  pub kept : (edge : ℕ) (row : List ℤ) (s t : Storage) → IsEdge f edge → IsElement l row → m.Granted (f.source edge) s → m.StandsFor row s → m.runs.Acts edge s t → m.StandsFor (f.post edge row) t
-  pub cleared : (node : ℕ) (row : List ℤ) (kind : Kind) (s : Storage) → IsNode f node → IsElement l row → m.Clears node row kind → m.Granted node s → m.StandsFor row s → ¬ m.runs.Meets node kind s
-  pub clears_below : (node : ℕ) (a b : List ℤ) (kind : Kind) → IsNode f node → IsElement l a → IsElement l b → l.Below a b → m.Clears node b kind → m.Clears node a kind
+  -- what an edge makes of a row stands for what it makes of a storage
+  pub kept : (edge : ℕ) (row : List ℤ) (s t : Storage) → IsEdge f edge → IsElement l row
+      → m.Granted (f.source edge) s → m.StandsFor row s → m.runs.Acts edge s t → m.StandsFor (f.post edge row) t
+  -- no storage for which a row stands meets a fault that the row clears
+  pub cleared : (node : ℕ) (row : List ℤ) (kind : Kind) (s : Storage) → IsNode f node → IsElement l row
+      → m.Clears node row kind → m.Granted node s → m.StandsFor row s → ¬ m.runs.Meets node kind s
+  -- a row clears all that a higher one clears
+  pub clears_below : (node : ℕ) (a b : List ℤ) (kind : Kind) → IsNode f node → IsElement l a → IsElement l b
+      → l.Below a b → m.Clears node b kind → m.Clears node a kind
 
 -- a run comes to the node with this storage along so many edges
 abbrev pub ReachesIn : Flow → Runs → ℕ → ℕ → Storage → Type 0
 ReachesIn f r zero node s = (node ≡ 1) × r.Begins s
-ReachesIn f r (suc n) node s = (edge : ℕ) × (before : Storage) × IsEdge f edge × (f.target edge ≡ node) × ReachesIn f r n (f.source edge) before × r.Acts edge before s
+ReachesIn f r (suc n) node s =
+    (edge : ℕ) × (before : Storage) × IsEdge f edge × (f.target edge ≡ node)
+    × ReachesIn f r n (f.source edge) before × r.Acts edge before s
 
 -- all that a layer takes for granted holds of the storages that come to a node
 abbrev pub IsGranted : Flow → Meaning → Type 0

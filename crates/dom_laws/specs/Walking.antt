@@ -59,18 +59,21 @@ module _ (w : Walking) where
   -- what is asked of single parts, each at its place in an edge
   pub record IsWalking (ps : List w.Part) : Type 0 where
     pub rises : (x : w.Part) (a b : w.Seen) → w.Below a b → BelowIf (w.step x a) (w.step x b)
-    pub clears_below : (x : w.Part) (a b : w.Seen) (kind : Kind) → w.Below a b → w.Clears x b kind → w.Clears x a kind
+    pub clears_below : (x : w.Part) (a b : w.Seen) (kind : Kind) → w.Below a b
+        → w.Clears x b kind → w.Clears x a kind
     pub keeps : (done rest : List w.Part) (x : w.Part) (a : w.Seen) (m n : w.Moment) → done ++ x ∷ rest ≡ ps
         → w.Agrees done a m → w.Passes x m n → IsSeen (w.step x a) (λ b. w.Agrees (done ++ x ∷ []) b n)
-    pub cleared : (done rest : List w.Part) (x : w.Part) (a : w.Seen) (m : w.Moment) (kind : Kind) → done ++ x ∷ rest ≡ ps
-        → w.Agrees done a m → w.Clears x a kind → ¬ w.Faults x m kind
+    pub cleared : (done rest : List w.Part) (x : w.Part) (a : w.Seen) (m : w.Moment) (kind : Kind)
+        → done ++ x ∷ rest ≡ ps → w.Agrees done a m → w.Clears x a kind → ¬ w.Faults x m kind
 
   -- what follows for the edge
   pub record IsSound (ps : List w.Part) : Type 0 where
     pub monotone : (a b : w.Seen) → w.Below a b → BelowIf (walk ps a) (walk ps b)
     pub clears_below : (a b : w.Seen) (kind : Kind) → w.Below a b → ClearsAll ps b kind → ClearsAll ps a kind
-    pub kept : (a : w.Seen) (m n : w.Moment) → w.Agrees [] a m → PassesAll ps m n → IsSeen (walk ps a) (λ b. w.Agrees ps b n)
-    pub cleared : (a : w.Seen) (m : w.Moment) (kind : Kind) → w.Agrees [] a m → ClearsAll ps a kind → ¬ Meets ps m kind
+    pub kept : (a : w.Seen) (m n : w.Moment) → w.Agrees [] a m → PassesAll ps m n
+        → IsSeen (walk ps a) (λ b. w.Agrees ps b n)
+    pub cleared : (a : w.Seen) (m : w.Moment) (kind : Kind) → w.Agrees [] a m → ClearsAll ps a kind
+        → ¬ Meets ps m kind
 
 abbrev pub EdgesAreSound : Type 1
 EdgesAreSound = (w : Walking) (ps : List w.Part) → IsWalking w ps → IsSound w ps

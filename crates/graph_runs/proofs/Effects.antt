@@ -17,7 +17,7 @@ use Rattle.cob_runs.specs.Moves.{number_of}
 use Rattle.cob_runs.specs.State.{World}
 use Rattle.cob_runs.specs.Acts.{with_count}
 use Rattle.cob_runs.specs.Steps.{is_left}
-use Rattle.cob_runs.specs.Effects.{Effect, taken, taken_if, not_taken, met, decided, tested, counted, tests_in_act, effect_of, effect, act_at}
+use Rattle.cob_runs.specs.Effects.{Effect, edge_taken, taken_if, not_taken, met, edge_decided, edge_tested, edge_counted, tests_in_act, effect_of, effect, act_at}
 use Rattle.cob_edge_parts.specs.Parts.{Part, assign_parts, call_parts, read_parts, bad_parts, test_parts}
 use Rattle.cob_edge_parts.specs.Meaning.{count_in}
 use Rattle.cob_edge_parts.proofs.PlainEdges.{test_edge}
@@ -49,22 +49,22 @@ module _ (p : Program) (number : ℕ) (c : Choice) (w v : World) where
   as_done : (xs : List Part) (r : Effect) → Does p number c w w.counts xs r → r ≡ Ok (Some v) → v.counts ≡ w.counts
   as_done xs r h e = (subst (λ (q : Effect). Does p number c w w.counts xs q) e h).4
 
-  decided_counts : (wanted : Bool) (t : Option Test) → decided p number c w wanted t ≡ Ok (Some v) →
+  decided_counts : (wanted : Bool) (t : Option Test) → edge_decided p number c w wanted t ≡ Ok (Some v) →
       v.counts ≡ w.counts
   decided_counts wanted None e = absurd (cc)
   decided_counts wanted (Some t) e =
-      as_done (test_parts p.layout wanted (Some t)) (decided p number c w wanted (Some t))
+      as_done (test_parts p.layout wanted (Some t)) (edge_decided p number c w wanted (Some t))
       (test_edge p.layout w.counts w t wanted) e
 
-  tested_counts : (wanted : Bool) (k : ℕ) (a : Act) → tested p number c w wanted k a ≡ Ok (Some v) →
+  tested_counts : (wanted : Bool) (k : ℕ) (a : Act) → edge_tested p number c w wanted k a ≡ Ok (Some v) →
       v.counts ≡ w.counts
   tested_counts wanted k (perform body (times x)) e =
-      let left = is_left p c (count_in w.counts number) in
+      let left = is_left (count_in w.counts number) in
       sym (ap (λ (u : World). u.counts) (is_taken (if wanted then left else not left) w v e).1)
   tested_counts wanted k a e = decided_counts wanted (slice_get (tests_in_act a) k) e
 
   plain_counts : (x : Action) (a : Act) → IsPlain x → effect_of p number c w x a ≡ Ok (Some v) → v.counts ≡ w.counts
-  plain_counts action.Skip a i e = as_done [] (taken w) (stays p number c w w.counts) e
+  plain_counts action.Skip a i e = as_done [] (edge_taken w) (stays p number c w w.counts) e
   plain_counts action.Assign a i e = as_done (assign_parts p number a) _ (assign_edge p number c w w.counts a) e
   plain_counts action.Done a i e = (computed_passed p number c w w.counts false a v e).4
   plain_counts action.Size a i e = (computed_passed p number c w w.counts true a v e).4
@@ -118,12 +118,12 @@ module _ (p : Program) (number : ℕ) (c : Choice) (w v : World) where
   set_by (Ok n) e = own_set n.units (cc)
   set_by (Err kind) e = absurd (cc)
 
-  counted_set : (a : Act) → counted p number c w a ≡ Ok (Some v) → SetsOwn
+  counted_set : (a : Act) → edge_counted p number c w a ≡ Ok (Some v) → SetsOwn
   counted_set (perform body (times x)) e = set_by (or_fault kind.Class (number_of p.layout w.storage x)) e
   counted_set a e = absurd (cc)
 
   down_set : (o : Option ℤ) →
-      taken (option_map_or (λ n. with_count p.layout number (n -ℤ pos 1) w) o w) ≡ Ok (Some v) → SetsOwn
+      edge_taken (option_map_or (λ n. with_count p.layout number (n -ℤ pos 1) w) o w) ≡ Ok (Some v) → SetsOwn
   down_set (Some n) e = own_set (n -ℤ pos 1) (cc)
   down_set None e = λ loop apart. let same : w ≡ v = cc in ap (λ (u : World). count_in u.counts loop) (sym same)
 
@@ -135,7 +135,7 @@ module _ (p : Program) (number : ℕ) (c : Choice) (w v : World) where
 
   -- ---- the test of TIMES
 
-  left_is : (o : Option ℤ) → is_left p c o ≡ true → (n : ℕ) × (o ≡ Some (pos (suc n)))
+  left_is : (o : Option ℤ) → is_left o ≡ true → (n : ℕ) × (o ≡ Some (pos (suc n)))
   left_is (Some (pos (suc n))) e = (n, refl)
   left_is (Some (pos zero)) e = absurd (false≢true e)
   left_is (Some (negsuc n)) e = absurd (false≢true e)
@@ -144,7 +144,7 @@ module _ (p : Program) (number : ℕ) (c : Choice) (w v : World) where
   pub test_held : (k : ℕ) (body : Body) (x : Sender) → act_at p number ≡ Some (perform body (times x)) →
       effect p number c w (action.True k) ≡ Ok (Some v) → IsPositiveIn v.counts number
   test_held k body x is e =
-      let does : taken_if (is_left p c (count_in w.counts number)) w ≡ Ok (Some v) =
+      let does : taken_if (is_left (count_in w.counts number)) w ≡ Ok (Some v) =
       ap (λ (o : Option Act). option_map_or (effect_of p number c w (action.True k)) o not_taken) (sym is) ∙ e in
-      let t = is_taken (is_left p c (count_in w.counts number)) w v does in
+      let t = is_taken (is_left (count_in w.counts number)) w v does in
       subst (λ (u : World). IsPositiveIn u.counts number) t.1 (left_is (count_in w.counts number) t.0)

@@ -18,7 +18,7 @@ use Rattle.cob_data.specs.declared.layout.Sender.TheVariants as sender
 use Rattle.cob_program.specs.Values.{whole_number, literal}
 use Rattle.cob_program.proofs.Steps.{literal_within}
 use Rattle.cob_program.specs.Act.{MkStmt, Stmts, no_stmts, more_stmts, Phrase, left_out, given, Act, arith as arithmetic, if_, evaluate, perform, read, times, Whens, no_whens, more_whens, MkWhen, Body, range, inline, Para, Program}
-use Rattle.cob_runs.specs.Effects.{or_else, found, found_phrase, found_in, found_whens, found_body, found_among, act_at}
+use Rattle.cob_runs.specs.Effects.{or_else, act_among, act_in_phrase, act_below, act_in_whens, act_in_body, act_in_paras, act_at}
 use Rattle.cob_runs.specs.Contents.{area, item_at, scaled_by, number_in}
 use Rattle.cob_runs.specs.Moves.{number_of}
 use Rattle.cob_runs.specs.Deciding.{is_number_form}
@@ -45,41 +45,41 @@ module _ (l : Layout) (n : ℕ) (a : Act) where
   same_found b false other h f e = f e
 
   mutual
-    can_found : (ss : Stmts) → CanDo l ss → found n ss ≡ Some a → CanDoAct l a
+    can_found : (ss : Stmts) → CanDo l ss → act_among n ss ≡ Some a → CanDoAct l a
     can_found no_stmts h e = absurd (cc)
     can_found (more_stmts (MkStmt m line b) ss) h e =
-        same_found b (n == m) (or_else (found_in n b) (found n ss)) h.0
-        (λ k. either (found_in n b) (found n ss) (λ f. can_in b h.0 f) (λ f. can_found ss h.1 f) k) e
+        same_found b (n == m) (or_else (act_below n b) (act_among n ss)) h.0
+        (λ k. either (act_below n b) (act_among n ss) (λ f. can_in b h.0 f) (λ f. can_found ss h.1 f) k) e
 
-    can_phrase : (x : Phrase) → CanDoPhrase l x → found_phrase n x ≡ Some a → CanDoAct l a
+    can_phrase : (x : Phrase) → CanDoPhrase l x → act_in_phrase n x ≡ Some a → CanDoAct l a
     can_phrase left_out h e = absurd (cc)
     can_phrase (given ss) h e = can_found ss h e
 
-    can_in : (b : Act) → CanDoAct l b → found_in n b ≡ Some a → CanDoAct l a
+    can_in : (b : Act) → CanDoAct l b → act_below n b ≡ Some a → CanDoAct l a
     can_in (arithmetic s targets remainder size fine) h e =
-        either (found_phrase n size) (found n fine) (λ f. can_phrase size h.1 f) (λ f. can_found fine h.2 f) e
+        either (act_in_phrase n size) (act_among n fine) (λ f. can_phrase size h.1 f) (λ f. can_found fine h.2 f) e
     can_in (if_ t held other) h e =
-        either (found n held) (found n other) (λ f. can_found held h.1 f) (λ f. can_found other h.2 f) e
+        either (act_among n held) (act_among n other) (λ f. can_found held h.1 f) (λ f. can_found other h.2 f) e
     can_in (evaluate ws other) h e =
-        either (found_whens n ws) (found n other) (λ f. can_whens ws h.0 f) (λ f. can_found other h.1 f) e
+        either (act_in_whens n ws) (act_among n other) (λ f. can_whens ws h.0 f) (λ f. can_found other h.1 f) e
     can_in (perform body turns) h e = can_body body h.1 e
     can_in (read file into end fine) h e =
-        either (found_phrase n end) (found n fine) (λ f. can_phrase end h.0 f) (λ f. can_found fine h.1 f) e
+        either (act_in_phrase n end) (act_among n fine) (λ f. can_phrase end h.0 f) (λ f. can_found fine h.1 f) e
     can_in b h e = absurd (cc)
 
-    can_whens : (ws : Whens) → CanDoWhens l ws → found_whens n ws ≡ Some a → CanDoAct l a
+    can_whens : (ws : Whens) → CanDoWhens l ws → act_in_whens n ws ≡ Some a → CanDoAct l a
     can_whens no_whens h e = absurd (cc)
     can_whens (more_whens (MkWhen tests ss) ws) h e =
-        either (found n ss) (found_whens n ws) (λ f. can_found ss h.1 f) (λ f. can_whens ws h.2 f) e
+        either (act_among n ss) (act_in_whens n ws) (λ f. can_found ss h.1 f) (λ f. can_whens ws h.2 f) e
 
-    can_body : (body : Body) → CanDoBody l body → found_body n body ≡ Some a → CanDoAct l a
+    can_body : (body : Body) → CanDoBody l body → act_in_body n body ≡ Some a → CanDoAct l a
     can_body (range first last) h e = absurd (cc)
     can_body (inline ss) h e = can_found ss h e
 
-  can_among : (xs : List Para) → CanDoParas l xs → found_among n xs ≡ Some a → CanDoAct l a
+  can_among : (xs : List Para) → CanDoParas l xs → act_in_paras n xs ≡ Some a → CanDoAct l a
   can_among [] h e = absurd (cc)
   can_among (x ∷ xs) h e =
-      either (found n x.body) (found_among n xs) (λ f. can_found x.body h.0 f) (λ f. can_among xs h.1 f) e
+      either (act_among n x.body) (act_in_paras n xs) (λ f. can_found x.body h.0 f) (λ f. can_among xs h.1 f) e
 
 pub sent_is_number : (p : Program) → CanDoProgram p → (statement : ℕ) (body : Body) (x : Sender) →
     act_at p statement ≡ Some (perform body (times x)) → IsNumber p.layout x
@@ -92,7 +92,7 @@ mapped : {A B : Type 0} (f : A → B) (o : Option A) (b : B) → option_map f o 
 mapped f None b e = absurd (cc)
 mapped f (Some a) b e = (a, refl, same_Some (f a) b e)
 
-form_short : (l : Layout) (f : Form) (bytes : ℕ) (bs : List ℕ) (v : Scaled) → is_number_form l [] f ≡ true →
+form_short : (l : Layout) (f : Form) (bytes : ℕ) (bs : List ℕ) (v : Scaled) → is_number_form f ≡ true →
     IsWellFormedForm f bytes → length bs ≤ bytes → number_in f bs ≡ Some v → unsigned_abs v.units < 10 ^ 18
 form_short l (form.Number digits scale signed usage) bytes bs v is whole few e =
     let h = mapped (scaled_by scale) (number_value digits signed usage bs) v e in
@@ -108,7 +108,7 @@ found_at P (y ∷ ys) zero x all e = subst P (same_Some y x e) (All-head P y ys 
 found_at P (y ∷ ys) (suc i) x all e = found_at P ys i x (All-tail P y ys all) e
 
 module _ (l : Layout) (whole : HasWellFormedItems l) (storage : List ℕ) where
-  item_short : (place : ℕ) (v : Scaled) (o : Option Item) → item_at l place ≡ o → is_number_form l []
+  item_short : (place : ℕ) (v : Scaled) (o : Option Item) → item_at l place ≡ o → is_number_form
       (option_map_or (λ (i : Item). i.form) o form.Group) ≡ true →
       number_in (option_map_or (λ (i : Item). i.form) o form.Group)
       (option_map_or (λ (i : Item). area storage i.offset i.length) o []) ≡ Some v → unsigned_abs v.units < 10 ^ 18

@@ -8,9 +8,9 @@ use Rattle.cob_data.specs.declared.layout.Layout.{Layout}
 use Rattle.cob_data.specs.declared.layout.Sender.{Sender}
 use Rattle.cob_program.specs.Act.{Act, Program}
 use Rattle.cob_runs.specs.declared.action.Action.{Action}
-use Rattle.cob_runs.specs.Effects.{act_at}
+use Rattle.cob_runs.specs.Effects.{act_at, is_times}
 use Rattle.cob_runs.specs.Moves.{number_of}
-use Rattle.cob_edge_parts.specs.Parts.{Part, set_count, count_down, is_times, is_handled, parts_of}
+use Rattle.cob_edge_parts.specs.Parts.{Part, set_count, count_down, is_handled, parts_of}
 use Rattle.cob_edge_parts.specs.Meaning.{Moment, count_in, Passes, Faults}
 
 -- ---- counters that hold their numbers

@@ -179,7 +179,7 @@ fn is_number_end(layout: &Layout, end: &Sender) -> bool
 }
 
 fn is_number_item(layout: &Layout, place: u32) -> bool
-    ensures { result ≡ is_number_form layout.now [] (form_at layout.now place) }
+    ensures { result ≡ is_number_form (form_at layout.now place) }
 {
     match layout.items.get().get(place as usize) {
         None => false,

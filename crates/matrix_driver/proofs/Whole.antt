@@ -3,8 +3,8 @@ use Rattle.std.proofs.Common.{◌≢◌, ℕ, ◌+◌, ◌<◌, ℤ, arith}
 use Rattle.linear_form.specs.declared.form.Lin.{Lin}
 use Rattle.form_bounds.specs.Values.{IsOver}
 use Rattle.form_bounds.specs.Assigned.{AreAssigned}
-use Rattle.closed_matrices.specs.Settled.{IsTightBut}
-use Rattle.closed_matrices.proofs.Tight.{tight_beside}
+use Rattle.diff_bounds.specs.Settled.{IsTightBut}
+use Rattle.diff_bounds.proofs.Tight.{tight_beside}
 
 pub over_all : (form : Lin) → IsOver 8 form
 over_all form = record { beyond = λ k h l. absurd (omega arith) }

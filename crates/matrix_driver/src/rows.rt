@@ -1,16 +1,15 @@
 //! Matrices that are closed anew where one row and its column have changed.
 ghost use Rattle.std.specs.Prelude.{◌≡◌, ◌≢◌, ◌⊎◌, ◌+◌, ◌<◌, ◌≤◌, length, IsTrue};
 ghost use Rattle.diff_bounds.specs.Matrix.{word, IsMatrix};
-ghost use Rattle.closed_matrices.specs.Settled.{IsTightBut};
+ghost use Rattle.diff_bounds.specs.Settled.{IsTightBut};
 
 use crate::inputs::{Input, bound_of};
 use crate::shown::Answer;
-use closed_matrices::{close_row, closed_words_are_tight, settled};
-use diff_bounds::{add_bound, close};
+use diff_bounds::{add_bound, close, close_row, closed_words_are_tight, settled};
 use form_bounds::assign;
 
 // lowers a word of one row or of its column
-#[tactic(auto, using(closed_matrices::proofs::Tight::tight_but_one))]
+#[tactic(auto, using(diff_bounds::proofs::Tight::tight_but_one))]
 fn lower(m: &mut [i128; 81], at: usize, row: usize, column: usize, number: i128)
     requires matrix { IsMatrix 8 m.old }
     requires tight { IsTightBut 9 at (word 9 m.old) }

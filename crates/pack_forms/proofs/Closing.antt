@@ -4,8 +4,8 @@ use Rattle.std.specs.Prelude.{◌↔◌, IsTrue}
 use Rattle.std.proofs.lemmas.Bool.{false≢true}
 use Rattle.diff_bounds.specs.Matrix.{word, IsMatrix}
 use Rattle.diff_bounds.specs.Paths.{HasNoNegativeCycle, IsClosure}
-use Rattle.closed_matrices.specs.Closed.{closed}
-use Rattle.closed_matrices.proofs.Closures.{closed_to, none_closed_without}
+use Rattle.diff_bounds.specs.Closed.{closed}
+use Rattle.diff_bounds.proofs.Closures.{closed_to, none_closed_without}
 
 pub closed_by : (size : ℕ) (m c : List ℤ) (b : Bool) → size ≤ 8 → IsMatrix size m → (IsTrue b ↔ HasNoNegativeCycle (size + 1) (word (size + 1) m))
     → (IsTrue b → IsClosure (size + 1) (word (size + 1) m) (word (size + 1) c)) → (IsTrue b → IsMatrix size c)

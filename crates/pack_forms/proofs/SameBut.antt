@@ -4,8 +4,8 @@ use Rattle.std.proofs.lemmas.Bool.{cases_eq}
 use Rattle.std.proofs.lemmas.Nat.{div-mul-add, mod-mul-add}
 use Rattle.diff_bounds.specs.Matrix.{word}
 use Rattle.diff_bounds.proofs.Places.{place_fits}
-use Rattle.closed_matrices.specs.Settled.{IsTightBut}
-use Rattle.closed_matrices.proofs.Tight.{tight_beside}
+use Rattle.diff_bounds.specs.Settled.{IsTightBut}
+use Rattle.diff_bounds.proofs.Tight.{tight_beside}
 use Rattle.pack_forms.specs.Tight.{AreSameBut}
 
 -- the first words are the same, but for those of one row and of its column

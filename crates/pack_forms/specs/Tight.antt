@@ -1,7 +1,7 @@
 -- Closed matrices whose sums of two words aren't cut, and words that stay.
 use Rattle.std.specs.Prelude.{◌≡◌, ◌≢◌, ℕ, ◌+◌, ◌≤◌, List, ℤ}
 use Rattle.diff_bounds.specs.Matrix.{word}
-use Rattle.closed_matrices.specs.Settled.{IsSettled, IsTightBut}
+use Rattle.diff_bounds.specs.Settled.{IsSettled, IsTightBut}
 
 -- Where the matrix is settled, no word is above the sum of two words over a third place.
 pub record IsTightIfSettled (size : ℕ) (m : List ℤ) : Type 0 where

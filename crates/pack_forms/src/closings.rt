@@ -2,8 +2,8 @@
 ghost use Rattle.std.specs.Prelude.{◌≡◌, ◌+◌, ◌<◌, ◌≤◌, neg_ℤ, ◌*ℤ◌, IsTrue, length, List, Some, None, if◌then◌else◌};
 ghost use Rattle.cob_data.specs.declared.layout.Layout.{Layout};
 ghost use Rattle.diff_bounds.specs.Matrix.{word, IsMatrix};
-ghost use Rattle.closed_matrices.specs.Closed.{closed};
-ghost use Rattle.closed_matrices.specs.Settled.{IsTightBut};
+ghost use Rattle.diff_bounds.specs.Closed.{closed};
+ghost use Rattle.diff_bounds.specs.Settled.{IsTightBut};
 ghost use Rattle.cell_rows.specs.Known.{Known};
 ghost use Rattle.cell_steps.specs.Homes.{Home};
 ghost use Rattle.diff_steps.specs.Packs.{Pack};
@@ -13,9 +13,8 @@ ghost use Rattle.pack_forms.specs.Ends.{IsNumber};
 ghost use Rattle.pack_forms.specs.Tight.{IsTightIfSettled};
 
 use super::changes::changed_place;
-use closed_matrices::{close_row, settled};
 use decimal_interval::Interval;
-use diff_bounds::{add_bound, close};
+use diff_bounds::{add_bound, close, close_row, settled};
 
 /// What is known of a cell of a pack.
 #[derive(Clone, Copy, Debug, PartialEq, Eq)]

@@ -17,7 +17,7 @@ use Rattle.cell_laws.specs.Layer.{left}
 use Rattle.cell_laws.proofs.Clears.{all_at, all_kept}
 use Rattle.diff_steps.specs.Packs.{Pack}
 use Rattle.diff_steps.specs.Clearing.{clears_edge2}
-use Rattle.pack_rows.specs.Rows.{matrices_in}
+use Rattle.diff_bounds.specs.PackRows.{matrices_in}
 use Rattle.pack_laws.specs.Agreeing.{AreMatrices}
 use Rattle.pack_laws.specs.EdgeLaws.{AreLowerEach}
 use Rattle.pack_laws.proofs.PacksEdgesRise as edges

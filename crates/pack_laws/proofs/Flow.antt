@@ -22,7 +22,7 @@ use Rattle.cell_laws.specs.Entry.{entry_cells}
 use Rattle.cell_laws.specs.Layer.{left}
 use Rattle.diff_steps.specs.Packs.{Pack}
 use Rattle.diff_steps.specs.Edges.{entry_packs, post_packs}
-use Rattle.pack_rows.specs.Rows.{matrices_in, row_of}
+use Rattle.diff_bounds.specs.PackRows.{matrices_in, row_of}
 use Rattle.pack_laws.specs.Agreeing.{AreMatrices}
 use Rattle.pack_laws.specs.EdgeLaws.{AreLowerEach}
 use Rattle.pack_laws.proofs.PacksFit.{bottoms_fit, posts_fit}

@@ -17,7 +17,7 @@ use Rattle.cell_laws.proofs.Edges.{edges_are_sound_of_sources}
 use Rattle.diff_steps.specs.Packs.{Pack, PacksStand}
 use Rattle.diff_steps.specs.Edges.{entry_packs, post_packs}
 use Rattle.diff_steps.specs.Clearing.{clears_edge2}
-use Rattle.pack_rows.specs.Rows.{matrices_in, row_of}
+use Rattle.diff_bounds.specs.PackRows.{matrices_in, row_of}
 use Rattle.pack_laws.specs.Agreeing.{AreMatrices, ArePacksOf}
 use Rattle.pack_laws.proofs.PacksStand.{all_packs_stand}
 use Rattle.pack_laws.proofs.PacksClearAll.{none_cleared_is_met}

@@ -9,7 +9,7 @@ use Rattle.diff_bounds.specs.Matrix.{word, none, IsWord, IsMatrix}
 use Rattle.diff_bounds.specs.Paths.{cut_of}
 use Rattle.diff_bounds.specs.Sums.{no_path}
 use Rattle.diff_bounds.proofs.Steps.{cut_is_word}
-use Rattle.closed_matrices.specs.Closed.{opened, lesser, through, is_tame, if_tame, sums_further, sums_through, cut_sums, closed}
+use Rattle.diff_bounds.specs.Closed.{opened, lesser, through, is_tame, if_tame, sums_further, sums_through, cut_sums, closed}
 use Rattle.form_bounds.specs.Values.{AreLower}
 use Rattle.form_bounds.proofs.Numbers.{cut_monotone, lt_true}
 use Rattle.diff_steps.specs.Matrices.{with_words}

@@ -26,7 +26,7 @@ use Rattle.dom_laws.specs.Walking.{IsSeen}
 use Rattle.linear_form.specs.declared.form.Lin.{Lin}
 use Rattle.diff_bounds.specs.Matrix.{word}
 use Rattle.graph_runs.specs.Counters.{PassesPart, PassesParts}
-use Rattle.closed_matrices.specs.Closed.{closed}
+use Rattle.diff_bounds.specs.Closed.{closed}
 use Rattle.cell_rows.specs.Known.{Known}
 use Rattle.cell_steps.specs.Homes.{Home, of_item, of_count, homes_of}
 use Rattle.cell_steps.specs.Storages.{storage, known_of, value_at, KnownStands}

@@ -11,7 +11,7 @@ use Rattle.diff_bounds.specs.Sums.{no_path, IsSum}
 use Rattle.diff_bounds.specs.Storages.{value_at, DifferBy, StandsIn}
 use Rattle.diff_bounds.proofs.Standing.{differ_more}
 use Rattle.diff_bounds.proofs.Steps.{cut_bound}
-use Rattle.closed_matrices.specs.Closed.{opened, lesser, through, is_tame, sums_further, sums_through, cut_sums, closed}
+use Rattle.diff_bounds.specs.Closed.{opened, lesser, through, is_tame, sums_further, sums_through, cut_sums, closed}
 use Rattle.diff_steps.specs.Matrices.{with_words}
 use Rattle.pack_laws.proofs.Words.{word_at}
 use Rattle.pack_laws.proofs.PacksPutRise.{IsFlat}

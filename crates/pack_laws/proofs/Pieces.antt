@@ -13,8 +13,8 @@ use Rattle.diff_bounds.proofs.Monotone.{stands_higher}
 use Rattle.form_bounds.proofs.Forms.{lower_words}
 use Rattle.diff_steps.specs.Packs.{Pack, size_of, cells_in, PacksStand}
 use Rattle.pack_laws.specs.Orders.{AreLowerOff}
-use Rattle.pack_rows.specs.Rows.{words_of, matrices_in, row_of, matrices_beside}
-use Rattle.pack_rows.proofs.Lattices.{pair_is, pair_below}
+use Rattle.diff_bounds.specs.PackRows.{words_of, matrices_in, row_of, matrices_beside}
+use Rattle.diff_bounds.proofs.Lattices.{pair_is, pair_below}
 use Rattle.pack_laws.specs.Agreeing.{AreMatrices}
 use Rattle.pack_laws.specs.EdgeLaws.{AreLowerEach}
 use Rattle.pack_laws.proofs.PacksPutRise.{matrix_is_flat, lower_of, off_of}

@@ -21,7 +21,7 @@ use Rattle.cell_steps.specs.Homes.{owns}
 use Rattle.cell_steps.specs.Storages.{ElementStands}
 use Rattle.cell_laws.specs.Entry.{entry_cells}
 use Rattle.cell_laws.specs.Layer.{left}
-use Rattle.pack_rows.specs.Rows.{matrices_in, row_of, packs_lattice}
+use Rattle.diff_bounds.specs.PackRows.{matrices_in, row_of, packs_lattice}
 use Rattle.diff_steps.specs.Packs.{Pack, size_of, PacksStand}
 use Rattle.diff_steps.specs.Edges.{bottoms, entry_packs, post_packs}
 use Rattle.diff_steps.specs.Clearing.{clears_edge2}

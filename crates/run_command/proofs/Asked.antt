@@ -11,7 +11,7 @@ use Rattle.cob_front.specs.declared.refusal.Refusal.{Refusal}
 use Rattle.cob_front.specs.Source.{IsSource}
 use Rattle.cob_front.specs.Laws.{OneAnswer}
 use Rattle.command_words.specs.Commands.{Run}
-use Rattle.file_paths.specs.Paths.{paths_of}
+use Rattle.run_command.specs.Paths.{paths_of}
 use Rattle.command_answers.specs.Profile.{IsOfProfile, IsProfileCause}
 use Rattle.command_answers.specs.Answer.{Answer, Usage, Absent, Refused, CertificateLong, CertificateBad, CertificateMisfit, NotInductive, Report}
 use Rattle.command_answers.proofs.Found.{held_bytes}

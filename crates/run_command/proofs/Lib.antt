@@ -1,3 +1,4 @@
 pub mod Tasks
 pub mod Asked
 pub mod RunEnds
+pub mod Clashes

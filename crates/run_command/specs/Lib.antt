@@ -2,3 +2,4 @@ pub mod Text
 pub mod Runs
 pub mod View
 pub mod Steps
+pub mod Paths

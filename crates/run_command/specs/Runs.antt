@@ -12,7 +12,7 @@ use Rattle.cob_interp.specs.declared.ends.RunEnd.TheVariants as end
 use Rattle.cob_interp.specs.Running.{Outside, outside, IfTold, KeepsUnmade, Runs, TellsOfSink}
 use Rattle.command_words.specs.Commands.{Run, IsCommand}
 use Rattle.command_words.specs.Commands as command
-use Rattle.file_paths.specs.Paths.{paths_of}
+use Rattle.run_command.specs.Paths.{paths_of}
 use Rattle.command_answers.specs.Text.{memory_line}
 use Rattle.command_answers.specs.Showing.{GainsFront, ShowsRefusal}
 use Rattle.command_answers.specs.Profile.{IsProgramOf, IsOfProfile, IsProfileCause}

@@ -2,10 +2,10 @@
 use Rattle.std.specs.Prelude.{◌≡◌, ℕ, List, length, Result, Ok, Err}
 use Rattle.cob_program.specs.ActView.{plain_program}
 use Rattle.cob_graph.specs.Graphs.{IsGraph}
-use Rattle.cob_well_formed.specs.Sources.{CanBeRun}
+use Rattle.cob_interp.specs.Able.{CanBeRun}
 use Rattle.command_words.specs.Words.{texts}
 use Rattle.command_words.specs.Commands.{Run}
-use Rattle.file_paths.specs.Paths.{AreDistinct}
+use Rattle.run_command.specs.Paths.{AreDistinct}
 use Rattle.command_answers.specs.declared.answer.Stop.{Stop}
 use Rattle.command_answers.specs.declared.answer.Stop.TheVariants.{Memory}
 use Rattle.command_answers.specs.Profile.{IsProfileCause}

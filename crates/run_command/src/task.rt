@@ -11,6 +11,7 @@ ghost use Rattle.run_command.specs.Runs.{AnswersRun, BlamesIfUsage, HoldsTask, R
 ghost use Rattle.run_command.specs.Steps.{IsReady, IsTask, IsNoTask};
 ghost use Rattle.run_command.specs.View.{plain_task};
 
+use crate::paths::{PathsEnd, paths_of};
 use crate::show::show_end;
 use batch_io::{FileEnd, Files, Sink, read_file};
 use cob_front::Refusal;
@@ -19,7 +20,6 @@ use cob_lines::SOURCE_LIMIT;
 use cob_well_formed::sources_can_be_run;
 use command_answers::{Answer, Laid, Stop, answer_to, laid_in};
 use command_words::RunWords;
-use file_paths::{PathsEnd, paths_of};
 use std::alloc::Global;
 
 /// What the words ask for: a program of the profile with its graph, the path of each of its files, and the most steps

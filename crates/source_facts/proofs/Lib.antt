@@ -1,3 +1,5 @@
 pub mod Numbers
 pub mod Facts
 pub mod Examples
+mod Targets
+pub mod Control

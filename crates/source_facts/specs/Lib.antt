@@ -1,2 +1,3 @@
 pub mod Statements
 pub mod Sources
+pub mod Control

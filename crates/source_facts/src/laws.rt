@@ -1,4 +1,5 @@
 //! What holds of each source's program and of its graph.
+ghost use Rattle.source_facts.specs.Control.{SourcesHaveGraphsOrCauses, SourcesHaveTargets};
 ghost use Rattle.source_facts.specs.Sources.{SourcesHaveSourceGraphs};
 ghost use Rattle.source_facts.specs.Statements.{SourcesCountStatements, SourcesNumberStatements};
 
@@ -14,4 +15,11 @@ pub fn statements_are_counted()
 /// their count.
 pub fn sources_have_source_graphs()
     ensures { SourcesHaveSourceGraphs }
+{}
+
+/// A law: each GO TO of a source's program goes to a paragraph of it. The program keeps the rules on PERFORM and GO TO and
+/// has a graph within the limits; or there is a cause why not: the first rule that it breaks, or too many cells or nodes.
+pub fn sources_have_graphs_or_causes()
+    ensures targets { SourcesHaveTargets }
+    ensures graphs { SourcesHaveGraphsOrCauses }
 {}

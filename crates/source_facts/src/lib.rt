@@ -3,4 +3,4 @@
 
 mod laws;
 
-pub use laws::{sources_have_source_graphs, statements_are_counted};
+pub use laws::{sources_have_graphs_or_causes, sources_have_source_graphs, statements_are_counted};

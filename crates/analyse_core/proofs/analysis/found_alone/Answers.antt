@@ -5,7 +5,7 @@ use Rattle.std.proofs.lemmas.Result.{IfOk-weaker}
 use Rattle.cob_program.specs.ActView.{plain_program}
 use Rattle.cell_rows.specs.Rows.{element_of}
 use Rattle.cert_text.specs.View.{view}
-use Rattle.pack_rows.specs.Rows.{width_of}
+use Rattle.diff_bounds.specs.PackRows.{width_of}
 use Rattle.claimed_rows.specs.MatrixClaims.{cells_in, sizes_of}
 use Rattle.widen_solver.specs.Stored.{row_at}
 use Rattle.analyse_core.specs.Certificates.{certificate_for}

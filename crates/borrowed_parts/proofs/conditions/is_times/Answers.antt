@@ -1,6 +1,6 @@
 use Rattle.std.proofs.Common.{◌∙◌, sym, ap}
 use Rattle.cob_program.specs.ActView.{plain_body}
-use Rattle.cob_edge_parts.specs.Parts.{is_times}
+use Rattle.cob_runs.specs.Effects.{is_times}
 use Rattle.borrowed_parts.proofs.ActViews.{perform_is}
 use Rattle.borrowed_parts.proofs.conditions.is_times.Goals as goal
 

@@ -1,4 +1,4 @@
-use Rattle.std.proofs.Common.{[], ap, ◌∙◌}
+use Rattle.std.proofs.Common.{ap, ◌∙◌}
 use Rattle.cob_runs.specs.Deciding.{is_number_form}
 use Rattle.borrowed_parts.proofs.FormLemmas.{form_found}
 use Rattle.borrowed_parts.proofs.items.is_number_at.Goals as goal
@@ -6,5 +6,5 @@ use Rattle.borrowed_parts.proofs.items.is_number_at.Goals as goal
 pub returns-in-Some : goal.returns-in-Some
 returns-in-Some c =
     let l = c.args.layout.now in
-    c.is_number_form.ensures l []
-    ∙ ap (is_number_form l []) (form_found l c.args.place c.item_at.result c.in-Some.item c.item_at.ensures c.in-Some.is)
+    c.is_number_form.ensures
+    ∙ ap is_number_form (form_found l c.args.place c.item_at.result c.in-Some.item c.item_at.ensures c.in-Some.is)

@@ -2,7 +2,7 @@ use Rattle.std.proofs.Common.{◌≡◌, length}
 use Rattle.std.specs.Prelude.{take}
 use Rattle.std.specs.List.{flat_map}
 use Rattle.cert_text.specs.View.{place_of}
-use Rattle.pack_rows.specs.Rows.{width_of}
+use Rattle.diff_bounds.specs.PackRows.{width_of}
 use Rattle.claimed_rows.specs.MatrixClaims.{cells_in, claimed_row, sizes_of}
 use Rattle.cert_check.proofs.bounds.rows_of.Given as goal
 

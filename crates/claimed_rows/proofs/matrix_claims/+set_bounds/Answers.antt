@@ -1,6 +1,6 @@
 use Rattle.std.proofs.Common.{◌≡◌, ◌≤◌, ◌+◌, ◌++◌, ◌-◌, suc, length, take, drop, ap, sym, subst, ◌∙◌, arith}
 use Rattle.std.specs.List.{AllByRecursion}
-use Rattle.pack_rows.specs.Rows.{row_of, width_of, words_of}
+use Rattle.diff_bounds.specs.PackRows.{row_of, width_of, words_of}
 use Rattle.claimed_rows.specs.MatrixClaims.{cells_in, claimed_matrix, matrices_from, sizes_of}
 use Rattle.claimed_rows.specs.Written.{AreFrom, IsBoundOf}
 use Rattle.claimed_rows.proofs.MatrixFilling.{sizes_split}

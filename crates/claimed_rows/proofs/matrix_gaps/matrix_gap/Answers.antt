@@ -1,7 +1,7 @@
 use Rattle.std.proofs.Common.{get_or, pos, ap, sym, ◌∙◌, rules, arith}
 use Rattle.std.specs.Int.{w128}
 use Rattle.std.proofs.lemmas.Int.{to_z-of_z}
-use Rattle.pack_rows.specs.Rows.{words_of}
+use Rattle.diff_bounds.specs.PackRows.{words_of}
 use Rattle.claimed_rows.proofs.MatrixSeeking.{first, found_at, gap_along, gaps_at, none_at, one_more}
 use Rattle.claimed_rows.proofs.matrix_gaps.matrix_gap.Goals as goal
 

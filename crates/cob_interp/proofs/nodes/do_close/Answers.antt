@@ -6,6 +6,7 @@ use Rattle.cob_interp.specs.Setting.{program_of, paths_of}
 use Rattle.cob_interp.specs.Readying.{emptied}
 use Rattle.cob_interp.specs.Tracking.{ArePlaced}
 use Rattle.cob_interp.proofs.CloseLemmas.{close_leads}
+use Rattle.cob_interp.proofs.Declared.{closes_declared}
 use Rattle.cob_interp.proofs.OpLemmas.{always_closes, closes_there}
 use Rattle.cob_interp.proofs.Closings.{EndsAt, close_part, close_ends}
 use Rattle.cob_interp.proofs.Emptying.{emptied_keeps, sees_out, out_again, underway_sees, closes_behind}
@@ -41,6 +42,11 @@ unreachable-requires-in-None g c =
     closes_there (program_of c.args.setting.now) c.args.place.now.plan_node.now.op
     (plain_act c.args.place.now.statement.now.act.now) c.args.closed.now c.requires.its c.requires.place.fits.fits
     c.in-Close.file c.in-Close.fine c.in-Close.bad c.in-Close.is (sym c.file_in.ensures ∙ c.in-None.is)
+
+pub ready_to_close-requires-clause-declared : goal.ready_to_close-requires-clause-declared
+ready_to_close-requires-clause-declared g c =
+    closes_declared c.args.setting.now c.requires.ready.files c.args.place.now.statement.now.number c.args.closed.now
+    (c.requires.place.statement.its ∙ ap Some c.requires.its) c.in-Close.file c.in-Some.at (sym c.in-Some.ensures)
 
 pub returns-clause-closes : goal.returns-clause-closes
 returns-clause-closes g c =

@@ -5,6 +5,8 @@ use Rattle.cob_program.specs.ActView.{plain_act}
 use Rattle.cob_interp.specs.Setting.{program_of, paths_of}
 use Rattle.cob_interp.specs.Touching.{makes_in}
 use Rattle.cob_interp.proofs.OpenLeads.{open_leads}
+use Rattle.cob_interp.proofs.Declared.{opens_declared}
+use Rattle.cob_interp.proofs.Purposes.{count_kept}
 use Rattle.cob_interp.proofs.OpLemmas.{always_opens, opens_there}
 use Rattle.cob_interp.proofs.Touched.{makes_more, makes_one}
 use Rattle.cob_interp.proofs.Closings.{open_part, opens_behind}
@@ -26,6 +28,11 @@ unreachable-requires-in-None g c =
     opens_there (program_of c.args.setting.now) c.args.place.now.plan_node.now.op
     (plain_act c.args.place.now.statement.now.act.now) c.args.openings.now c.requires.its c.requires.place.fits.fits
     c.in-Open.file c.in-Open.fine c.in-Open.bad c.in-Open.is (sym c.opening_in.ensures ∙ c.in-None.is)
+
+pub ready_to_open-requires-clause-declared : goal.ready_to_open-requires-clause-declared
+ready_to_open-requires-clause-declared g c =
+    opens_declared c.args.setting.now c.requires.ready.files c.args.place.now.statement.now.number c.args.openings.now
+    (c.requires.place.statement.its ∙ ap Some c.requires.its) c.in-Open.file c.in-Some.opening (sym c.in-Some.ensures)
 
 pub returns-clause-touches : goal.returns-clause-touches
 returns-clause-touches g c =
@@ -70,7 +77,9 @@ returns-clause-placed g c =
     ready.path ready.file ready.is.path_ ready.has ready.stand
     (stand_on (paths_of c.args.setting.now) (g.F.Files.state c.args.files.now) _ _ _ ready.keeps.each
     c.requires.placed.stand)
-    ready.is.decl ready.is.declared (ready.purposes c.requires.placed.purposes))))
+    ready.is.decl ready.is.declared
+    (count_kept c.args.world.now.world.files _ ready.keeps.purposes ∙ c.requires.placed.count)
+    (ready.purposes c.requires.placed.purposes))))
 
 pub returns-in_err-ready_to_open-in-Some-clause-placed : goal.returns-in_err-ready_to_open-in-Some-clause-placed
 returns-in_err-ready_to_open-in-Some-clause-placed g c =

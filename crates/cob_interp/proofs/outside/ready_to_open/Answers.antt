@@ -2,6 +2,7 @@ use Rattle.std.proofs.Common.{ap}
 use Rattle.cob_interp.specs.Tracking.{purpose_in}
 use Rattle.cob_interp.proofs.Purposes.{slot_free}
 use Rattle.std.proofs.Common.{sym, ◌∙◌}
+use Rattle.cob_interp.proofs.Declared.{no_file, no_mode}
 use Rattle.cob_interp.proofs.OpenLemmas.{has_file, output_ready, open_ready, opened_ready, is_closed_true, is_closed_false}
 use Rattle.std.proofs.Common.{[], ◌∷◌}
 use Rattle.cob_interp.specs.Setting.{paths_of}
@@ -12,33 +13,25 @@ use Rattle.cob_interp.proofs.outside.ready_to_open.Goals as goal
 
 pub returns-then-not-is_closed-clause-readies : goal.returns-then-not-is_closed-clause-readies
 returns-then-not-is_closed-clause-readies g c =
-    let h = has_file c.in-Some-file_mode.mode _ c.in-Some-file_mode.ensures in
-    open_ready c.args.setting.now c.args.world.now.world c.args.opening c.in-Some.path.now c.in-Some.ensures h.0 h.1 _
-    (is_closed_false c.in-Some-file_mode.mode h.0.mode h.2 (sym c.is_closed.ensures ∙ c.if-not-is_closed.true)) _
+    let h = has_file c.in-Some.mode _ c.in-Some.ensures in
+    open_ready c.args.setting.now c.args.world.now.world c.args.opening c.path-path.result.now c.path-path.ensures h.0 h.1 _
+    (is_closed_false c.in-Some.mode h.0.mode h.2 (sym c.is_closed.ensures ∙ c.if-not-is_closed.true)) _
 
 pub returns-then-opening-clause-readies : goal.returns-then-opening-clause-readies
 returns-then-opening-clause-readies g c =
-    let h = has_file c.in-Some-file_mode.mode _ c.in-Some-file_mode.ensures in
-    output_ready c.args.setting.now c.args.world.now.world c.args.opening c.in-Some.path.now c.in-Some.ensures h.0
+    let h = has_file c.in-Some.mode _ c.in-Some.ensures in
+    output_ready c.args.setting.now c.args.world.now.world c.args.opening c.path-path.result.now c.path-path.ensures h.0
     h.1 _ _ _ _
-    (is_closed_true c.in-Some-file_mode.mode h.0.mode h.2 (sym c.is_closed.ensures ∙ c.if-not-is_closed.false))
+    (is_closed_true c.in-Some.mode h.0.mode h.2 (sym c.is_closed.ensures ∙ c.if-not-is_closed.false))
     c.if-opening.true c.in_ok-create.ensures.creates c.requires.live
 
 pub returns-clause-readies : goal.returns-clause-readies
 returns-clause-readies g c =
-    let h = has_file c.in-Some-file_mode.mode _ c.in-Some-file_mode.ensures in
-    opened_ready c.args.setting.now c.args.world.now.world c.args.opening c.in-Some.path.now c.in-Some.ensures h.0
+    let h = has_file c.in-Some.mode _ c.in-Some.ensures in
+    opened_ready c.args.setting.now c.args.world.now.world c.args.opening c.path-path.result.now c.path-path.ensures h.0
     h.1 _ _
-    _ _ (is_closed_true c.in-Some-file_mode.mode h.0.mode h.2 (sym c.is_closed.ensures ∙ c.if-not-is_closed.false))
+    _ _ (is_closed_true c.in-Some.mode h.0.mode h.2 (sym c.is_closed.ensures ∙ c.if-not-is_closed.false))
     c.if-opening.false _ c.in_ok-open_input.ensures.opens c.in_ok-open_input.ensures.same c.requires.live
-
-pub returns-in_default-clause-touches : goal.returns-in_default-clause-touches
-returns-in_default-clause-touches g c =
-    makes_stay (paths_of c.args.setting.now) (makes_in (c.args.opening ∷ [])) c.args.world.now.world _
-
-pub returns-in_default-file_mode-clause-touches : goal.returns-in_default-file_mode-clause-touches
-returns-in_default-file_mode-clause-touches g c =
-    makes_stay (paths_of c.args.setting.now) (makes_in (c.args.opening ∷ [])) c.args.world.now.world _
 
 pub returns-then-not-is_closed-clause-touches : goal.returns-then-not-is_closed-clause-touches
 returns-then-not-is_closed-clause-touches g c =
@@ -46,20 +39,20 @@ returns-then-not-is_closed-clause-touches g c =
 
 pub returns-in_err-create-clause-touches : goal.returns-in_err-create-clause-touches
 returns-in_err-create-clause-touches g c =
-    let h = has_file c.in-Some-file_mode.mode _ c.in-Some-file_mode.ensures in
+    let h = has_file c.in-Some.mode _ c.in-Some.ensures in
     makes_by_create (paths_of c.args.setting.now) (makes_in (c.args.opening ∷ [])) c.args.world.now.world _ _
     c.args.opening.file
-    c.in-Some.path.now h.0 c.requires.ready.distinct c.in-Some.ensures.path_ h.1
-    (is_closed_true c.in-Some-file_mode.mode h.0.mode h.2 (sym c.is_closed.ensures ∙ c.if-not-is_closed.false))
+    c.path-path.result.now h.0 c.requires.ready.distinct c.path-path.ensures.path_ h.1
+    (is_closed_true c.in-Some.mode h.0.mode h.2 (sym c.is_closed.ensures ∙ c.if-not-is_closed.false))
     (makes_own c.args.opening c.if-opening.true) c.in_err-create.ensures.part
 
 pub returns-then-opening-clause-touches : goal.returns-then-opening-clause-touches
 returns-then-opening-clause-touches g c =
-    let h = has_file c.in-Some-file_mode.mode _ c.in-Some-file_mode.ensures in
+    let h = has_file c.in-Some.mode _ c.in-Some.ensures in
     makes_by_create (paths_of c.args.setting.now) (makes_in (c.args.opening ∷ [])) c.args.world.now.world _ _
     c.args.opening.file
-    c.in-Some.path.now h.0 c.requires.ready.distinct c.in-Some.ensures.path_ h.1
-    (is_closed_true c.in-Some-file_mode.mode h.0.mode h.2 (sym c.is_closed.ensures ∙ c.if-not-is_closed.false))
+    c.path-path.result.now h.0 c.requires.ready.distinct c.path-path.ensures.path_ h.1
+    (is_closed_true c.in-Some.mode h.0.mode h.2 (sym c.is_closed.ensures ∙ c.if-not-is_closed.false))
     (makes_own c.args.opening c.if-opening.true) c.in_ok-create.ensures.part
 
 pub returns-in_err-open_input-clause-touches : goal.returns-in_err-open_input-clause-touches
@@ -74,16 +67,16 @@ returns-clause-touches g c =
 
 pub open_input-requires-clause-free : goal.open_input-requires-clause-free
 open_input-requires-clause-free g c =
-    let h = has_file c.in-Some-file_mode.mode _ c.in-Some-file_mode.ensures in
-    let shut = is_closed_true c.in-Some-file_mode.mode h.0.mode h.2
+    let h = has_file c.in-Some.mode _ c.in-Some.ensures in
+    let shut = is_closed_true c.in-Some.mode h.0.mode h.2
     (sym c.is_closed.ensures ∙ c.if-not-is_closed.false) in
     slot_free c.args.handles.now c.args.world.now.world.files c.requires.placed.purposes c.args.opening.file h.0 h.1
     (ap purpose_in shut)
 
 pub create-requires-clause-free : goal.create-requires-clause-free
 create-requires-clause-free g c =
-    let h = has_file c.in-Some-file_mode.mode _ c.in-Some-file_mode.ensures in
-    let shut = is_closed_true c.in-Some-file_mode.mode h.0.mode h.2
+    let h = has_file c.in-Some.mode _ c.in-Some.ensures in
+    let shut = is_closed_true c.in-Some.mode h.0.mode h.2
     (sym c.is_closed.ensures ∙ c.if-not-is_closed.false) in
     slot_free c.args.handles.now c.args.world.now.world.files c.requires.placed.purposes c.args.opening.file h.0 h.1
     (ap purpose_in shut)
@@ -98,8 +91,7 @@ returns-in_err-open_input-clause-fault g c =
     let p = err_from_is_err_and c.from_residual-in_err-open_input.result c.from_residual-in_err-open_input.ensures.1 in
     rw (p.1, p.2, c.if-opening.false) c.in_err-open_input.ensures.fault
 
-pub open_input-requires-clause-declared : goal.open_input-requires-clause-declared
-open_input-requires-clause-declared g c = (c.in-Some.ensures.decl, c.in-Some.ensures.declared)
-
-pub size_at-size-requires : goal.size_at-size-requires
-size_at-size-requires g c = (c.in-Some.ensures.decl, c.in-Some.ensures.declared)
+pub unreachable-requires : goal.unreachable-requires
+unreachable-requires g c =
+    no_file c.args.setting.now c.requires.ready.count c.args.opening.file c.requires.declared
+    c.args.world.now.world.files c.requires.placed.count (no_mode _ c.in_default.ensures)

@@ -1,6 +1,7 @@
 use Rattle.std.proofs.Common.{false, ap}
 use Rattle.cob_program.specs.ActView.{plain_act}
 use Rattle.cob_interp.specs.Tracking.{purpose_in}
+use Rattle.cob_interp.proofs.Declared.{reads_declared}
 use Rattle.cob_interp.proofs.OpLemmas.{always_reads}
 use Rattle.cob_interp.proofs.Purposes.{slot_held}
 use Rattle.cob_interp.proofs.RecordReads.{idle_arrives, window_arrives, on_file}
@@ -51,6 +52,11 @@ do_window-requires-clause-reads g c =
     let f = on_file _ c.in-Some.before c.in-Some.ensures in
     slot_held c.args.handles.now c.args.world.now.world.files c.requires.placed.purposes c.args.file f.0 f.1
     false (ap purpose_in f.2)
+
+pub do_window-requires-clause-declared : goal.do_window-requires-clause-declared
+do_window-requires-clause-declared g c =
+    reads_declared c.args.setting.now c.requires.ready.files c.args.place.now.statement.now.number
+    (plain_act c.args.place.now.statement.now.act.now) c.args.file c.requires.starts.is.statement.its c.requires.reads
 
 pub returns-in-None-clause-fault : goal.returns-in-None-clause-fault
 returns-in-None-clause-fault g c =

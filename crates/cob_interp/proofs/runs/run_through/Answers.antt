@@ -44,4 +44,4 @@ returns-clause-ids g c =
 pub walk-halted-requires-clause-placed : goal.walk-halted-requires-clause-placed
 walk-halted-requires-clause-placed g c =
     placed_first (plain_program c.args.program.now) _ (texts c.args.paths.now) (g.F.Files.state c.args.files.now) _ _ _
-    c.requires.paths c.in-Ok-none.ensures.none c.in-Ok-none.ensures.purposes c.in-Ok-first.ensures.value
+    c.requires.paths (length-map c.args.paths.now string_bytes) c.in-Ok-none.ensures.none c.in-Ok-none.ensures.purposes c.in-Ok-first.ensures.value

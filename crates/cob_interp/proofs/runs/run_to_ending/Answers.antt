@@ -12,6 +12,9 @@ run_through-requires-clause-sound g c = c.requires.able.items
 pub run_through-requires-clause-able : goal.run_through-requires-clause-able
 run_through-requires-clause-able g c = c.requires.able.statements
 
+pub run_through-requires-clause-files : goal.run_through-requires-clause-files
+run_through-requires-clause-files g c = c.requires.able.files
+
 pub returns-clause-unmade : goal.returns-clause-unmade
 returns-clause-unmade g c =
     unmade_kept (plain_program c.args.program.now) c.args.graph.now c.requires.able.whole c.requires.graph

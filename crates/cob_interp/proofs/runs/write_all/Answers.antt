@@ -1,10 +1,11 @@
-use Rattle.std.proofs.Common.{◌+◌, sym, subst}
+use Rattle.std.proofs.Common.{◌+◌, sym, subst, arith}
 use Rattle.std.proofs.lemmas.Result.{err_from_is_err_and}
 use Rattle.cob_runs.specs.State.{World}
 use Rattle.cob_interp.specs.Readying.{Sees, AreEmptied}
 use Rattle.cob_interp.specs.Setting.{paths_of}
 use Rattle.cob_interp.specs.Touching.{makes_none}
 use Rattle.cob_interp.specs.Tracking.{AreWritten}
+use Rattle.cob_interp.proofs.Declared.{declared_below}
 use Rattle.cob_interp.proofs.Emptying.{emptied_keeps, emptied_next, emptied_none, sees_out, sees_pass, sees_stay, touches_sees}
 use Rattle.cob_interp.proofs.Passing.{ids_stay, ids_pass}
 use Rattle.cob_interp.proofs.Putting.{refused_on}
@@ -44,6 +45,10 @@ loop-place-preserved g c =
           c.in_ok-write_out.ensures.ids));
       ids = ids_pass _ _ _ kept.ids c.in_ok-write_out.ensures.ids;
     }
+
+pub write_out-requires-clause-declared : goal.write_out-requires-clause-declared
+write_out-requires-clause-declared g c =
+    declared_below c.args.setting.now c.loop-place.place (omega (arith, c.requires.ready.count, c.loop-place-test.true))
 
 pub returns-in_err-write_out-clause-writes : goal.returns-in_err-write_out-clause-writes
 returns-in_err-write_out-clause-writes g c =

@@ -2,6 +2,7 @@ use Rattle.std.proofs.Common.{refl}
 use Rattle.cob_program.specs.ActView.{plain_act}
 use Rattle.cob_interp.specs.Setting.{paths_of}
 use Rattle.cob_interp.specs.Touching.{makes_none}
+use Rattle.cob_interp.proofs.Declared.{write_declared}
 use Rattle.cob_interp.proofs.Emptying.{sees_stay, sees_behind, keeps_behind}
 use Rattle.cob_interp.proofs.Passing.{ids_stay}
 use Rattle.cob_interp.proofs.Touched.{touches_stay}
@@ -26,6 +27,11 @@ returns-in-None-clause-places g c = places_stay _
 pub write_out-requires-clause-written : goal.write_out-requires-clause-written
 write_out-requires-clause-written g c =
     written_placed (paths_of c.args.setting.now) _ c.args.handles.now c.args.world.now.world.files c.requires.placed
+
+pub write_out-requires-clause-declared : goal.write_out-requires-clause-declared
+write_out-requires-clause-declared g c =
+    write_declared c.args.setting.now (plain_act c.args.place.now.statement.now.act.now) c.in-Some.file
+    (c.in-Some.ensures.full c.in-Some.file refl)
 
 pub returns-in-Some-clause-sees : goal.returns-in-Some-clause-sees
 returns-in-Some-clause-sees g c =

@@ -7,7 +7,7 @@ use Rattle.cob_plan.specs.Doing.{Does}
 use Rattle.cob_plan.specs.Fitting.{HandlesSize}
 use Rattle.cob_plan.proofs.SizeErrors.{first_alone}
 use Rattle.cob_plan.proofs.WayLemmas.{only, second}
-use Rattle.cob_runs.specs.Effects.{computed}
+use Rattle.cob_runs.specs.Effects.{edge_computed}
 use Rattle.std.specs.Prelude.{true, false, Some, None, is_some}
 use Rattle.cob_plan.proofs.does.do_compute.Goals as goal
 
@@ -32,7 +32,7 @@ returns-in-None-clause-value c =
     (sym c.in-None.is)
     (c.next_by_one_way.ensures p s.number a (op.Compute c.args.fine None) action.Done w c.compute-outcome.new.world.world
     (record { its = c.requires.its.its; out = only (action.Done, c.args.fine) []; handled = refl })
-    (c.without_second.ensures (computed p s.number None w false a) (computed p s.number None w true a) w c.compute-outcome.new.world.world
+    (c.without_second.ensures (edge_computed p s.number None w false a) (edge_computed p s.number None w true a) w c.compute-outcome.new.world.world
     (c.compute-outcome.ensures.value s.number)))
 
 pub returns-in-Some-clause-value : goal.returns-in-Some-clause-value

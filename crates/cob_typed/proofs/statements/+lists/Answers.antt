@@ -1,22 +1,20 @@
-use Rattle.std.proofs.Common.{◌∙◌, ◌+◌, sym, ap, map, option_map, rules}
-use Rattle.cob_tree.specs.declared.stmt.Verb.TheOpen as layer
-use Rattle.cob_tree.specs.declared.stmt.Verb.TheFolds.{fold-roll-Verb}
-use Rattle.cob_tree.specs.declared.stmt.Verb.TheVariants.{rolls-Move, rolls-Display, rolls-PerformRange, rolls-Open, rolls-Close, rolls-AddTo, rolls-AddGiving, rolls-SubtractFrom, rolls-SubtractGiving, rolls-MultiplyBy, rolls-MultiplyGiving, rolls-DivideInto, rolls-DivideGiving, rolls-Compute, rolls-If, rolls-Evaluate, rolls-PerformInline, rolls-Read}
-use Rattle.cob_tree.specs.ExprView.{plain_expr}
-use Rattle.cob_tree.specs.CondView.{plain_cond}
+use Rattle.std.proofs.Common.{◌≡◌, ◌∙◌, ◌+◌, IfOk, sym, ap, subst, map, rules, arith}
+use Rattle.std.specs.Option.{option_copied}
+use Rattle.std.proofs.lemmas.Result.{IfOk-equal}
+use Rattle.cob_tree.specs.declared.stmt.Stmt.{out-Stmt}
 use Rattle.cob_tree.specs.Stmt as tree
 use Rattle.cob_tree.specs.StmtView as tree_view
 use Rattle.cob_program.specs.Act.{stmts_of}
 use Rattle.cob_program.specs.ActView.{plain_stmt, plain_when}
-use Rattle.cob_typed.specs.Lists.{found_behind, tree_list, tree_phrase, plain_phrase, plain_stmts}
-use Rattle.cob_typed.specs.Statements.{typed_stmts, typed_whens, typed_verb, range_act}
-use Rattle.cob_typed_verbs.specs.Verbs.{move_act, show_act, open_act, close_act}
+use Rattle.cob_typed.specs.Lists.{found_behind, tree_phrase}
+use Rattle.cob_typed.specs.Statements.{typed_stmts, typed_whens}
+use Rattle.cob_typed.specs.Heads.{plain_head, tree_lists}
 use Rattle.cob_typed.specs.Typing.{joined}
-use Rattle.cob_typed_verbs.specs.Arithmetic.{add_to, add_giving, subtract_from, subtract_giving, multiply_by, multiply_giving, divide_into, divide_giving, compute}
-use Rattle.cob_typed_verbs.specs.Workings.{plain_worked}
 use Rattle.cob_typed_exprs.proofs.EachLemmas.{map_more}
 use Rattle.cob_typed.proofs.ListLemmas.{stmts_from, whens_from, stmts_step, stmts_end, whens_step, whens_end, stmt_value, stmt_next, stmt_found, when_value, when_next, when_found, whens_behind, whens_none, joined_none}
-use Rattle.cob_typed.proofs.StmtLemmas.{when_is_of, only_found, work_found, if_found, cases_found, inline_found, read_is, read_found, read_value, choice_found}
+use Rattle.cob_typed.proofs.StmtLemmas.{stmt_is, when_is_of, choice_found}
+use Rattle.cob_typed.proofs.HeadLemmas.{made_is, next_is, found_is, on_ok_alike}
+use Rattle.cob_typed.proofs.Weights.{phrase_weight, when_weight, stmt_within, when_within, lists_within}
 use Rattle.cob_typed.proofs.statements.+lists.Goals as goal
 
 pub add_stmts-loop-statement-preserved : goal.add_stmts-loop-statement-preserved
@@ -89,110 +87,64 @@ typed_whens-returns-clause-found t c =
     let l = c.loop-when in
     sym (ap (λ ys. found_behind l.findings.items (typed_whens c.args.scope.now c.args.line l.next c.args.looked ys).found) (whens_end c.args.whens.now l.when-index c.loop-when-test.false)) ∙ l.invariant.found
 
-pub typed_verb-returns-in-Ok-clause-found : goal.typed_verb-returns-in-Ok-clause-found
-typed_verb-returns-in-Ok-clause-found t c =
-    let is = ap tree_view.plain_verb (c.in-Move.is ∙ sym (rolls-Move c.in-Move.from c.in-Move.to)) ∙ fold-roll-Verb _ _ _ _ _ _ _ _ (layer.Move c.in-Move.from c.in-Move.to) in
-    only_found c.args.scope.now c.args.line c.args.next.now (tree_view.plain_verb c.args.verb.now) c.args.findings.now.items _ (move_act c.args.scope.now c.in-Move.from c.in-Move.to).broken (search rules) (ap (λ (v : tree.Verb). (typed_verb c.args.scope.now c.args.line c.args.next.now v).found) is)
+pub typed_stmt-returns-clause-value : goal.typed_stmt-returns-clause-value
+typed_stmt-returns-clause-value t c =
+    let x = c.args.statement.now in
+    let is = made_is c.args.scope.now c.args.next.now _ _ (tree_view.plain_stmt x) (tree_view.plain_verb (out-Stmt x).verb) (plain_head c.in-Ok-head_of.given) c.looked_in-looked.result (tree_lists c.lists_of-lists.result)
+    c.in-Ok.given c.in-Ok.ensures.value (stmt_is x) c.in-Ok.ensures.next c.in-Ok-head_of.ensures.value c.looked_in-looked.ensures c.lists_of-lists.ensures in
+    subst (λ y. IfOk c.stmt_of.result (λ made. plain_stmt made ≡ y)) is (c.stmt_of.ensures.value _ c.typed_lists-typed.ensures.value)
 
-pub typed_verb-returns-in-Ok-show_act-clause-found : goal.typed_verb-returns-in-Ok-show_act-clause-found
-typed_verb-returns-in-Ok-show_act-clause-found t c =
-    let is = ap tree_view.plain_verb (c.in-Display.is ∙ sym (rolls-Display c.in-Display.operands)) ∙ fold-roll-Verb _ _ _ _ _ _ _ _ (layer.Display c.in-Display.operands) in
-    only_found c.args.scope.now c.args.line c.args.next.now (tree_view.plain_verb c.args.verb.now) c.args.findings.now.items _ (show_act c.args.scope.now c.in-Display.operands).broken (search rules) (ap (λ (v : tree.Verb). (typed_verb c.args.scope.now c.args.line c.args.next.now v).found) is)
+pub typed_stmt-returns-clause-next : goal.typed_stmt-returns-clause-next
+typed_stmt-returns-clause-next t c =
+    let x = c.args.statement.now in
+    let is = next_is c.args.scope.now c.args.next.now _ _ (tree_view.plain_stmt x) (tree_view.plain_verb (out-Stmt x).verb) (plain_head c.in-Ok-head_of.given) c.looked_in-looked.result (tree_lists c.lists_of-lists.result)
+    (stmt_is x) c.in-Ok.ensures.next c.in-Ok-head_of.ensures.value c.looked_in-looked.ensures c.lists_of-lists.ensures in
+    on_ok_alike c.stmt_of.result c.typed_lists-typed.result _ c.stmt_of.ensures.ends (IfOk-equal c.typed_lists-typed.result _ _ _ c.typed_lists-typed.ensures.next is)
 
-pub typed_verb-returns-in-Ok-range_act-clause-found : goal.typed_verb-returns-in-Ok-range_act-clause-found
-typed_verb-returns-in-Ok-range_act-clause-found t c =
-    let is = ap tree_view.plain_verb (c.in-PerformRange.is ∙ sym (rolls-PerformRange c.in-PerformRange.first c.in-PerformRange.thru c.in-PerformRange.turns)) ∙ fold-roll-Verb _ _ _ _ _ _ _ _ (layer.PerformRange c.in-PerformRange.first c.in-PerformRange.thru c.in-PerformRange.turns) in
-    only_found c.args.scope.now c.args.line c.args.next.now (tree_view.plain_verb c.args.verb.now) c.args.findings.now.items _ (range_act c.args.scope.now c.in-PerformRange.first c.in-PerformRange.thru (option_map tree_view.plain_loop c.in-PerformRange.turns)).broken (search rules) (ap (λ (v : tree.Verb). (typed_verb c.args.scope.now c.args.line c.args.next.now v).found) is)
-
-pub typed_verb-returns-in-Ok-open_act-clause-found : goal.typed_verb-returns-in-Ok-open_act-clause-found
-typed_verb-returns-in-Ok-open_act-clause-found t c =
-    let is = ap tree_view.plain_verb (c.in-Open.is ∙ sym (rolls-Open c.in-Open.opens)) ∙ fold-roll-Verb _ _ _ _ _ _ _ _ (layer.Open c.in-Open.opens) in
-    only_found c.args.scope.now c.args.line c.args.next.now (tree_view.plain_verb c.args.verb.now) c.args.findings.now.items _ (open_act c.args.scope.now c.in-Open.opens).broken (search rules) (ap (λ (v : tree.Verb). (typed_verb c.args.scope.now c.args.line c.args.next.now v).found) is)
-
-pub typed_verb-returns-in-Ok-close_act-clause-found : goal.typed_verb-returns-in-Ok-close_act-clause-found
-typed_verb-returns-in-Ok-close_act-clause-found t c =
-    let is = ap tree_view.plain_verb (c.in-Close.is ∙ sym (rolls-Close c.in-Close.names)) ∙ fold-roll-Verb _ _ _ _ _ _ _ _ (layer.Close c.in-Close.names) in
-    only_found c.args.scope.now c.args.line c.args.next.now (tree_view.plain_verb c.args.verb.now) c.args.findings.now.items _ (close_act c.args.scope.now c.in-Close.names).broken (search rules) (ap (λ (v : tree.Verb). (typed_verb c.args.scope.now c.args.line c.args.next.now v).found) is)
-
-pub typed_verb-returns-in-Ok-typed_tail-clause-found : goal.typed_verb-returns-in-Ok-typed_tail-clause-found
-typed_verb-returns-in-Ok-typed_tail-clause-found t c =
-    let is = ap tree_view.plain_verb (c.in-AddTo.is ∙ sym (rolls-AddTo c.in-AddTo.addends c.in-AddTo.to c.in-AddTo.tail)) ∙ fold-roll-Verb _ _ _ _ _ _ _ _ (layer.AddTo c.in-AddTo.addends c.in-AddTo.to c.in-AddTo.tail) in
-    work_found c.args.scope.now c.args.line c.args.next.now (tree_view.plain_verb c.args.verb.now) c.args.findings.now.items _ (add_to c.args.scope.now c.in-AddTo.addends c.in-AddTo.to) (tree_view.plain_tail c.in-AddTo.tail) (plain_worked c.in-Ok-add_to.given) c.add_to.new.findings.items (search rules) (search rules) c.in-Ok-typed_tail.ensures.found (ap (typed_verb c.args.scope.now c.args.line c.args.next.now) is)
-
-pub typed_verb-returns-in-Ok-typed_tail-2-clause-found : goal.typed_verb-returns-in-Ok-typed_tail-2-clause-found
-typed_verb-returns-in-Ok-typed_tail-2-clause-found t c =
-    let is = ap tree_view.plain_verb (c.in-AddGiving.is ∙ sym (rolls-AddGiving c.in-AddGiving.addends c.in-AddGiving.to c.in-AddGiving.giving c.in-AddGiving.tail)) ∙ fold-roll-Verb _ _ _ _ _ _ _ _ (layer.AddGiving c.in-AddGiving.addends c.in-AddGiving.to c.in-AddGiving.giving c.in-AddGiving.tail) in
-    work_found c.args.scope.now c.args.line c.args.next.now (tree_view.plain_verb c.args.verb.now) c.args.findings.now.items _ (add_giving c.args.scope.now c.in-AddGiving.addends c.in-AddGiving.to c.in-AddGiving.giving) (tree_view.plain_tail c.in-AddGiving.tail) (plain_worked c.in-Ok-add_giving.given) c.add_giving.new.findings.items (search rules) (search rules) c.in-Ok-typed_tail-2.ensures.found (ap (typed_verb c.args.scope.now c.args.line c.args.next.now) is)
-
-pub typed_verb-returns-in-Ok-typed_tail-3-clause-found : goal.typed_verb-returns-in-Ok-typed_tail-3-clause-found
-typed_verb-returns-in-Ok-typed_tail-3-clause-found t c =
-    let is = ap tree_view.plain_verb (c.in-SubtractFrom.is ∙ sym (rolls-SubtractFrom c.in-SubtractFrom.less c.in-SubtractFrom.from c.in-SubtractFrom.tail)) ∙ fold-roll-Verb _ _ _ _ _ _ _ _ (layer.SubtractFrom c.in-SubtractFrom.less c.in-SubtractFrom.from c.in-SubtractFrom.tail) in
-    work_found c.args.scope.now c.args.line c.args.next.now (tree_view.plain_verb c.args.verb.now) c.args.findings.now.items _ (subtract_from c.args.scope.now c.in-SubtractFrom.less c.in-SubtractFrom.from) (tree_view.plain_tail c.in-SubtractFrom.tail) (plain_worked c.in-Ok-subtract_from.given) c.subtract_from.new.findings.items (search rules) (search rules) c.in-Ok-typed_tail-3.ensures.found (ap (typed_verb c.args.scope.now c.args.line c.args.next.now) is)
-
-pub typed_verb-returns-in-Ok-typed_tail-4-clause-found : goal.typed_verb-returns-in-Ok-typed_tail-4-clause-found
-typed_verb-returns-in-Ok-typed_tail-4-clause-found t c =
-    let is = ap tree_view.plain_verb (c.in-SubtractGiving.is ∙ sym (rolls-SubtractGiving c.in-SubtractGiving.less c.in-SubtractGiving.from c.in-SubtractGiving.giving c.in-SubtractGiving.tail)) ∙ fold-roll-Verb _ _ _ _ _ _ _ _ (layer.SubtractGiving c.in-SubtractGiving.less c.in-SubtractGiving.from c.in-SubtractGiving.giving c.in-SubtractGiving.tail) in
-    work_found c.args.scope.now c.args.line c.args.next.now (tree_view.plain_verb c.args.verb.now) c.args.findings.now.items _ (subtract_giving c.args.scope.now c.in-SubtractGiving.less c.in-SubtractGiving.from c.in-SubtractGiving.giving) (tree_view.plain_tail c.in-SubtractGiving.tail) (plain_worked c.in-Ok-subtract_giving.given) c.subtract_giving.new.findings.items (search rules) (search rules) c.in-Ok-typed_tail-4.ensures.found (ap (typed_verb c.args.scope.now c.args.line c.args.next.now) is)
-
-pub typed_verb-returns-in-Ok-typed_tail-5-clause-found : goal.typed_verb-returns-in-Ok-typed_tail-5-clause-found
-typed_verb-returns-in-Ok-typed_tail-5-clause-found t c =
-    let is = ap tree_view.plain_verb (c.in-MultiplyBy.is ∙ sym (rolls-MultiplyBy c.in-MultiplyBy.factor c.in-MultiplyBy.by c.in-MultiplyBy.tail)) ∙ fold-roll-Verb _ _ _ _ _ _ _ _ (layer.MultiplyBy c.in-MultiplyBy.factor c.in-MultiplyBy.by c.in-MultiplyBy.tail) in
-    work_found c.args.scope.now c.args.line c.args.next.now (tree_view.plain_verb c.args.verb.now) c.args.findings.now.items _ (multiply_by c.args.scope.now c.in-MultiplyBy.factor c.in-MultiplyBy.by) (tree_view.plain_tail c.in-MultiplyBy.tail) (plain_worked c.in-Ok-multiply_by.given) c.multiply_by.new.findings.items (search rules) (search rules) c.in-Ok-typed_tail-5.ensures.found (ap (typed_verb c.args.scope.now c.args.line c.args.next.now) is)
-
-pub typed_verb-returns-in-Ok-typed_tail-6-clause-found : goal.typed_verb-returns-in-Ok-typed_tail-6-clause-found
-typed_verb-returns-in-Ok-typed_tail-6-clause-found t c =
-    let is = ap tree_view.plain_verb (c.in-MultiplyGiving.is ∙ sym (rolls-MultiplyGiving c.in-MultiplyGiving.factor c.in-MultiplyGiving.by c.in-MultiplyGiving.giving c.in-MultiplyGiving.tail)) ∙ fold-roll-Verb _ _ _ _ _ _ _ _ (layer.MultiplyGiving c.in-MultiplyGiving.factor c.in-MultiplyGiving.by c.in-MultiplyGiving.giving c.in-MultiplyGiving.tail) in
-    work_found c.args.scope.now c.args.line c.args.next.now (tree_view.plain_verb c.args.verb.now) c.args.findings.now.items _ (multiply_giving c.args.scope.now c.in-MultiplyGiving.factor c.in-MultiplyGiving.by c.in-MultiplyGiving.giving) (tree_view.plain_tail c.in-MultiplyGiving.tail) (plain_worked c.in-Ok-multiply_giving.given) c.multiply_giving.new.findings.items (search rules) (search rules) c.in-Ok-typed_tail-6.ensures.found (ap (typed_verb c.args.scope.now c.args.line c.args.next.now) is)
-
-pub typed_verb-returns-in-Ok-typed_tail-7-clause-found : goal.typed_verb-returns-in-Ok-typed_tail-7-clause-found
-typed_verb-returns-in-Ok-typed_tail-7-clause-found t c =
-    let is = ap tree_view.plain_verb (c.in-DivideInto.is ∙ sym (rolls-DivideInto c.in-DivideInto.divisor c.in-DivideInto.into c.in-DivideInto.tail)) ∙ fold-roll-Verb _ _ _ _ _ _ _ _ (layer.DivideInto c.in-DivideInto.divisor c.in-DivideInto.into c.in-DivideInto.tail) in
-    work_found c.args.scope.now c.args.line c.args.next.now (tree_view.plain_verb c.args.verb.now) c.args.findings.now.items _ (divide_into c.args.scope.now c.in-DivideInto.divisor c.in-DivideInto.into) (tree_view.plain_tail c.in-DivideInto.tail) (plain_worked c.in-Ok-divide_into.given) c.divide_into.new.findings.items (search rules) (search rules) c.in-Ok-typed_tail-7.ensures.found (ap (typed_verb c.args.scope.now c.args.line c.args.next.now) is)
-
-pub typed_verb-returns-in-Ok-typed_tail-8-clause-found : goal.typed_verb-returns-in-Ok-typed_tail-8-clause-found
-typed_verb-returns-in-Ok-typed_tail-8-clause-found t c =
-    let is = ap tree_view.plain_verb (c.in-DivideGiving.is ∙ sym (rolls-DivideGiving c.in-DivideGiving.first c.in-DivideGiving.way c.in-DivideGiving.second c.in-DivideGiving.giving c.in-DivideGiving.remainder c.in-DivideGiving.tail)) ∙ fold-roll-Verb _ _ _ _ _ _ _ _ (layer.DivideGiving c.in-DivideGiving.first c.in-DivideGiving.way c.in-DivideGiving.second c.in-DivideGiving.giving c.in-DivideGiving.remainder c.in-DivideGiving.tail) in
-    work_found c.args.scope.now c.args.line c.args.next.now (tree_view.plain_verb c.args.verb.now) c.args.findings.now.items _ (divide_giving c.args.scope.now c.in-DivideGiving.first c.in-DivideGiving.way c.in-DivideGiving.second c.in-DivideGiving.giving c.in-DivideGiving.remainder) (tree_view.plain_tail c.in-DivideGiving.tail) (plain_worked c.in-Ok-divide_giving.given) c.divide_giving.new.findings.items (search rules) (search rules) c.in-Ok-typed_tail-8.ensures.found (ap (typed_verb c.args.scope.now c.args.line c.args.next.now) is)
-
-pub typed_verb-returns-in-Ok-typed_tail-9-clause-found : goal.typed_verb-returns-in-Ok-typed_tail-9-clause-found
-typed_verb-returns-in-Ok-typed_tail-9-clause-found t c =
-    let is = ap tree_view.plain_verb (c.in-Compute.is ∙ sym (rolls-Compute c.in-Compute.to c.in-Compute.value c.in-Compute.tail)) ∙ fold-roll-Verb _ _ _ _ _ _ _ _ (layer.Compute c.in-Compute.to c.in-Compute.value c.in-Compute.tail) in
-    work_found c.args.scope.now c.args.line c.args.next.now (tree_view.plain_verb c.args.verb.now) c.args.findings.now.items _ (compute c.args.scope.now c.in-Compute.to (plain_expr c.in-Compute.value)) (tree_view.plain_tail c.in-Compute.tail) (plain_worked c.in-Ok-compute.given) c.compute.new.findings.items (search rules) (search rules) c.in-Ok-typed_tail-9.ensures.found (ap (typed_verb c.args.scope.now c.args.line c.args.next.now) is)
-
-pub typed_verb-returns-in-Ok-typed_lists-clause-found : goal.typed_verb-returns-in-Ok-typed_lists-clause-found
-typed_verb-returns-in-Ok-typed_lists-clause-found t c =
-    let is = ap tree_view.plain_verb (c.in-If.is ∙ sym (rolls-If c.in-If.test c.in-If.yes c.in-If.other c.in-If.ended)) ∙ fold-roll-Verb _ _ _ _ _ _ _ _ (layer.If c.in-If.test c.in-If.yes c.in-If.other c.in-If.ended) in
-    if_found c.args.scope.now c.args.line c.args.next.now (tree_view.plain_verb c.args.verb.now) c.args.findings.now.items _ (plain_cond c.in-If.test) (tree_list c.in-If.yes) (tree_phrase c.in-If.other) c.condition.new.findings.items (ap (typed_verb c.args.scope.now c.args.line c.args.next.now) is ∙ search rules) (search rules) (search rules)
-
-pub typed_verb-returns-in-Ok-typed_cases-clause-found : goal.typed_verb-returns-in-Ok-typed_cases-clause-found
-typed_verb-returns-in-Ok-typed_cases-clause-found t c =
-    let e = c.in-Evaluate in
-    let is = ap tree_view.plain_verb (e.is ∙ sym (rolls-Evaluate e.subject e.whens e.other e.ended)) ∙ fold-roll-Verb _ _ _ _ _ _ _ _ (layer.Evaluate e.subject e.whens e.other e.ended) in
-    cases_found c.args.scope.now c.args.line c.args.next.now (tree_view.plain_verb c.args.verb.now) c.args.findings.now.items _ e.subject (tree.whens_of (map tree_view.plain_when e.whens.items)) (tree_phrase e.other) c.looked_at.new.findings.items c.in-Ok-looked_at.given
-    c.in-Ok-looked_at.ensures.value (ap (typed_verb c.args.scope.now c.args.line c.args.next.now) is ∙ search rules) (search rules) (search rules)
-
-pub typed_verb-returns-in-Ok-typed_stmts-clause-found : goal.typed_verb-returns-in-Ok-typed_stmts-clause-found
-typed_verb-returns-in-Ok-typed_stmts-clause-found t c =
-    let is = ap tree_view.plain_verb (c.in-PerformInline.is ∙ sym (rolls-PerformInline c.in-PerformInline.turns c.in-PerformInline.body)) ∙ fold-roll-Verb _ _ _ _ _ _ _ _ (layer.PerformInline c.in-PerformInline.turns c.in-PerformInline.body) in
-    inline_found c.args.scope.now c.args.line c.args.next.now (tree_view.plain_verb c.args.verb.now) c.args.findings.now.items _ (option_map tree_view.plain_loop c.in-PerformInline.turns) (tree_list c.in-PerformInline.body) c.turns_of.new.findings.items (ap (typed_verb c.args.scope.now c.args.line c.args.next.now) is) (search rules) (search rules)
-
-pub typed_verb-returns-in-Ok-typed_phrases-clause-found : goal.typed_verb-returns-in-Ok-typed_phrases-clause-found
-typed_verb-returns-in-Ok-typed_phrases-clause-found t c =
-    let is = ap tree_view.plain_verb (c.in-Read.is ∙ sym (rolls-Read c.in-Read.file c.in-Read.into c.in-Read.end c.in-Read.not_end c.in-Read.ended)) ∙ read_is c.in-Read.file c.in-Read.into c.in-Read.end c.in-Read.not_end c.in-Read.ended in
-    read_found c.args.scope.now c.args.line c.args.next.now (tree_view.plain_verb c.args.verb.now) c.args.findings.now.items _ c.in-Read.file c.in-Read.into (tree_phrase c.in-Read.end) (tree_phrase c.in-Read.not_end) c.read_parts.new.findings.items (ap (typed_verb c.args.scope.now c.args.line c.args.next.now) is) (search rules) c.in-Ok-typed_phrases.ensures.found
-
-pub typed_verb-returns-in-Ok-typed_phrases-clause-next : goal.typed_verb-returns-in-Ok-typed_phrases-clause-next
-typed_verb-returns-in-Ok-typed_phrases-clause-next t c =
-    let is = ap tree_view.plain_verb (c.in-Read.is ∙ sym (rolls-Read c.in-Read.file c.in-Read.into c.in-Read.end c.in-Read.not_end c.in-Read.ended)) ∙ read_is c.in-Read.file c.in-Read.into c.in-Read.end c.in-Read.not_end c.in-Read.ended in
-    c.in-Ok-typed_phrases.ensures.next ∙ sym (ap (λ (v : tree.Verb). (typed_verb c.args.scope.now c.args.line c.args.next.now v).next) is)
-
-pub typed_verb-returns-in-Ok-typed_phrases-clause-value : goal.typed_verb-returns-in-Ok-typed_phrases-clause-value
-typed_verb-returns-in-Ok-typed_phrases-clause-value t c =
-    let is = ap tree_view.plain_verb (c.in-Read.is ∙ sym (rolls-Read c.in-Read.file c.in-Read.into c.in-Read.end c.in-Read.not_end c.in-Read.ended)) ∙ read_is c.in-Read.file c.in-Read.into c.in-Read.end c.in-Read.not_end c.in-Read.ended in
-    read_value c.args.scope.now c.args.line c.args.next.now (tree_view.plain_verb c.args.verb.now) c.in-Read.file c.in-Read.into (tree_phrase c.in-Read.end) (tree_phrase c.in-Read.not_end) _ c.in-Ok-read_parts.given.0 c.in-Ok-read_parts.given.1 (plain_phrase c.in-Ok-typed_phrases.given.0) (plain_stmts c.in-Ok-typed_phrases.given.1)
-    (ap (typed_verb c.args.scope.now c.args.line c.args.next.now) is) c.read_of.ensures (search rules) (search rules) c.in-Ok-typed_phrases.ensures.first c.in-Ok-typed_phrases.ensures.second
+pub typed_stmt-returns-clause-found : goal.typed_stmt-returns-clause-found
+typed_stmt-returns-clause-found t c =
+    let x = c.args.statement.now in
+    let is = found_is c.args.scope.now c.args.next.now _ _ (tree_view.plain_stmt x) (tree_view.plain_verb (out-Stmt x).verb) (plain_head c.in-Ok-head_of.given) c.looked_in-looked.result (tree_lists c.lists_of-lists.result)
+    c.args.findings.now.items c.head_of.new.findings.items c.in-Ok-head_of.ensures.noted
+    (stmt_is x) c.in-Ok.ensures.next c.in-Ok-head_of.ensures.value c.looked_in-looked.ensures c.lists_of-lists.ensures in
+    on_ok_alike c.stmt_of.result c.typed_lists-typed.result _ c.stmt_of.ensures.ends (IfOk-equal c.typed_lists-typed.result _ _ _ c.typed_lists-typed.ensures.found is)
 
 pub typed_when-returns-clause-found : goal.typed_when-returns-clause-found
 typed_when-returns-clause-found t c =
     choice_found c.args.scope.now c.args.line c.args.next.now c.args.looked (tree_view.plain_when c.args.when.now) (map tree_view.plain_sel c.get.result.now) (tree.stmts_of (map tree_view.plain_stmt c.deref.result.now)) c.args.findings.now.items c.choices.new.findings.items _
     (rw (when_is_of c.args.when.now) (search rules)) c.in_ok-tests.ensures.noted c.in_ok-body.ensures.found
+
+-- fewer statements for each call
+
+pub add_stmts-typed_stmt-requires : goal.add_stmts-typed_stmt-requires
+add_stmts-typed_stmt-requires t c =
+    omega (arith, stmt_within c.args.list.now c.loop-statement.statement-index c.statement-item.result c.loop-statement-test.true c.statement-item.is)
+
+pub typed_stmts-add_stmts-requires : goal.typed_stmts-add_stmts-requires
+typed_stmts-add_stmts-requires t c = omega arith
+
+pub typed_stmt-typed_lists-typed-requires : goal.typed_stmt-typed_lists-typed-requires
+typed_stmt-typed_lists-typed-requires t c = omega (arith, lists_within c.args.statement.now (tree_lists c.lists_of-lists.result) c.lists_of-lists.ensures)
+
+pub typed_lists-typed_whens-requires : goal.typed_lists-typed_whens-requires
+typed_lists-typed_whens-requires t c = omega arith
+
+pub typed_lists-typed_phrase-requires : goal.typed_lists-typed_phrase-requires
+typed_lists-typed_phrase-requires t c = omega arith
+
+pub typed_lists-typed_phrase-requires-2 : goal.typed_lists-typed_phrase-requires-2
+typed_lists-typed_phrase-requires-2 t c = omega arith
+
+pub typed_phrase-typed_stmts-requires : goal.typed_phrase-typed_stmts-requires
+typed_phrase-typed_stmts-requires t c =
+    let is : tree_phrase (option_copied c.args.phrase) ≡ tree.given (tree.stmts_of (map tree_view.plain_stmt c.deref.result.now)) = search rules in
+    omega (arith, ap phrase_weight is)
+
+pub typed_whens-typed_when-requires : goal.typed_whens-typed_when-requires
+typed_whens-typed_when-requires t c =
+    omega (arith, when_within c.args.whens.now c.loop-when.when-index c.when-item.result c.loop-when-test.true c.when-item.is)
+
+pub typed_when-typed_stmts-requires : goal.typed_when-typed_stmts-requires
+typed_when-typed_stmts-requires t c =
+    let is : tree_view.plain_when c.args.when.now ≡ tree.MkWhen (map tree_view.plain_sel c.get.result.now) (tree.stmts_of (map tree_view.plain_stmt c.deref.result.now)) = rw (when_is_of c.args.when.now) (search rules) in
+    omega (arith, ap when_weight is)

@@ -1,7 +1,7 @@
 use Rattle.std.proofs.Common.{ap, sym, subst, ◌∙◌}
 use Rattle.std.specs.List.{AllByRecursion}
 use Rattle.diff_bounds.specs.Widening.{AreThresholds}
-use Rattle.pack_rows.specs.Rows.{lists_of}
+use Rattle.diff_bounds.specs.PackRows.{lists_of}
 use Rattle.claimed_rows.specs.MatrixClaims.{cells_in, sizes_of}
 use Rattle.diff_driver.proofs.Rows.{are_thresholds, are_short, listed}
 use Rattle.diff_driver.proofs.cases.answer_beside.Goals as goal

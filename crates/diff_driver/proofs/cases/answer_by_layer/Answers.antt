@@ -5,7 +5,7 @@ use Rattle.std.proofs.Props.{props}
 use Rattle.std.proofs.Math.Logic.{∥∥₁_elim}
 use Rattle.cob_program.specs.ActView.{plain_program}
 use Rattle.dom_laws.specs.Lattice.{IsElement}
-use Rattle.pack_rows.specs.Rows.{lists_of}
+use Rattle.diff_bounds.specs.PackRows.{lists_of}
 use Rattle.claimed_rows.specs.MatrixClaims.{cells_in, sizes_of}
 use Rattle.diff_driver.specs.Rows.{rows_of_packs}
 use Rattle.diff_driver.proofs.LayerRows.{are_small, layer_width}

@@ -3,7 +3,7 @@ use Rattle.std.specs.List.{AllByRecursion, AllByRecursion-prop}
 use Rattle.std.proofs.Props.{props}
 use Rattle.std.proofs.Math.Logic.{∥∥₁_elim}
 use Rattle.cob_program.specs.ActView.{plain_program}
-use Rattle.pack_rows.specs.Rows.{lists_of}
+use Rattle.diff_bounds.specs.PackRows.{lists_of}
 use Rattle.claimed_rows.specs.MatrixClaims.{cells_in, sizes_of}
 use Rattle.diff_driver.proofs.LayerRows.{are_small, layer_element}
 use Rattle.diff_driver.proofs.cases.answer_in_row.Goals as goal

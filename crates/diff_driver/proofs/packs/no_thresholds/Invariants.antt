@@ -1,6 +1,6 @@
 use Rattle.std.proofs.Common.{◌≡◌}
 use Rattle.std.specs.Prelude.{take}
-use Rattle.pack_rows.specs.Rows.{lists_of}
+use Rattle.diff_bounds.specs.PackRows.{lists_of}
 use Rattle.claimed_rows.specs.MatrixClaims.{cells_in, sizes_of}
 use Rattle.diff_driver.specs.Rows.{no_thresholds}
 use Rattle.diff_driver.proofs.packs.no_thresholds.Given as goal

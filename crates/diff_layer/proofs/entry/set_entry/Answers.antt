@@ -4,7 +4,7 @@ use Rattle.std.proofs.lemmas.List.{length-map}
 use Rattle.cob_program.specs.ActView.{plain_program}
 use Rattle.cell_laws.specs.Entry.{entry_cells}
 use Rattle.diff_steps.specs.Steps.{all_closed}
-use Rattle.pack_rows.specs.Rows.{lists_of}
+use Rattle.diff_bounds.specs.PackRows.{lists_of}
 use Rattle.diff_layer.specs.Plans.{plain_plans, matrices_for}
 use Rattle.diff_layer.proofs.Beginning.{plans_are_few, is_row, closed_is, least_entry, wide_is, known_is, is_row_of, its_fit}
 use Rattle.diff_layer.proofs.Sizes.{small_in}

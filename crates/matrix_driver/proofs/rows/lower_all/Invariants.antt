@@ -1,5 +1,5 @@
 use Rattle.diff_bounds.specs.Matrix.{word, IsMatrix}
-use Rattle.closed_matrices.specs.Settled.{IsTightBut}
+use Rattle.diff_bounds.specs.Settled.{IsTightBut}
 use Rattle.matrix_driver.proofs.rows.lower_all.Given as goal
 
 abbrev pub invariant-loop-place : goal.invariant-loop-place

@@ -1,5 +1,5 @@
 use Rattle.std.proofs.Common.{◌∙◌, sym, ap}
-use Rattle.closed_matrices.specs.Closed.{closed}
+use Rattle.diff_bounds.specs.Closed.{closed}
 use Rattle.pack_forms.proofs.KnownWords.{closing_is}
 use Rattle.pack_forms.proofs.closings.close_again.Goals as goal
 

@@ -1,4 +1,4 @@
-use Rattle.closed_matrices.proofs.Tight.{tight_of_closure}
+use Rattle.diff_bounds.proofs.Tight.{tight_of_closure}
 use Rattle.pack_forms.proofs.closings.close_one_row.Goals as goal
 
 pub returns-clause-tight : goal.returns-clause-tight

@@ -1,4 +1,4 @@
-use Rattle.closed_matrices.proofs.Tight.{tight_of_closure}
+use Rattle.diff_bounds.proofs.Tight.{tight_of_closure}
 use Rattle.pack_forms.proofs.Closing.{closed_by}
 use Rattle.pack_forms.proofs.closings.close_whole.Goals as goal
 

@@ -135,8 +135,9 @@ lay_perform-returns t c =
     let at_ = places.body_at turns c.args.at in
     let on = body_next turns c.args.at body c.args.next in
     let behind_is : behind ≡ on = c.in_ok-behind.ensures body c.in_ok-size.ensures in
-    let enter_is : c.in_ok-enter.enter ≡ first_of_body body at_ on =
-    enter_at body c.in_ok-enter.enter begin behind at_ on c.in_ok-enter.ensures c.in_ok-begin.ensures behind_is in
+    let enter_is : c.first_of_body-enter.result ≡ first_of_body body at_ on =
+    enter_at body c.first_of_body-enter.result begin behind at_ on c.first_of_body-enter.ensures c.in_ok-begin.ensures
+    behind_is in
     perform_ok (copied_of w) p k c.lay_behind.result c.args.self.now c.lay_before.new.self c.lay_body.new.self
     c.lay_behind.new.self c.args.number
     turns body c.args.at begin behind c.args.next
@@ -160,18 +161,19 @@ lay_copy-returns-in-None t c =
     (copy_none (plan w) w.table.now c.args.first c.args.last
     (sym (ap option_copied c.in-None.is) ∙ c.rest_in.ensures))
 
-pub lay_copy-returns-in_ok-end-in-Some : goal.lay_copy-returns-in_ok-end-in-Some
-lay_copy-returns-in_ok-end-in-Some t c =
+pub lay_copy-returns-in_ok-sites-in-Some : goal.lay_copy-returns-in_ok-sites-in-Some
+lay_copy-returns-in_ok-sites-in-Some t c =
+    let end = c.args.last + 1 in
     let w = c.args.within.now in
     let p = plan w in
     let rest = c.in-Some.table.now in
     copy_ok (copied_of w) p (copies_of w) c.lay_paras.result c.args.self.now c.lay_paras.new.self c.args.number
     (copies_of w c.args.first c.args.last)
-    (lay_paras p (copy_in p rest) c.args.first (c.in_ok-end-in-Some.end - c.args.first)) c.as_slice.result.now
+    (lay_paras p (copy_in p rest) c.args.first (end - c.args.first)) c.as_slice.result.now
     c.args.first c.args.at c.args.next
     c.lay_paras.ensures (c.as_slice.ensures.value ∙ c.in_ok-sites-in-Some.ensures)
-    (copy_some p w.table.now rest c.args.first c.args.last c.in_ok-end-in-Some.end
-    (sym (ap option_copied c.in-Some.is) ∙ c.rest_in.ensures) c.in_ok-end-in-Some.ensures)
+    (copy_some p w.table.now rest c.args.first c.args.last end
+    (sym (ap option_copied c.in-Some.is) ∙ c.rest_in.ensures) refl)
 
 pub lay_paras-loop-place-preserved : goal.lay_paras-loop-place-preserved
 lay_paras-loop-place-preserved t c =

@@ -2,7 +2,8 @@ use Rattle.std.proofs.Common.{None, length, sym, ap, subst, ◌∙◌}
 use Rattle.cob_interp.specs.Tracking.{Ids, IsHeld}
 use Rattle.cob_interp.specs.Readying.{ClosesAll}
 use Rattle.cob_interp.proofs.TrackLemmas.{tracks_pass}
-use Rattle.cob_interp.proofs.HandleLemmas.{none_below, closes_more, size_kept}
+use Rattle.cob_interp.proofs.HandleLemmas.{none_below, closes_more}
+use Rattle.cob_interp.proofs.Purposes.{set_length}
 use Rattle.cob_interp.proofs.handles.Handles.close_all.Goals as goal
 
 pub loop-place-preserved : goal.loop-place-preserved
@@ -13,7 +14,7 @@ loop-place-preserved g c =
       tracks = tracks_pass _ _ _ _ _ _ kept.tracks c.close.ensures.tracks;
       below = λ p id writes before is. none_below c.loop-place.self c.loop-place.place kept.below p id writes before
           (subst (λ (ids : Ids). IsHeld ids p writes id) c.close.ensures.emptied is);
-      size = ap (λ (ids : Ids). length ids) c.close.ensures.emptied ∙ size_kept c.loop-place.self c.loop-place.place None
+      size = ap (λ (ids : Ids). length ids) c.close.ensures.emptied ∙ set_length c.loop-place.self c.loop-place.place None
           ∙ kept.size;
       same = c.close.ensures.same ∙ kept.same;
       counts = subst (λ r. ClosesAll (g.F.Files.state c.args.files.now) (g.F.Files.state c.close.new.files) r)

@@ -36,9 +36,9 @@ returns-in-Err-Fault-clause-done c =
     let d = plain_doing c.in-Some.front in
     let next = plain_run c.do_front.new.self in
     let met = rw c.in-Err-Fault.field-0-is at c.in-Err-Fault.ensures.done in
-    let broken = Fault c.in-Err-Fault.kind (number_of p c.args.choice.now d) in
+    let broken = Fault c.in-Err-Fault.kind (number_of d) in
     onto c.fail.result (plain_run c.fail.new.self) (state next.world (d ∷ next.control) broken)
     (step_on p c.args.choice.now s s.control)
     (ap (λ (m : State). state m.world (d ∷ m.control) broken) met.1
     ∙ sym (step_broken p c.args.choice.now s d (plain_control c.pop.new.self) c.in-Some.ensures c.in-Err-Fault.kind
-    met.0)) (c.fail.ensures.done p c.args.choice.now)
+    met.0)) c.fail.ensures.done

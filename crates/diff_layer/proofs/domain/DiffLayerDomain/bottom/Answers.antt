@@ -1,6 +1,6 @@
 use Rattle.std.proofs.Common.{◌≡◌, ◌∙◌, sym, ap}
 use Rattle.cob_program.specs.ActView.{plain_program}
-use Rattle.pack_rows.specs.Rows.{matrices_beside, lists_of}
+use Rattle.diff_bounds.specs.PackRows.{matrices_beside, lists_of}
 use Rattle.pack_laws.specs.Layer.{sizes_of}
 use Rattle.pack_laws.specs.Packs.{packs_of}
 use Rattle.diff_layer.specs.LayerLaws.{its_packs}

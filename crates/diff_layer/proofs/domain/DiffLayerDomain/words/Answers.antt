@@ -3,7 +3,7 @@ use Rattle.std.proofs.lemmas.List.{length-map}
 use Rattle.diff_steps.specs.Packs.{size_of}
 use Rattle.diff_layer.proofs.Rows.{width_is}
 use Rattle.cob_program.specs.ActView.{plain_program}
-use Rattle.pack_rows.specs.Rows.{width_of, lists_of}
+use Rattle.diff_bounds.specs.PackRows.{width_of, lists_of}
 use Rattle.pack_laws.specs.Layer.{sizes_of}
 use Rattle.pack_laws.specs.Packs.{packs_of}
 use Rattle.diff_layer.specs.LayerLaws.{its_packs}

@@ -5,7 +5,7 @@ use Rattle.cell_laws.specs.Entry.{entry_cells}
 use Rattle.cell_layer.specs.Heads.{is_head}
 use Rattle.cell_layer.proofs.Marks.{length-heads, mark_of, head_is, is_head_of}
 use Rattle.diff_steps.specs.Edges.{entry_packs}
-use Rattle.pack_rows.specs.Rows.{row_of}
+use Rattle.diff_bounds.specs.PackRows.{row_of}
 use Rattle.pack_laws.specs.Layer.{diff_post}
 use Rattle.pack_laws.specs.Packs.{packs_of}
 use Rattle.diff_layer.proofs.flowing.DiffLayerSystem.is_head.Goals as goal

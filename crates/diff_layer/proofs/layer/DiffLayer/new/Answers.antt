@@ -7,7 +7,7 @@ use Rattle.cell_laws.proofs.Entry.{entry_fits}
 use Rattle.cell_layer.specs.Heads.{heads_of}
 use Rattle.cell_layer.proofs.Making.{targets_first, targets_last, few_edges, held_by, sound_items, cells_are}
 use Rattle.diff_steps.specs.Edges.{entry_packs}
-use Rattle.pack_rows.specs.Rows.{row_of}
+use Rattle.diff_bounds.specs.PackRows.{row_of}
 use Rattle.diff_layer.specs.Plans.{plain_plans, ArePlansOf}
 use Rattle.pack_laws.specs.Layer.{sizes_of}
 use Rattle.pack_laws.specs.Packs.{packs_of, ArePacksOfCells}

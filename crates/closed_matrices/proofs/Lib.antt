@@ -1,4 +1,0 @@
-pub mod Closures
-pub mod Tight
-pub mod OneRow
-pub mod RowSums

@@ -1,5 +1,0 @@
-use Rattle.closed_matrices.proofs.Closures.{closed_or}
-use Rattle.closed_matrices.proofs.laws.closing_is_the_closure.Goals as goal
-
-pub returns : goal.returns
-returns c m is = closed_or c.args.size m c.requires is

@@ -1,5 +1,0 @@
-use Rattle.closed_matrices.proofs.RowSums.{RowsLowered}
-use Rattle.closed_matrices.proofs.one_row.lower_words.Given as goal
-
-abbrev pub invariant-loop-row : goal.invariant-loop-row
-invariant-loop-row l = RowsLowered l.places l.fn.m l.into l.from l.row l.m

@@ -1,3 +1,0 @@
-pub mod Closed
-pub mod Settled
-pub mod Rows

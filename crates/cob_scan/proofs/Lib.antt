@@ -1,3 +1,0 @@
-pub mod Most
-pub mod TextLengths
-pub mod TokenCounts

@@ -1,2 +1,0 @@
-pub mod Lattices
-pub mod Rows
