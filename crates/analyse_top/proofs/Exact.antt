@@ -9,7 +9,7 @@ use Rattle.cob_interp.specs.declared.ends.Ended.{Ended}
 use Rattle.cob_interp.specs.declared.ends.RunEnd.{RunEnd}
 use Rattle.cob_interp.specs.Ends.{told_files, IsEnd}
 use Rattle.cob_interp.specs.OneEnd.{OneEnd}
-use Rattle.cob_interp.specs.Running.{outside}
+use Rattle.cob_interp.specs.Runs.{outside}
 use Rattle.command_words.specs.Commands.{OneReading}
 use Rattle.analyse_command.specs.Shared.Answer.{Answer, HoldsProgram}
 use Rattle.analyse_command.specs.Shared.Call.{Call}
@@ -115,8 +115,8 @@ module _ (law : (bytes : List ℕ) → OneAnswer bytes) (one_reading : OneReadin
     ]
 
     by_end : (other : Result Ended RunEnd) → EndsByRun call t other
-        → IsRefusal t.program t.graph t.paths t.steps other
-        ⊎ EndsSomewhere t.program t.graph t.paths t.steps contents other
+        → IsRefusal t.program t.paths t.steps other
+        ⊎ EndsSomewhere t.program t.paths t.steps contents other
         → EndsByRun call t result ⊎ FailsToRun call t
     by_end other runs (inl (inl e)) = inr (inr (inr (inl (subst (EndsByRun call t) e runs))))
     by_end other runs (inl (inr (inl e))) = inr (inr (inr (inr (inl (subst (EndsByRun call t) e runs)))))
@@ -130,7 +130,7 @@ module _ (law : (bytes : List ℕ) → OneAnswer bytes) (one_reading : OneReadin
         let before = outside call.files_before call.out_before in
         let after = outside call.files_after runs.middle in
         by_end other runs
-        (refused_or_ends t.program t.graph t.paths t.steps before after contents known other runs.runs)
+        (refused_or_ends t.program t.paths t.steps before after contents known other runs.runs)
 
   runs_exactly : (call : Call) → Concludes call → RunsExactly call
   runs_exactly call concludes contents t result steps known asks is_end = elim concludes [

@@ -14,7 +14,7 @@ use Rattle.cob_interp.specs.declared.ends.Ended.{Ended}
 use Rattle.cob_interp.specs.declared.ends.RunEnd.{RunEnd}
 use Rattle.cob_interp.specs.declared.ends.RunEnd.TheVariants as end
 use Rattle.cob_interp.specs.Ends.{told_files, IsEnd}
-use Rattle.cob_interp.specs.Running.{outside}
+use Rattle.cob_interp.specs.Runs.{outside}
 use Rattle.alarm_report.specs.declared.alarms.Alarm.{Alarm}
 use Rattle.command_words.specs.Commands.{Command, Run, OneReading}
 use Rattle.command_words.specs.Commands as command
@@ -106,7 +106,7 @@ module _ (law : (bytes : List ℕ) → OneAnswer bytes) where
         let asked = subst (λ (k : Option Contents). AsksFor k call.words t) runs.known asks in
         let holds = subst (λ (r : Run). HoldsTask (Some runs.told) r t) (one_run reading call.words asked.run runs.asked asked.said runs.said)
         asked.holds in
-        elim (refused_or_ends t.program t.graph t.paths t.steps before after runs.told runs.known result ends.runs) [
+        elim (refused_or_ends t.program t.paths t.steps before after runs.told runs.known result ends.runs) [
           | inl refusal ↦ no_refusal result fault refusal
           | inr (n, is_end) ↦
               no_fault runs.contents runs.told runs.words runs.clean runs.asked t fault.0 fault.1 fault.2 n runs.same holds

@@ -17,7 +17,7 @@ use Rattle.cob_interp.specs.declared.ends.Ended.{Ended}
 use Rattle.cob_interp.specs.declared.ends.RunEnd.{RunEnd}
 use Rattle.cob_interp.specs.declared.ends.RunEnd.TheVariants as end
 use Rattle.cob_interp.specs.Ends.{told_files, IsEnd}
-use Rattle.cob_interp.specs.Running.{outside}
+use Rattle.cob_interp.specs.Runs.{outside}
 use Rattle.alarm_report.specs.declared.alarms.Alarm.{Alarm}
 use Rattle.alarm_report.specs.Alarms.{alarms_of}
 use Rattle.alarm_report.specs.Text.{report_text}

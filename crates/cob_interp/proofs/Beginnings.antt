@@ -12,7 +12,8 @@ use Rattle.cob_graph_laws.specs.Ways.{passed}
 use Rattle.cob_interp.specs.declared.setting.Setting.{Setting}
 use Rattle.cob_interp.specs.Told.{seen}
 use Rattle.cob_interp.specs.Ends.{cut_by}
-use Rattle.cob_interp.specs.Running.{Outside, StandsIn, Stands, IsUnderway}
+use Rattle.cob_interp.specs.Runs.{Outside}
+use Rattle.cob_interp.specs.Running.{StandsIn, Stands, IsUnderway}
 use Rattle.cob_interp.specs.Setting.{program_of, paths_of}
 use Rattle.cob_interp.proofs.Passing.{stands_told}
 use Rattle.cob_interp.proofs.Onward.{begins_freely}

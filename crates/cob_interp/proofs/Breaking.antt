@@ -22,7 +22,8 @@ use Rattle.cob_interp.specs.Ends.{told_files, AreFree, state_after}
 use Rattle.cob_interp.specs.Told.{seen, seen_file, seen_files, IsSynced, AreSynced, KeepsNames}
 use Rattle.cob_interp.specs.Touching.{IsPartOf, makes_by, makes_none, TouchesIn, Touches}
 use Rattle.cob_interp.specs.Meeting.{IsMetBy, IfFailed}
-use Rattle.cob_interp.specs.Running.{Outside, IfTold, makes_next, StandsIn, Stands, RestsIn, Rests, ShowsFront, IsMetNext, IsOver, BreaksOff, IsBroken}
+use Rattle.cob_interp.specs.Runs.{Outside, IfTold, makes_next, ShowsFront, IsMetNext, IsOver, BreaksOff, IsBroken}
+use Rattle.cob_interp.specs.Running.{StandsIn, Stands, RestsIn, Rests}
 use Rattle.cob_interp.proofs.SeenFiles.{SeenAt, seen_at}
 use Rattle.cob_interp.proofs.Passing.{append_twice}
 use Rattle.cob_interp.proofs.Failing.{if_failed, failed_any}
@@ -106,9 +107,9 @@ module _ (p : Program) (g : Graph) (paths : List (List ℕ)) (budget : ℕ) wher
         → TouchesIn paths makes w told now
         → (after.told ≡ append_known before.told (state_after p (told_files first paths) steps).world.shown)
         ⊎ ShowsFront before after r (state_after p (told_files first paths) steps).world.shown
-        → IfFailed r (IsOver p g paths budget first now steps
+        → IfFailed r (IsOver p paths budget first now steps
         ⊎ (Rose before.faults after.faults ⊎ IsMetNext p (state_after p (told_files first paths) steps) r))
-        → BreaksOff p g paths budget first now before after r
+        → BreaksOff p paths budget first now before after r
     breaks_off within free files synced others next touches shows meets = record {
       steps = steps;
       within = within;
@@ -128,10 +129,10 @@ module _ (p : Program) (g : Graph) (paths : List (List ℕ)) (budget : ℕ) wher
       → steps ≤ budget → node_at g.nodes node ≡ Some x → x.starts ≡ true → act_at p x.statement ≡ Some a
       → Touches paths (makes_by a) w mid.files now.files → ShowsWaiting start.sink mid.sink now.sink w.shown r
       → IfFailed r (Rose start.sink.faults now.sink.faults ⊎ IsMetBy a r)
-      → Stands p g paths start mid w steps steps node → IsBroken p g paths budget start now r
+      → Stands p g paths start mid w steps steps node → IsBroken p paths budget start now r
   broken_here start mid now w steps node x a r within at starts its touches shows met s =
       told_on (λ first told. StandsIn p g paths first told s.text w steps steps node)
-      (λ first told. BreaksOff p g paths budget first told start.sink now.sink r)
+      (λ first told. BreaksOff p paths budget first told start.sink now.sink r)
       (known_bytes start.files) (known_bytes mid.files) (known_bytes now.files) s.told
       (λ first told e st.
       let t = touches.known told e in
@@ -139,7 +140,7 @@ module _ (p : Program) (g : Graph) (paths : List (List ℕ)) (budget : ℕ) wher
       let makes : (place : ℕ) → makes_by a place ≡ makes_next p (state_after p (told_files first paths) steps) place =
       λ place. sym (ap (λ (n : ℕ). option_map_or (λ b. makes_by b place) (act_at p n) false) on.next
       ∙ ap (λ (o : Option Act). option_map_or (λ b. makes_by b place) o false) its) in
-      subst (λ (c : Option Contents). IfTold (λ f_ n. BreaksOff p g paths budget f_ n start.sink now.sink r)
+      subst (λ (c : Option Contents). IfTold (λ f_ n. BreaksOff p paths budget f_ n start.sink now.sink r)
       (Some first) c) (sym t.is)
       (breaks_off first told t.now w steps (makes_by a) start.sink now.sink r within st.free
       (ap (λ (u : World). u.files) on.world) st.synced st.others
@@ -148,7 +149,7 @@ module _ (p : Program) (g : Graph) (paths : List (List ℕ)) (budget : ℕ) wher
       (state_after p (told_files first paths) steps).world.shown r s.well.gained
       (ap (λ (u : World). u.shown) on.world) shows)
       (if_failed r (Rose start.sink.faults now.sink.faults ⊎ IsMetBy a r)
-      (IsOver p g paths budget first t.now steps
+      (IsOver p paths budget first t.now steps
       ⊎ (Rose start.sink.faults now.sink.faults ⊎ IsMetNext p (state_after p (told_files first paths) steps) r))
       (λ m. inr (elim m [
         | inl rose ↦ inl rose
@@ -158,15 +159,15 @@ module _ (p : Program) (g : Graph) (paths : List (List ℕ)) (budget : ℕ) wher
   -- behind the run's own end
   pub rests_break : (start mid now : Outside) (w : World) (own r : Result Ended RunEnd)
       → Touches paths makes_none w mid.files now.files → ShowsWaiting start.sink mid.sink now.sink w.shown r
-      → Rests p g paths budget start mid w own → IsBroken p g paths budget start now r
+      → Rests p g paths budget start mid w own → IsBroken p paths budget start now r
   rests_break start mid now w own r touches shows s =
       told_on (λ first told. RestsIn p g paths budget first told s.text w own)
-      (λ first told. BreaksOff p g paths budget first told start.sink now.sink r)
+      (λ first told. BreaksOff p paths budget first told start.sink now.sink r)
       (known_bytes start.files) (known_bytes mid.files) (known_bytes now.files) s.told
       (λ first told e st.
       let t = touches.known told e in
       let there = one_end.stands p (told_files first paths) budget own st.steps st.answer in
-      subst (λ (c : Option Contents). IfTold (λ f_ n. BreaksOff p g paths budget f_ n start.sink now.sink r)
+      subst (λ (c : Option Contents). IfTold (λ f_ n. BreaksOff p paths budget f_ n start.sink now.sink r)
       (Some first) c) (sym t.is)
       (breaks_off first told t.now w st.steps makes_none start.sink now.sink r there.within there.free st.files
       st.synced st.others
@@ -174,7 +175,7 @@ module _ (p : Program) (g : Graph) (paths : List (List ℕ)) (budget : ℕ) wher
       part_of_any (makes_next p (state_after p (told_files first paths) st.steps) place) f whole other part) t.touches
       (all_shown start.sink mid.sink now.sink s.text w.shown
       (state_after p (told_files first paths) st.steps).world.shown r s.well.gained st.shown shows)
-      (failed_any r (IsOver p g paths budget first t.now st.steps
+      (failed_any r (IsOver p paths budget first t.now st.steps
       ⊎ (Rose start.sink.faults now.sink.faults ⊎ IsMetNext p (state_after p (told_files first paths) st.steps) r))
       (inl (record {
         own = own;

@@ -21,7 +21,8 @@ use Rattle.cob_interp.specs.declared.ends.RunEnd.TheVariants as end
 use Rattle.cob_interp.specs.declared.setting.Setting.{Setting}
 use Rattle.cob_interp.specs.declared.setting.Place.{Place}
 use Rattle.cob_interp.specs.Told.{seen_files, AreSynced, IsSynced, AreDistinct, AgreeBut, IsOut}
-use Rattle.cob_interp.specs.Running.{Outside, outside, IsWell, Halts, StandsIn, RestsIn}
+use Rattle.cob_interp.specs.Runs.{Outside, outside}
+use Rattle.cob_interp.specs.Running.{IsWell, Halts, StandsIn, RestsIn}
 use Rattle.cob_interp.specs.Setting.{program_of, paths_of, IsPlace}
 use Rattle.cob_interp.specs.Readying.{IsRefusal, GoesOut}
 use Rattle.cob_interp.specs.Doing.{answered, Leads, DoesPart}

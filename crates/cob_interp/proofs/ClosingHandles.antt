@@ -4,12 +4,11 @@ use Rattle.batch_io.specs.Faults.{Rose}
 use Rattle.batch_io.specs.FilesState.{Contents, FilesState, known_bytes}
 use Rattle.batch_io.specs.SinkState.{SinkState}
 use Rattle.cob_program.specs.Act.{Program}
-use Rattle.cob_graph.specs.declared.graph.Graph.{Graph}
 use Rattle.cob_interp.specs.declared.ends.Ended.{Ended}
 use Rattle.cob_interp.specs.declared.ends.RunEnd.{RunEnd}
 use Rattle.cob_interp.specs.declared.ends.RunEnd.TheVariants as end
 use Rattle.cob_interp.specs.Readying.{AreWell, IsRefusal, ClosesAll}
-use Rattle.cob_interp.specs.Running.{outside, Outside, IfTold, CountsOn, EndsRunIf, EndsWell, BreaksOff, IsBroken, Runs}
+use Rattle.cob_interp.specs.Runs.{outside, Outside, IfTold, CountsOn, EndsRunIf, EndsWell, BreaksOff, IsBroken, Runs}
 use Rattle.cob_interp.specs.Meeting.{end_behind}
 use Rattle.cob_interp.specs.Walking.{IsOwnEnd, IsRefused}
 use Rattle.cob_interp.proofs.CloseLemmas.{rose_on}
@@ -17,16 +16,16 @@ use Rattle.cob_interp.proofs.CloseLemmas.{rose_on}
 rose_later : (a b c : ℕ) → b ≤ c → Rose a b → Rose a c
 rose_later a b c later rose = omega (arith, later, rose)
 
-module _ (p : Program) (g : Graph) (paths : List (List ℕ)) (budget : ℕ) (start : Outside) (sink : SinkState)
+module _ (p : Program) (paths : List (List ℕ)) (budget : ℕ) (start : Outside) (sink : SinkState)
     (old new : FilesState) (same : known_bytes new ≡ known_bytes old) where
-  broken_on : (q : Result Ended RunEnd) → IsBroken p g paths budget start (outside old sink) q
-      → IsBroken p g paths budget start (outside new sink) q
-  broken_on q b = subst (λ (c : Option Contents). IfTold (λ f n. BreaksOff p g paths budget f n start.sink sink q)
+  broken_on : (q : Result Ended RunEnd) → IsBroken p paths budget start (outside old sink) q
+      → IsBroken p paths budget start (outside new sink) q
+  broken_on q b = subst (λ (c : Option Contents). IfTold (λ f n. BreaksOff p paths budget f n start.sink sink q)
       (known_bytes start.files) c) (sym same) b
 
   -- behind a refusal, whatever the closes answer
   pub refused_on : (e : Result Ended RunEnd) → IsRefused e → (r : Result (Unit {0}) RunEnd) → ClosesAll old new r
-      → Runs p g paths budget start (outside old sink) e → Runs p g paths budget start (outside new sink) e
+      → Runs p paths budget start (outside old sink) e → Runs p paths budget start (outside new sink) e
   refused_on (Ok e) refused r closes runs = absurd refused
   refused_on (Err end.ReadFault) refused r closes runs =
       record { ends = rose_later _ _ _ closes.reading runs.ends; part = broken_on (Err end.ReadFault) runs.part }
@@ -50,19 +49,19 @@ module _ (p : Program) (g : Graph) (paths : List (List ℕ)) (budget : ℕ) (sta
 
   well_on : (e : Result Ended RunEnd) (r : Result (Unit {0}) RunEnd) → ClosesAll old new r
       → ((x : Ended) → e ≡ Ok x → AreWell old new)
-      → EndsWell p g paths budget start (outside old sink) e → EndsWell p g paths budget start (outside new sink) e
+      → EndsWell p paths budget start (outside old sink) e → EndsWell p paths budget start (outside new sink) e
   well_on e r closes stays well = record {
     reading = counts_on e start.files.reading old.reading new.reading well.reading closes.reading
         (λ x is. (stays x is).reading);
     writing = counts_on e start.files.writing old.writing new.writing well.writing closes.writing
         (λ x is. (stays x is).writing);
     faults = well.faults;
-    run = subst (λ (c : Option Contents). EndsRunIf p g paths budget (known_bytes start.files) c start.sink sink e)
+    run = subst (λ (c : Option Contents). EndsRunIf p paths budget (known_bytes start.files) c start.sink sink e)
         (sym same) well.run;
   }
 
-  own_well : (e : Result Ended RunEnd) → IsOwnEnd e → Runs p g paths budget start (outside old sink) e
-      → EndsWell p g paths budget start (outside old sink) e
+  own_well : (e : Result Ended RunEnd) → IsOwnEnd e → Runs p paths budget start (outside old sink) e
+      → EndsWell p paths budget start (outside old sink) e
   own_well (Ok e) own runs = runs.ends
   own_well (Err end.ReadFault) own runs = cc
   own_well (Err end.WriteFault) own runs = cc
@@ -72,8 +71,8 @@ module _ (p : Program) (g : Graph) (paths : List (List ℕ)) (budget : ℕ) (sta
   own_well (Err (end.IoStop status statement)) own runs = runs.ends
   own_well (Err (end.Fault kind statement step)) own runs = runs.ends
 
-  own_runs : (e : Result Ended RunEnd) → IsOwnEnd e → EndsWell p g paths budget start (outside new sink) e
-      → Runs p g paths budget start (outside new sink) e
+  own_runs : (e : Result Ended RunEnd) → IsOwnEnd e → EndsWell p paths budget start (outside new sink) e
+      → Runs p paths budget start (outside new sink) e
   own_runs (Ok e) own well = record { ends = well; part = tt }
   own_runs (Err end.ReadFault) own well = cc
   own_runs (Err end.WriteFault) own well = cc
@@ -85,9 +84,9 @@ module _ (p : Program) (g : Graph) (paths : List (List ℕ)) (budget : ℕ) (sta
 
   -- behind the run's end, where a close fails
   closed_ill : (x : Ended) (refusal : RunEnd) → IsRefusal old new refusal
-      → EndsWell p g paths budget start (outside old sink) (Ok x)
-      → ((q : Result Ended RunEnd) → IsBroken p g paths budget start (outside old sink) q)
-      → Runs p g paths budget start (outside new sink) (Err refusal)
+      → EndsWell p paths budget start (outside old sink) (Ok x)
+      → ((q : Result Ended RunEnd) → IsBroken p paths budget start (outside old sink) q)
+      → Runs p paths budget start (outside new sink) (Err refusal)
   closed_ill x end.ReadFault rose well broken = record {
     ends = rose_on start.files.reading old.reading new.reading well.reading rose;
     part = broken_on (Err end.ReadFault) (broken (Err end.ReadFault));
@@ -105,9 +104,9 @@ module _ (p : Program) (g : Graph) (paths : List (List ℕ)) (budget : ℕ) (sta
 
   -- behind the run's own end
   pub closed_behind : (e : Result Ended RunEnd) → IsOwnEnd e → (r : Result (Unit {0}) RunEnd) → ClosesAll old new r
-      → Runs p g paths budget start (outside old sink) e
-      → ((q : Result Ended RunEnd) → IsBroken p g paths budget start (outside old sink) q)
-      → Runs p g paths budget start (outside new sink) (end_behind e r)
+      → Runs p paths budget start (outside old sink) e
+      → ((q : Result Ended RunEnd) → IsBroken p paths budget start (outside old sink) q)
+      → Runs p paths budget start (outside new sink) (end_behind e r)
   closed_behind (Ok x) own (Ok u) closes runs broken =
       own_runs (Ok x) own (well_on (Ok x) (Ok u) closes (λ y is. closes.counts) (own_well (Ok x) own runs))
   closed_behind (Ok x) own (Err refusal) closes runs broken =

@@ -19,7 +19,8 @@ use Rattle.cob_interp.specs.Setting.{paths_of}
 use Rattle.cob_interp.specs.Tracking.{IsOpen, purpose_in, KeepsPlaces}
 use Rattle.cob_interp.specs.Readying.{Keeps, GoesOut, IsRefusal, emptied_in, emptied_file, emptied_on, emptied, AreEmptied, Sees}
 use Rattle.cob_interp.specs.Touching.{IsPartOf, Touches, ShutsOnly, ClosesOnly}
-use Rattle.cob_interp.specs.Running.{Outside, outside, IfTold, StandsIn, StandsIf, Stands, IsUnderway, RestsIn, Rests}
+use Rattle.cob_interp.specs.Runs.{Outside, outside, IfTold}
+use Rattle.cob_interp.specs.Running.{StandsIn, StandsIf, Stands, IsUnderway, RestsIn, Rests}
 use Rattle.cob_interp.proofs.SeenFiles.{seen_set, synced_set, seen_in_same, synced_same}
 use Rattle.cob_interp.proofs.Waiting.{out_seen}
 use Rattle.cob_interp.proofs.OpenLemmas.{seen_file_at, get_set}

@@ -28,7 +28,8 @@ use Rattle.cob_interp.specs.Setting.{program_of, paths_of, StartsAt}
 use Rattle.cob_interp.specs.Touching.{makes_by, makes_none, Touches}
 use Rattle.cob_interp.specs.Readying.{IsRefusal, Sees, AreEmptied}
 use Rattle.cob_interp.specs.Meeting.{is_failure, IfFailed, IsMetBy, shows_first, ShowsRest}
-use Rattle.cob_interp.specs.Running.{Outside, outside, IsWell, IfTold, CountsOn, Stands, RestsIn, Rests, EndsRun, EndsWell, IsBroken, IfRefused, EndsBy, Halts, Arrives, IsAt, GoesOn, HaltsOff, Runs, TellsOfSink}
+use Rattle.cob_interp.specs.Runs.{Outside, outside, IfTold, CountsOn, EndsRun, EndsWell, IsBroken, IfRefused, EndsBy, Runs, TellsOfSink}
+use Rattle.cob_interp.specs.Running.{IsWell, Stands, RestsIn, Rests, Halts, Arrives, IsAt, GoesOn, HaltsOff}
 use Rattle.cob_interp.specs.Walking.{by_sink, as_result, IsSinkRefusal, TellsBySink, Flushes, MayFlush, Refuses, is_refused, IsOwnEnd}
 use Rattle.cob_interp.proofs.Passing.{append_none, rests_on}
 use Rattle.cob_interp.proofs.Onward.{ends_well, spends}
@@ -45,7 +46,7 @@ refusal e = Err e
 module _ (p : Program) (g : Graph) (paths : List (List ℕ)) (budget : ℕ) where
   -- ---- refusals
 
-  if_refused : (r : Result Ended RunEnd) (P : Type 0) → P → IfRefused p g paths budget r P
+  if_refused : (r : Result Ended RunEnd) (P : Type 0) → P → IfRefused r P
   if_refused (Ok e) P x = tt
   if_refused (Err end.ReadFault) P x = x
   if_refused (Err end.WriteFault) P x = x
@@ -59,7 +60,7 @@ module _ (p : Program) (g : Graph) (paths : List (List ℕ)) (budget : ℕ) wher
     -- the sink refuses text
     sink_ends : (mid now : Outside) (text : List ℕ) (e : MakeEnd) → IsWell start mid text
         → IsSinkRefusal mid.sink now.sink e
-        → EndsBy p g paths budget own start now (Err (by_sink e))
+        → EndsBy own start now (Err (by_sink e))
     sink_ends mid now text make.Failed well why =
         inr (rose_on start.sink.faults mid.sink.faults now.sink.faults well.faults why)
     sink_ends mid now text make.Memory well why = tt
@@ -67,7 +68,7 @@ module _ (p : Program) (g : Graph) (paths : List (List ℕ)) (budget : ℕ) wher
     -- a file is refused
     file_ends : (old new : FilesState) (sink : SinkState) (text : List ℕ) (e : RunEnd)
         → IsWell start (outside old sink) text
-        → IsRefusal old new e → EndsBy p g paths budget own start (outside new sink) (Err e)
+        → IsRefusal old new e → EndsBy own start (outside new sink) (Err e)
     file_ends old new sink text end.ReadFault well r =
         rose_on start.files.reading old.reading new.reading well.reading r
     file_ends old new sink text end.WriteFault well r =
@@ -79,7 +80,7 @@ module _ (p : Program) (g : Graph) (paths : List (List ℕ)) (budget : ℕ) wher
     file_ends old new sink text (end.Fault kind statement step) well r = absurd r
 
   -- the run's own end isn't refused
-  own_part : (r : Result Ended RunEnd) (P : Type 0) → IsOwnEnd r → IfRefused p g paths budget r P
+  own_part : (r : Result Ended RunEnd) (P : Type 0) → IsOwnEnd r → IfRefused r P
   own_part (Ok e) P own = tt
   own_part (Err end.ReadFault) P own = cc
   own_part (Err end.WriteFault) P own = cc
@@ -114,7 +115,7 @@ module _ (p : Program) (g : Graph) (paths : List (List ℕ)) (budget : ℕ) wher
       sink_ends (λ old_ new_ r. Rests p g paths budget old_ new_ v r) start (outside files old)
           (outside files new) here.stands.text e
           here.stands.well refuses.why,
-      if_refused (Err (by_sink e)) (IsBroken p g paths budget start (outside files new) (Err (by_sink e)))
+      if_refused (Err (by_sink e)) (IsBroken p paths budget start (outside files new) (Err (by_sink e)))
           (broken_here p g paths budget start (outside files old)
           (outside files new) w steps node x a (Err (by_sink e)) within at starts its
           (touches_stay paths (makes_by a) w files)
@@ -152,7 +153,7 @@ module _ (p : Program) (g : Graph) (paths : List (List ℕ)) (budget : ℕ) wher
     refused_with old new mid now w v step e touches met all same stands halts = (halts, part e met all same) where
       broken : (r : Result Ended RunEnd) → ShowsWaiting start.sink mid now w.shown r
           → IfFailed r (Rose start.sink.faults now.faults ⊎ IsMetBy a r)
-          → IsBroken p g paths budget start (outside new now) r
+          → IsBroken p paths budget start (outside new now) r
       broken r shows meets =
           broken_here p g paths budget start (outside old mid) (outside new now) w steps node x a r within at starts its
           touches shows meets stands
@@ -160,7 +161,7 @@ module _ (p : Program) (g : Graph) (paths : List (List ℕ)) (budget : ℕ) wher
       part : (d : RunEnd) → IsMetBy {A = Ended} a (Err d)
           → (is_failure d ≡ true → now.told ≡ append_known mid.told w.shown)
           → (is_failure d ≡ false → now.told ≡ mid.told)
-          → IfRefused p g paths budget (Err d) (IsBroken p g paths budget start (outside new now) (Err d))
+          → IfRefused (Err d) (IsBroken p paths budget start (outside new now) (Err d))
       part end.ReadFault by all_ same_ = broken (Err end.ReadFault) (inl (all_ refl)) (inr by)
       part end.WriteFault by all_ same_ = broken (Err end.WriteFault) (inl (all_ refl)) (inr by)
       part end.Memory by all_ same_ =
@@ -228,7 +229,7 @@ module _ (p : Program) (g : Graph) (paths : List (List ℕ)) (budget : ℕ) wher
       shown_front why refuses waits fails = (
         sink_ends (λ old_ new_ r. Rests p g paths budget old_ new_ v r) start (outside old mid)
             (outside new now) stands.text why stands.well refuses.why,
-        if_refused (Err (by_sink why)) (IsBroken p g paths budget start (outside new now) (Err (by_sink why)))
+        if_refused (Err (by_sink why)) (IsBroken p paths budget start (outside new now) (Err (by_sink why)))
             (broken_here p g paths budget start (outside old mid) (outside new now) w steps node x a
             (Err (by_sink why)) within at starts its touches
             (inr (
@@ -300,8 +301,8 @@ module _ (p : Program) (g : Graph) (paths : List (List ℕ)) (budget : ℕ) wher
   own_rests start now w (Err (end.IoStop status statement)) own h = h
   own_rests start now w (Err (end.Fault kind statement step)) own h = h
 
-  own_ends : (start now : Outside) (r : Result Ended RunEnd) → IsOwnEnd r → EndsWell p g paths budget start now r
-      → EndsBy p g paths budget (EndsWell p g paths budget) start now r
+  own_ends : (start now : Outside) (r : Result Ended RunEnd) → IsOwnEnd r → EndsWell p paths budget start now r
+      → EndsBy (EndsWell p paths budget) start now r
   own_ends start now (Ok e) own h = h
   own_ends start now (Err end.ReadFault) own h = cc
   own_ends start now (Err end.WriteFault) own h = cc
@@ -318,16 +319,16 @@ module _ (p : Program) (g : Graph) (paths : List (List ℕ)) (budget : ℕ) wher
   -- nothing waits
   rests_put : (start : Outside) (files : FilesState) (sink : SinkState) (w : World) (r : Result Ended RunEnd)
       → w.shown ≡ [] → AreEmptied w.files (length paths) → Rests p g paths budget start (outside files sink) w r
-      → EndsWell p g paths budget start (outside files sink) r
+      → EndsWell p paths budget start (outside files sink) r
   rests_put start files sink w r silent none s = record {
     reading = counts_same r start.files.reading files.reading s.well.reading;
     writing = counts_same r start.files.writing files.writing s.well.writing;
     faults = s.well.faults;
     run = told_on (λ first told. RestsIn p g paths budget first told s.text w r)
-        (λ first told. EndsRun p g paths budget first told start.sink sink r)
+        (λ first told. EndsRun p paths budget first told start.sink sink r)
         (known_bytes start.files) (known_bytes files) (known_bytes files) s.told
         (λ first told e st.
-        subst (λ (c : Option Contents). IfTold (λ f n. EndsRun p g paths budget f n start.sink sink r) (Some first) c)
+        subst (λ (c : Option Contents). IfTold (λ f n. EndsRun p paths budget f n start.sink sink r) (Some first) c)
         (sym e)
         (record {
           steps = st.steps;
@@ -350,12 +351,12 @@ module _ (p : Program) (g : Graph) (paths : List (List ℕ)) (budget : ℕ) wher
     rests = own_rests start (outside files old) w r own off.halts
 
     -- the sink refuses the text that waits
-    pub text_refused : (e : MakeEnd) → Refuses old new w v e → Runs p g paths budget start (outside files new)
+    pub text_refused : (e : MakeEnd) → Refuses old new w v e → Runs p paths budget start (outside files new)
         (Err (by_sink e))
     text_refused e refuses = record {
-      ends = sink_ends (EndsWell p g paths budget) start (outside files old)
+      ends = sink_ends (EndsWell p paths budget) start (outside files old)
           (outside files new) rests.text e rests.well refuses.why;
-      part = if_refused (Err (by_sink e)) (IsBroken p g paths budget start (outside files new) (Err (by_sink e)))
+      part = if_refused (Err (by_sink e)) (IsBroken p paths budget start (outside files new) (Err (by_sink e)))
           (rests_break p g paths budget start (outside files old) (outside files new) w r (Err (by_sink e))
           (touches_stay paths makes_none w files)
           (inr (
@@ -371,33 +372,33 @@ module _ (p : Program) (g : Graph) (paths : List (List ℕ)) (budget : ℕ) wher
       shown = subst (λ (u : World). Rests p g paths budget start (outside files new) u r) (sym flushes.world)
           (rests_flushed p g paths start files old new w budget r flushes.gains rests)
 
-      pub broken : (q : Result Ended RunEnd) → IsBroken p g paths budget start (outside behind new) q
+      pub broken : (q : Result Ended RunEnd) → IsBroken p paths budget start (outside behind new) q
       broken q = rests_break p g paths budget start (outside files new) (outside behind new) v r q touches
           (inl (append_none new.told ∙ ap (λ (u : World). append_known new.told u.shown) (sym flushes.world))) shown
 
       -- a file is refused
-      pub file_refused : (e : RunEnd) → IsRefusal files behind e → Runs p g paths budget start (outside behind new)
+      pub file_refused : (e : RunEnd) → IsRefusal files behind e → Runs p paths budget start (outside behind new)
           (Err e)
       file_refused e why = record {
-        ends = file_ends (EndsWell p g paths budget) start files behind new shown.text e shown.well why;
-        part = if_refused (Err e) (IsBroken p g paths budget start (outside behind new) (Err e)) (broken (Err e));
+        ends = file_ends (EndsWell p paths budget) start files behind new shown.text e shown.well why;
+        part = if_refused (Err e) (IsBroken p paths budget start (outside behind new) (Err e)) (broken (Err e));
       }
 
       pub finished : (u : World) (count : ℕ) → length paths ≤ count → Sees paths files behind v u
-          → AreEmptied u.files count → Runs p g paths budget start (outside behind new) r
+          → AreEmptied u.files count → Runs p paths budget start (outside behind new) r
       finished u count all sees none = record {
         ends = own_ends start (outside behind new) r own
             (rests_put start behind new u r
             (ap (λ (x : World). x.shown) sees.world ∙ ap (λ (x : World). x.shown) flushes.world)
             (emptied_up_to u.files (length paths) count all none)
             (rests_sees p g paths start new files behind v u sees budget r shown));
-        part = own_part r (IsBroken p g paths budget start (outside behind new) r) own;
+        part = own_part r (IsBroken p paths budget start (outside behind new) r) own;
       }
 
   -- it halted by a refusal
   pub refused_runs : (start now : Outside) (w : World) (e : RunEnd) → is_refused e ≡ true
       → HaltsOff p g paths budget start now w (Err e)
-      → Runs p g paths budget start now (Err e)
+      → Runs p paths budget start now (Err e)
   refused_runs start now w end.ReadFault is off = record { ends = off.halts; part = off.part }
   refused_runs start now w end.WriteFault is off = record { ends = off.halts; part = off.part }
   refused_runs start now w end.Memory is off = record { ends = off.halts; part = off.part }
@@ -412,7 +413,7 @@ sink_is_refused make.Memory = refl
 
 pub sink_runs : (p : Program) (g : Graph) (paths : List (List ℕ)) (budget : ℕ) (start now : Outside) (w : World)
     (e : MakeEnd)
-    → HaltsOff p g paths budget start now w (Err (by_sink e)) → Runs p g paths budget start now (Err (by_sink e))
+    → HaltsOff p g paths budget start now w (Err (by_sink e)) → Runs p paths budget start now (Err (by_sink e))
 sink_runs p g paths budget start now w e off = refused_runs p g paths budget start now w (by_sink e) (sink_is_refused e) off
 
 -- ---- a step of a setting

@@ -25,7 +25,8 @@ use Rattle.cob_interp.specs.declared.ends.RunEnd.TheVariants as end
 use Rattle.cob_interp.specs.declared.setting.Setting.{Setting}
 use Rattle.cob_interp.specs.declared.setting.Place.{Place}
 use Rattle.cob_interp.specs.Setting.{IsReady, IsPlace, FitsPlace, StartsAt, IsUncalled, is_uncalled, IsCall, LeadsOn, LeadsBy, program_of, paths_of}
-use Rattle.cob_interp.specs.Running.{Outside, IsAt, HaltsOff}
+use Rattle.cob_interp.specs.Runs.{Outside}
+use Rattle.cob_interp.specs.Running.{IsAt, HaltsOff}
 use Rattle.cob_interp.specs.Doing.{IsPlain, IsQuiet, DoesPart, answered}
 use Rattle.cob_interp.proofs.Finishing.{spends_here}
 

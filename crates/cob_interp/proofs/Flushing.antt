@@ -15,7 +15,8 @@ use Rattle.cob_interp.specs.declared.ends.Ended.{Ended}
 use Rattle.cob_interp.specs.declared.ends.RunEnd.{RunEnd}
 use Rattle.cob_interp.specs.Ends.{told_files}
 use Rattle.cob_interp.specs.Told.{seen, seen_files}
-use Rattle.cob_interp.specs.Running.{Outside, outside, IsWell, IfTold, StandsIf, Stands, RestsIn, Rests}
+use Rattle.cob_interp.specs.Runs.{Outside, outside, IfTold}
+use Rattle.cob_interp.specs.Running.{IsWell, StandsIf, Stands, RestsIn, Rests}
 use Rattle.cob_interp.specs.Walking.{IsSinkRefusal, Gains, Flushes, MayFlush, Refuses}
 use Rattle.cob_interp.proofs.Passing.{well_passes, stands_behind}
 use Rattle.cob_interp.proofs.Breaking.{told_on}

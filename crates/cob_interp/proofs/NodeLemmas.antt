@@ -11,7 +11,8 @@ use Rattle.cob_interp.specs.declared.ends.RunEnd.TheVariants as end
 use Rattle.cob_interp.specs.declared.setting.Setting.{Setting}
 use Rattle.cob_interp.specs.declared.setting.Place.{Place}
 use Rattle.cob_interp.specs.Told.{AreDistinct}
-use Rattle.cob_interp.specs.Running.{Outside, RestsIn}
+use Rattle.cob_interp.specs.Runs.{Outside}
+use Rattle.cob_interp.specs.Running.{RestsIn}
 use Rattle.cob_interp.specs.Setting.{program_of, paths_of, IsPlace}
 use Rattle.cob_interp.specs.Doing.{IsPlain, answered, Leads, DoesPart}
 use Rattle.cob_interp.proofs.Following.{plain_edge}

@@ -23,7 +23,8 @@ use Rattle.cob_interp.specs.Ends.{told_files}
 use Rattle.cob_interp.specs.Tracking.{Ids}
 use Rattle.cob_graph_laws.specs.Told.{Way}
 use Rattle.cob_program.specs.declared.act.Opening.{Opening}
-use Rattle.cob_interp.specs.Running.{outside, StandsIn, RestsIn}
+use Rattle.cob_interp.specs.Runs.{outside}
+use Rattle.cob_interp.specs.Running.{StandsIn, RestsIn}
 use Rattle.cob_interp.specs.Setting.{program_of, paths_of, IsPlace}
 use Rattle.cob_interp.specs.Readying.{ReadyToOpen}
 use Rattle.cob_interp.specs.Doing.{answered, Leads, DoesPart}

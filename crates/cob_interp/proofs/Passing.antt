@@ -11,7 +11,8 @@ use Rattle.cob_interp.specs.declared.ends.RunEnd.{RunEnd}
 use Rattle.batch_io.specs.SinkState.{SinkState}
 use Rattle.cob_interp.specs.Told.{AgreeBut}
 use Rattle.cob_interp.specs.Readying.{AreWell, Readies}
-use Rattle.cob_interp.specs.Running.{outside, Outside, IsWell, StandsIn, StandsIf, Stands, RestsIn, RestsIf, Rests}
+use Rattle.cob_interp.specs.Runs.{outside, Outside}
+use Rattle.cob_interp.specs.Running.{IsWell, StandsIn, StandsIf, Stands, RestsIn, RestsIf, Rests}
 
 pub ids_stay : (a : FilesState) → KeepsIds a a
 ids_stay a = record { purpose = λ id. refl; handle = λ id some. refl }

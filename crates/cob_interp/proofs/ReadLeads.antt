@@ -22,7 +22,8 @@ use Rattle.cob_interp.specs.declared.setting.Setting.{Setting}
 use Rattle.cob_interp.specs.declared.setting.Place.{Place}
 use Rattle.cob_interp.specs.Told.{seen, AreSynced}
 use Rattle.cob_interp.specs.Readying.{AreWell}
-use Rattle.cob_interp.specs.Running.{Outside, outside, IsUnderway, Stands, StandsIn, StandsIf, RestsIn, Arrives}
+use Rattle.cob_interp.specs.Runs.{Outside, outside}
+use Rattle.cob_interp.specs.Running.{IsUnderway, Stands, StandsIn, StandsIf, RestsIn, Arrives}
 use Rattle.cob_interp.specs.Setting.{program_of, paths_of, IsPlace}
 use Rattle.cob_interp.specs.Doing.{answered, DoesPart}
 use Rattle.cob_interp.proofs.Passing.{stands_told, rests_told}

@@ -22,7 +22,8 @@ use Rattle.cob_interp.specs.Told.{seen, seen_file, seen_files, AreSynced, AreDis
 use Rattle.cob_interp.specs.Tracking.{Ids, ArePlaced}
 use Rattle.cob_interp.specs.Readying.{GivesWindow, HasRest, IsReadOn, settled}
 use Rattle.cob_interp.specs.Doing.{DoesPart, DoesRead, ReadsPart}
-use Rattle.cob_interp.specs.Running.{Outside, outside, Stands, Arrives}
+use Rattle.cob_interp.specs.Runs.{Outside, outside}
+use Rattle.cob_interp.specs.Running.{Stands, Arrives}
 use Rattle.cob_interp.specs.Setting.{program_of, paths_of, IsCall, StartsAt}
 use Rattle.cob_interp.proofs.SeenFiles.{SeenAt, seen_at}
 use Rattle.cob_interp.proofs.OneFile.{window_follows, window_uncut, rest_cut, rest_length}

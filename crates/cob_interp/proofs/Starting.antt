@@ -20,7 +20,8 @@ use Rattle.cob_graph_laws.specs.Told.{Way, WaysTellOfRuns}
 use Rattle.cob_interp.specs.declared.ends.RunEnd.TheVariants as end
 use Rattle.cob_interp.specs.Ends.{told_files, AreFree, state_after}
 use Rattle.cob_interp.specs.Told.{seen, seen_files, AreSynced}
-use Rattle.cob_interp.specs.Running.{Outside, IfTold, makes_next, StandsIn, StandsIf, BreaksOff, IsAt, Runs}
+use Rattle.cob_interp.specs.Runs.{Outside, IfTold, makes_next, BreaksOff, Runs}
+use Rattle.cob_interp.specs.Running.{StandsIn, StandsIf, IsAt}
 use Rattle.cob_interp.proofs.Passing.{append_none, well_stays}
 use Rattle.cob_interp.specs.Tracking.{Ids, AreNone, purposes_of, purposes_for, ArePlaced}
 use Rattle.cob_interp.proofs.TrackLemmas.{none_stand}
@@ -129,7 +130,7 @@ module _ (p : Program) (g : Graph) (paths : List (List ℕ)) (same : length path
         (rest (body_at p 0) ∷ paras 1 (length p.paras - 1) ∷ []) Going
         ∙ first_as_seen told
 
-    breaks_first : (told : Contents) → BreaksOff p g paths budget told told start.sink start.sink (Err end.Memory)
+    breaks_first : (told : Contents) → BreaksOff p paths budget told told start.sink start.sink (Err end.Memory)
     breaks_first told = record {
       steps = 0;
       within = omega arith;
@@ -156,7 +157,7 @@ module _ (p : Program) (g : Graph) (paths : List (List ℕ)) (same : length path
       stands (Some told) = stands_first told
 
       breaks : (known : Option Contents)
-          → IfTold (λ first told. BreaksOff p g paths budget first told start.sink start.sink (Err end.Memory)) known
+          → IfTold (λ first told. BreaksOff p paths budget first told start.sink start.sink (Err end.Memory)) known
           known
       breaks None = tt
       breaks (Some told) = breaks_first told
@@ -169,5 +170,5 @@ module _ (p : Program) (g : Graph) (paths : List (List ℕ)) (same : length path
         (sym (is ∙ ap (λ (xs : List X). first_world p (map f xs) []) none)) begins_run
 
     -- where memory runs out before the run
-    pub refused_first : Runs p g paths budget start start (Err end.Memory)
+    pub refused_first : Runs p paths budget start start (Err end.Memory)
     refused_first = record { ends = tt; part = begins_run.part }

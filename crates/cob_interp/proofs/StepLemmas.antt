@@ -6,7 +6,8 @@ use Rattle.cob_graph.specs.Lookup.{node_at}
 use Rattle.cob_graph_laws.specs.Ways.{passed}
 use Rattle.cob_runs.specs.State.{World}
 use Rattle.cob_interp.specs.declared.setting.Setting.{Setting}
-use Rattle.cob_interp.specs.Running.{Outside, IsUnderway, Stands}
+use Rattle.cob_interp.specs.Runs.{Outside}
+use Rattle.cob_interp.specs.Running.{IsUnderway, Stands}
 use Rattle.cob_interp.specs.Setting.{program_of, paths_of}
 
 pub passes_on : (step : ℕ) (x : Node) → x.starts ≡ false → step ≡ passed step x

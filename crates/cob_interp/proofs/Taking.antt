@@ -19,7 +19,8 @@ use Rattle.cob_interp.specs.declared.setting.Setting.{Setting}
 use Rattle.cob_interp.specs.declared.setting.Place.{Place}
 use Rattle.cob_interp.specs.Told.{seen, seen_files, AreSynced}
 use Rattle.cob_interp.specs.Ends.{cut_file, cut_by}
-use Rattle.cob_interp.specs.Running.{Outside, StandsIn, Stands, IsUnderway, RestsIn, Rests, Arrives}
+use Rattle.cob_interp.specs.Runs.{Outside}
+use Rattle.cob_interp.specs.Running.{StandsIn, Stands, IsUnderway, RestsIn, Rests, Arrives}
 use Rattle.cob_interp.specs.Setting.{program_of, paths_of, StartsAt, IsCall}
 use Rattle.cob_interp.specs.Doing.{Leads}
 use Rattle.cob_interp.proofs.Passing.{rests_told}

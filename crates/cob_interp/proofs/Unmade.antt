@@ -24,7 +24,7 @@ use Rattle.cob_interp.specs.declared.ends.RunEnd.{RunEnd}
 use Rattle.cob_interp.specs.declared.ends.RunEnd.TheVariants as end
 use Rattle.cob_interp.specs.Ends.{told_files, state_after}
 use Rattle.cob_interp.specs.Touching.{IsPartOf, makes_in, makes_by}
-use Rattle.cob_interp.specs.Running.{Outside, IfTold, makes_next, EndsRun, EndsWell, BreaksOff, IsBroken, Runs, KeepsUnmade}
+use Rattle.cob_interp.specs.Runs.{Outside, IfTold, makes_next, EndsRun, EndsWell, BreaksOff, IsBroken, Runs, KeepsUnmade}
 
 if_told : (P Q : Contents → Contents → Type 0) → ((first told : Contents) → P first told → Q first told)
     → (a b : Option Contents) → IfTold P a b → IfTold Q a b
@@ -107,11 +107,11 @@ module _ (p : Program) (g : Graph) (whole : IsWellFormed p) (is : IsGraph p g) (
 
     -- ---- at all
 
-    ended : (before after : SinkState) (r : Result Ended RunEnd) → EndsRun p g paths budget first told before after r
+    ended : (before after : SinkState) (r : Result Ended RunEnd) → EndsRun p paths budget first told before after r
         → KeepsUnmade p paths first told
     ended before after r x place path at within never = by_content place path at never x.steps x.holds.its
 
-    broken : (before after : SinkState) (r : Result Ended RunEnd) → BreaksOff p g paths budget first told before after r
+    broken : (before after : SinkState) (r : Result Ended RunEnd) → BreaksOff p paths budget first told before after r
         → KeepsUnmade p paths first told
     broken before after r x place path at within never =
         by_part place path at never x.steps within (λ f has. x.files place path f at has)
@@ -121,20 +121,20 @@ module _ (p : Program) (g : Graph) (whole : IsWellFormed p) (is : IsGraph p g) (
     IsUnmadeKept =
         IfTold (λ first told. KeepsUnmade p paths first told) (known_bytes old.files) (known_bytes new.files)
 
-    by_end : (r : Result Ended RunEnd) → EndsWell p g paths budget old new r → IsUnmadeKept
+    by_end : (r : Result Ended RunEnd) → EndsWell p paths budget old new r → IsUnmadeKept
     by_end r x =
-        if_told (λ first told. EndsRun p g paths budget first told old.sink new.sink r)
+        if_told (λ first told. EndsRun p paths budget first told old.sink new.sink r)
         (λ first told. KeepsUnmade p paths first told) (λ first told y. ended first told old.sink new.sink r y)
         (known_bytes old.files) (known_bytes new.files) x.run
 
-    by_break : (r : Result Ended RunEnd) → IsBroken p g paths budget old new r → IsUnmadeKept
+    by_break : (r : Result Ended RunEnd) → IsBroken p paths budget old new r → IsUnmadeKept
     by_break r x =
-        if_told (λ first told. BreaksOff p g paths budget first told old.sink new.sink r)
+        if_told (λ first told. BreaksOff p paths budget first told old.sink new.sink r)
         (λ first told. KeepsUnmade p paths first told) (λ first told y. broken first told old.sink new.sink r y)
         (known_bytes old.files) (known_bytes new.files) x
 
     -- however the run ends
-    pub unmade_kept : (r : Result Ended RunEnd) → Runs p g paths budget old new r → IsUnmadeKept
+    pub unmade_kept : (r : Result Ended RunEnd) → Runs p paths budget old new r → IsUnmadeKept
     unmade_kept (Ok e) x = by_end (Ok e) x.ends
     unmade_kept (Err (end.StepsSpent count)) x = by_end (Err (end.StepsSpent count)) x.ends
     unmade_kept (Err (end.IoStop status statement)) x = by_end (Err (end.IoStop status statement)) x.ends

@@ -12,7 +12,8 @@ use Rattle.cob_runs.specs.State.{World, with_files}
 use Rattle.cob_interp.specs.declared.ends.RunEnd.{RunEnd}
 use Rattle.cob_interp.specs.declared.ends.RunEnd.TheVariants as end
 use Rattle.cob_interp.specs.declared.setting.Setting.{Setting}
-use Rattle.cob_interp.specs.Running.{Outside, IsUnderway, Arrives}
+use Rattle.cob_interp.specs.Runs.{Outside}
+use Rattle.cob_interp.specs.Running.{IsUnderway, Arrives}
 use Rattle.cob_interp.specs.Setting.{program_of, paths_of}
 use Rattle.cob_interp.specs.Ends.{cut_file}
 use Rattle.cob_interp.specs.Tracking.{Ids}

@@ -3,6 +3,7 @@ pub mod Ends
 pub mod Told
 pub mod Tracking
 pub mod Touching
+pub mod Runs
 pub mod Running
 pub mod Walking
 pub mod Setting

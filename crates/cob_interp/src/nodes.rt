@@ -4,7 +4,7 @@ ghost use Rattle.batch_io.specs.SinkState.{SinkState};
 ghost use Rattle.cob_program.specs.Act.{open_files, close_files};
 ghost use Rattle.cob_program.specs.ActView.{plain_act};
 ghost use Rattle.cob_interp.specs.Ends.{UnlessRefused};
-ghost use Rattle.cob_interp.specs.Running.{Outside, outside};
+ghost use Rattle.cob_interp.specs.Runs.{Outside, outside};
 ghost use Rattle.cob_interp.specs.Setting.{IsReady, IsPlace, IsPlaced, LeadsBy, paths_of};
 ghost use Rattle.cob_interp.specs.Meeting.{IfFailed};
 ghost use Rattle.cob_interp.specs.Touching.{Touches, ClosesOnly, makes_none};

@@ -3,7 +3,7 @@ ghost use Rattle.std.specs.Prelude.{◌≡◌, ℕ, true, IfOk, [], slice_get};
 ghost use Rattle.batch_io.specs.SinkState.{SinkState};
 ghost use Rattle.cob_program.specs.Act.{open_files};
 ghost use Rattle.cob_program.specs.ActView.{plain_act};
-ghost use Rattle.cob_interp.specs.Running.{outside};
+ghost use Rattle.cob_interp.specs.Runs.{outside};
 ghost use Rattle.cob_interp.specs.Setting.{IsReady, IsPlace, IsPlaced, LeadsBy, paths_of};
 ghost use Rattle.cob_interp.specs.Meeting.{IsMetBy};
 ghost use Rattle.cob_interp.specs.Touching.{Makes, OpensOnly, makes_in};

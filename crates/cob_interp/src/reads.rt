@@ -8,7 +8,8 @@ ghost use Rattle.cob_interp.specs.declared.ends.RunEnd.TheVariants as end;
 ghost use Rattle.cob_interp.specs.Doing.{ReadsPart};
 ghost use Rattle.cob_interp.specs.Meeting.{FailsBy, IfFailed};
 ghost use Rattle.cob_interp.specs.Readying.{GivesWindow, IsDeclared, IsRestOr, IsReadOn, settled};
-ghost use Rattle.cob_interp.specs.Running.{Outside, outside, Stands, Arrives};
+ghost use Rattle.cob_interp.specs.Runs.{Outside, outside};
+ghost use Rattle.cob_interp.specs.Running.{Stands, Arrives};
 ghost use Rattle.cob_interp.specs.Setting.{IsReady, StartsAt, IsCall, IsPlaced, LeadsBy, program_of, paths_of};
 ghost use Rattle.cob_interp.specs.Tracking.{IsHeldFor, AreLeft, AreOpen, ArePlaced, Tracks};
 

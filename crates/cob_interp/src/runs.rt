@@ -12,7 +12,8 @@ ghost use Rattle.cob_interp.specs.declared.ends.RunEnd.{RunEnd};
 ghost use Rattle.cob_interp.specs.Meeting.{end_behind};
 ghost use Rattle.cob_interp.specs.Able.{CanBeRun, HasItsFiles};
 ghost use Rattle.cob_interp.specs.Readying.{IsRefusal, Sees, AreEmptied};
-ghost use Rattle.cob_interp.specs.Running.{Outside, outside, HaltsOff, IsBroken, IfTold, KeepsUnmade, Runs, TellsOfSink};
+ghost use Rattle.cob_interp.specs.Runs.{Outside, outside, IsBroken, IfTold, KeepsUnmade, Runs, TellsOfSink};
+ghost use Rattle.cob_interp.specs.Running.{HaltsOff};
 ghost use Rattle.cob_interp.specs.Setting.{IsReady, program_of, paths_of, texts};
 ghost use Rattle.cob_interp.specs.Told.{AreDistinct};
 ghost use Rattle.cob_interp.specs.Touching.{Touches, makes_none};
@@ -80,10 +81,9 @@ fn give_up<F: Files>(files: &mut F, handles: &mut Handles, ending: Ending) -> En
     ensures same { result ≡ ending }
     ensures tracks { Tracks (F.state files.old) (F.state files.new) handles.old handles.new }
     ensures none { AreNone handles.new }
-    ensures runs { (p : act.Program) (g : graph.Graph) (paths : List (List ℕ)) (budget : ℕ) (start : Outside)
-        (sink : SinkState)
-        → Runs p g paths budget start (outside (F.state files.old) sink) ending.end
-        → Runs p g paths budget start (outside (F.state files.new) sink) result.end }
+    ensures runs { (p : act.Program) (paths : List (List ℕ)) (budget : ℕ) (start : Outside) (sink : SinkState)
+        → Runs p paths budget start (outside (F.state files.old) sink) ending.end
+        → Runs p paths budget start (outside (F.state files.new) sink) result.end }
 {
     let _ = handles.close_all(files);
     ending
@@ -114,12 +114,11 @@ fn close_handles<F: Files>(
     ensures stays { IfErr end (λ e. result.end ≡ Err e) }
     ensures tracks { Tracks (F.state files.old) (F.state files.new) handles.old handles.new }
     ensures none { AreNone handles.new }
-    ensures runs { (p : act.Program) (g : graph.Graph) (paths : List (List ℕ)) (budget : ℕ) (start : Outside)
-        (sink : SinkState)
-        → Runs p g paths budget start (outside (F.state files.old) sink) end
+    ensures runs { (p : act.Program) (paths : List (List ℕ)) (budget : ℕ) (start : Outside) (sink : SinkState)
+        → Runs p paths budget start (outside (F.state files.old) sink) end
         → ((broken : Result Ended RunEnd)
-        → IsBroken p g paths budget start (outside (F.state files.old) sink) broken)
-        → Runs p g paths budget start (outside (F.state files.new) sink) result.end }
+        → IsBroken p paths budget start (outside (F.state files.old) sink) broken)
+        → Runs p paths budget start (outside (F.state files.new) sink) result.end }
 {
     let closed = handles.close_all(files);
     Ending {
@@ -145,7 +144,7 @@ fn finish<F: Files, O: Sink>(
     ensures runs { (budget : ℕ) (start : Outside)
         → HaltsOff (program_of setting.now) setting.now.graph.now (paths_of setting.now) budget start
         (outside (F.state files.old) (O.state out.old)) world.old.world end
-        → Runs (program_of setting.now) setting.now.graph.now (paths_of setting.now) budget start
+        → Runs (program_of setting.now) (paths_of setting.now) budget start
         (outside (F.state files.new) (O.state out.new)) result.end }
     ensures sink { TellsOfSink (O.state out.old) (O.state out.new) result }
     ensures tracks { Tracks (F.state files.old) (F.state files.new) handles.old handles.new }
@@ -197,7 +196,7 @@ fn ending_of<F: Files, O: Sink>(
     ensures runs { (budget : ℕ) (start : Outside)
         → HaltsOff (program_of setting.now) setting.now.graph.now (paths_of setting.now) budget start
         (outside (F.state files.old) (O.state out.old)) world.old.world (as_result halted)
-        → Runs (program_of setting.now) setting.now.graph.now (paths_of setting.now) budget start
+        → Runs (program_of setting.now) (paths_of setting.now) budget start
         (outside (F.state files.new) (O.state out.new)) result.end }
     ensures sink { (first : SinkState) → TellsBySink first (O.state out.old) halted
         → TellsOfSink first (O.state out.new) result }
@@ -241,7 +240,7 @@ fn run_through<F: Files, O: Sink>(
     requires files { HasItsFiles (plain_program program.now) }
     requires paths { length paths.now ≡ length program.now.layout.files }
     requires distinct { AreDistinct (texts paths.now) }
-    ensures runs { Runs (plain_program program.now) graph.now (texts paths.now) budget
+    ensures runs { Runs (plain_program program.now) (texts paths.now) budget
         (outside (F.state files.old) (O.state out.old)) (outside (F.state files.new) (O.state out.new)) result.end }
     ensures sink { TellsOfSink (O.state out.old) (O.state out.new) result }
     ensures ids { KeepsIds (F.state files.old) (F.state files.new) }
@@ -305,7 +304,7 @@ pub fn run_to_ending<F: Files, O: Sink>(
     requires able { CanBeRun (plain_program program.now) }
     requires paths { length paths.now ≡ length program.now.layout.files }
     requires distinct { AreDistinct (texts paths.now) }
-    ensures runs { Runs (plain_program program.now) graph.now (texts paths.now) budget
+    ensures runs { Runs (plain_program program.now) (texts paths.now) budget
         (outside (F.state files.old) (O.state out.old)) (outside (F.state files.new) (O.state out.new)) result.end }
     ensures sink { TellsOfSink (O.state out.old) (O.state out.new) result }
     ensures ids { KeepsIds (F.state files.old) (F.state files.new) }
@@ -334,7 +333,7 @@ pub fn run<F: Files, O: Sink>(
     requires able { CanBeRun (plain_program program.now) }
     requires paths { length paths.now ≡ length program.now.layout.files }
     requires distinct { AreDistinct (texts paths.now) }
-    ensures runs { Runs (plain_program program.now) graph.now (texts paths.now) budget
+    ensures runs { Runs (plain_program program.now) (texts paths.now) budget
         (outside (F.state files.old) (O.state out.old)) (outside (F.state files.new) (O.state out.new)) result }
     ensures ids { KeepsIds (F.state files.old) (F.state files.new) }
     ensures unmade { IfTold (λ first told. KeepsUnmade (plain_program program.now) (texts paths.now) first told)

@@ -8,7 +8,8 @@ use Rattle.cob_data.specs.Names.{stands_in}
 use Rattle.run_command.specs.declared.paths.PathsEnd.{PathsEnd}
 use Rattle.run_command.specs.declared.paths.PathsEnd.TheVariants as ends
 use Rattle.command_words.specs.Words.{texts}
-use Rattle.run_command.specs.Paths.{path_of, blamed, clash, unless_clash, AreDistinct, AnswersPaths, Blames}
+use Rattle.cob_interp.specs.Told.{AreDistinct}
+use Rattle.run_command.specs.Paths.{path_of, blamed, clash, unless_clash, AnswersPaths, Blames}
 
 -- ---- a file that clashes
 

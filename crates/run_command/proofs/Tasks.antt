@@ -11,7 +11,8 @@ use Rattle.cob_front.specs.declared.refusal.Refusal.{Refusal}
 use Rattle.cob_front.specs.declared.refusal.Refusal.TheVariants as end
 use Rattle.command_words.specs.Words.{texts, lent_texts}
 use Rattle.command_words.specs.Commands.{Run}
-use Rattle.run_command.specs.Paths.{AreDistinct, paths_of}
+use Rattle.cob_interp.specs.Told.{AreDistinct}
+use Rattle.run_command.specs.Paths.{paths_of}
 use Rattle.command_answers.specs.declared.answer.Answer as code
 use Rattle.command_answers.specs.declared.answer.Stop.{Stop}
 use Rattle.command_answers.specs.declared.source.Laid.{Laid}

@@ -1,5 +1,5 @@
 -- The paths of files, by words `NAME=PATH`. A NAME is compared with external names without regard to capitals.
-use Rattle.std.specs.Prelude.{◌≡◌, ℕ, Bool, true, false, ◌||◌, nat_lt, ◌==◌, if◌then◌else◌, List, [], ◌∷◌, ◌++◌, map, length, Contains, find, Option, None, Some, is_none, unwrap_or, Result, Ok, Err, Vec, String, string_bytes}
+use Rattle.std.specs.Prelude.{◌≡◌, ℕ, Bool, true, false, ◌||◌, nat_lt, ◌==◌, if◌then◌else◌, List, [], ◌∷◌, ◌++◌, map, length, find, Option, None, Some, is_none, unwrap_or, Result, Ok, Err, Vec, String, string_bytes}
 use Rattle.std.specs.declared.alloc.Global.{Global}
 use Rattle.std.specs.List.{list_any, position_or_len, before_first, after_first}
 use Rattle.std.specs.Str.{str_eq_ignore_ascii_case}
@@ -89,11 +89,6 @@ unless_refused words files (Some word) = Err word
 -- one's path.
 abbrev pub paths_of : List FileDecl → List (List ℕ) → Result (List (List ℕ)) (List ℕ)
 paths_of files words = unless_refused words files (first_refused files [] words)
-
--- no two paths are equal
-abbrev pub AreDistinct : List (List ℕ) → Type 0
-AreDistinct [] = Unit {0}
-AreDistinct (path ∷ paths) = (Contains paths path → ⊥) × AreDistinct paths
 
 -- ---- the code's answer
 

@@ -9,7 +9,7 @@ use Rattle.cob_graph.specs.declared.graph.Graph.{Graph}
 use Rattle.cob_interp.specs.declared.ends.Ended.{Ended}
 use Rattle.cob_interp.specs.declared.ends.RunEnd.{RunEnd}
 use Rattle.cob_interp.specs.declared.ends.RunEnd.TheVariants as end
-use Rattle.cob_interp.specs.Running.{Outside, outside, IfTold, KeepsUnmade, Runs, TellsOfSink}
+use Rattle.cob_interp.specs.Runs.{Outside, outside, IfTold, KeepsUnmade, Runs, TellsOfSink}
 use Rattle.command_words.specs.Commands.{Run, IsCommand}
 use Rattle.command_words.specs.Commands as command
 use Rattle.run_command.specs.Paths.{paths_of}
@@ -97,7 +97,7 @@ TellsEnd files old new (Err e) false status = ShowsEnd files old new e status
 pub record RunsTo (t : Task) (old new : Outside) (result : Result Ended RunEnd) (status : ℕ) : Type 0 where
   pub middle : SinkState
   pub refused : Bool
-  pub runs : Runs t.program t.graph t.paths t.steps old (outside new.files middle) result
+  pub runs : Runs t.program t.paths t.steps old (outside new.files middle) result
   pub ids : KeepsIds old.files new.files
   -- paths of files that no statement opens for output hold what they held
   pub unmade : IfTold (λ first told. KeepsUnmade t.program t.paths first told) (known_bytes old.files) (known_bytes new.files)

@@ -5,7 +5,7 @@ use Rattle.cob_graph.specs.Graphs.{IsGraph}
 use Rattle.cob_interp.specs.Able.{CanBeRun}
 use Rattle.command_words.specs.Words.{texts}
 use Rattle.command_words.specs.Commands.{Run}
-use Rattle.run_command.specs.Paths.{AreDistinct}
+use Rattle.cob_interp.specs.Told.{AreDistinct}
 use Rattle.command_answers.specs.declared.answer.Stop.{Stop}
 use Rattle.command_answers.specs.declared.answer.Stop.TheVariants.{Memory}
 use Rattle.command_answers.specs.Profile.{IsProfileCause}

@@ -3,7 +3,8 @@ ghost use Rattle.std.specs.Prelude.{◌≡◌, IfOk, IfErr, [], length, string_b
 ghost use Rattle.run_command.specs.declared.paths.PathsEnd.TheVariants.{Memory};
 ghost use Rattle.cob_data.specs.Names.{stands_in};
 ghost use Rattle.command_words.specs.Words.{texts, lent_texts};
-ghost use Rattle.run_command.specs.Paths.{AnswersPaths, AreDistinct, Blames, blamed, clash, path_of, paths_of, unless_clash};
+ghost use Rattle.cob_interp.specs.Told.{AreDistinct};
+ghost use Rattle.run_command.specs.Paths.{AnswersPaths, Blames, blamed, clash, path_of, paths_of, unless_clash};
 
 use crate::named::{first_refused, split_at_equals, word_of};
 use cob_data::FileDecl;

@@ -3,7 +3,7 @@ ghost use Rattle.std.specs.Prelude.{IfErr, IfOk, IfSome, MatchResult, Result};
 ghost use Rattle.batch_io.specs.FilesState.{known_bytes};
 ghost use Rattle.cob_interp.specs.declared.ends.Ended.{Ended};
 ghost use Rattle.cob_interp.specs.declared.ends.RunEnd.{RunEnd};
-ghost use Rattle.cob_interp.specs.Running.{outside};
+ghost use Rattle.cob_interp.specs.Runs.{outside};
 ghost use Rattle.command_words.specs.Commands.{plain_run};
 ghost use Rattle.command_answers.specs.Steps.{Reads, refused_by_fault, IsLaid};
 ghost use Rattle.command_answers.specs.View.{plain_answer, plain_result};

@@ -8,7 +8,7 @@ use Rattle.cob_interp.proofs.runs.finish.Goals as goal
 
 pub returns-in-Err-clause-runs : goal.returns-in-Err-clause-runs
 returns-in-Err-clause-runs g c budget start off =
-    c.give_up.ensures.runs (program_of c.args.setting.now) c.args.setting.now.graph.now (paths_of c.args.setting.now)
+    c.give_up.ensures.runs (program_of c.args.setting.now) (paths_of c.args.setting.now)
     budget start _
     (rw c.refused_by_sink.ensures.end
     (text_refused (program_of c.args.setting.now) c.args.setting.now.graph.now
@@ -40,7 +40,7 @@ returns-in-Ok-write_all-clause-tracks g c =
 
 pub returns-in-Err-write_all-clause-runs : goal.returns-in-Err-write_all-clause-runs
 returns-in-Err-write_all-clause-runs g c budget start off =
-    c.give_up-in-Err-write_all.ensures.runs (program_of c.args.setting.now) c.args.setting.now.graph.now
+    c.give_up-in-Err-write_all.ensures.runs (program_of c.args.setting.now)
     (paths_of c.args.setting.now) budget start _
     (file_refused (program_of c.args.setting.now) c.args.setting.now.graph.now
     (paths_of c.args.setting.now) budget start _ _ _
@@ -51,7 +51,7 @@ returns-in-Err-write_all-clause-runs g c budget start off =
 pub returns-in-Ok-write_all-clause-runs : goal.returns-in-Ok-write_all-clause-runs
 returns-in-Ok-write_all-clause-runs g c budget start off =
     let written = c.in-Ok-write_all.ensures.writes in
-    c.close_handles.ensures.runs (program_of c.args.setting.now) c.args.setting.now.graph.now
+    c.close_handles.ensures.runs (program_of c.args.setting.now)
     (paths_of c.args.setting.now) budget start _
     (finished (program_of c.args.setting.now) c.args.setting.now.graph.now
     (paths_of c.args.setting.now) budget start _ _ _

@@ -2,7 +2,7 @@ use Rattle.std.proofs.Common.{◌∙◌}
 use Rattle.std.specs.Prelude.{string_bytes}
 use Rattle.std.proofs.lemmas.List.{length-map}
 use Rattle.cob_program.specs.ActView.{plain_program}
-use Rattle.cob_interp.specs.Running.{outside}
+use Rattle.cob_interp.specs.Runs.{outside}
 use Rattle.cob_interp.specs.Setting.{texts}
 use Rattle.cob_interp.proofs.Starting.{begins_with, refused_first, placed_first}
 use Rattle.cob_interp.proofs.TrackLemmas.{ids_kept, tracks_pass}

@@ -1,6 +1,7 @@
 use Rattle.std.proofs.Common.{◌≡◌, ◌<◌}
 use Rattle.batch_io.specs.SinkState.{SinkState}
-use Rattle.cob_interp.specs.Running.{Outside, outside, IsUnderway}
+use Rattle.cob_interp.specs.Runs.{Outside, outside}
+use Rattle.cob_interp.specs.Running.{IsUnderway}
 use Rattle.cob_plan.specs.Stepping.{IsWithin}
 use Rattle.cob_interp.specs.Setting.{program_of, paths_of}
 use Rattle.cob_interp.specs.Touching.{Touches, ClosesOnly, makes_none}

@@ -1,6 +1,6 @@
 use Rattle.std.proofs.Common.{arith, false, sym, ◌∙◌}
 use Rattle.std.proofs.lemmas.Result.{err_from_is_err_and}
-use Rattle.cob_interp.specs.Running.{outside}
+use Rattle.cob_interp.specs.Runs.{outside}
 use Rattle.cob_interp.specs.Setting.{paths_of}
 use Rattle.cob_interp.proofs.FitLemmas.{led_to_rest, led_within, uncalled_at, uncalled_read}
 use Rattle.cob_interp.proofs.StepLemmas.{goes_on_underway}

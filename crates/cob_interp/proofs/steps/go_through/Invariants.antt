@@ -1,5 +1,6 @@
 use Rattle.std.proofs.Common.{◌≡◌, ◌<◌, false}
-use Rattle.cob_interp.specs.Running.{Outside, IsUnderway}
+use Rattle.cob_interp.specs.Runs.{Outside}
+use Rattle.cob_interp.specs.Running.{IsUnderway}
 use Rattle.cob_plan.specs.Stepping.{rests, IsWithin}
 use Rattle.cob_interp.specs.Setting.{program_of, paths_of}
 use Rattle.cob_interp.specs.Tracking.{KeepsPlaces}

@@ -1,7 +1,7 @@
 use Rattle.std.proofs.Common.{◌≡◌, ℕ, Some, ap, subst, ◌∙◌, sym}
 use Rattle.cob_program.specs.ActView.{plain_act}
 use Rattle.cob_runs.specs.Effects.{act_at}
-use Rattle.cob_interp.specs.Running.{outside}
+use Rattle.cob_interp.specs.Runs.{outside}
 use Rattle.cob_interp.specs.Setting.{program_of, paths_of}
 use Rattle.cob_interp.specs.Touching.{makes_by}
 use Rattle.cob_interp.proofs.CallLemmas.{is_open, is_close}

@@ -1,4 +1,5 @@
-use Rattle.cob_interp.specs.Running.{outside, IsAt}
+use Rattle.cob_interp.specs.Runs.{outside}
+use Rattle.cob_interp.specs.Running.{IsAt}
 use Rattle.cob_interp.specs.Setting.{program_of, paths_of}
 use Rattle.std.proofs.Common.{◌≡◌, ℕ, arith, sym, subst, ◌∙◌}
 use Rattle.cob_interp.proofs.FitLemmas.{below_last}

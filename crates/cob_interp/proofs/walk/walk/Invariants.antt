@@ -1,6 +1,7 @@
 use Rattle.std.proofs.Common.{◌≡◌}
 use Rattle.cob_interp.specs.Tracking.{AreOpen, ArePlaced, Tracks}
-use Rattle.cob_interp.specs.Running.{Outside, outside, IsAt}
+use Rattle.cob_interp.specs.Runs.{Outside, outside}
+use Rattle.cob_interp.specs.Running.{IsAt}
 use Rattle.cob_plan.specs.Stepping.{IsRest}
 use Rattle.cob_interp.specs.Setting.{program_of, paths_of}
 use Rattle.cob_interp.proofs.walk.walk.Given as goal
