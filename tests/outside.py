@@ -92,9 +92,10 @@ def started_by_shell(command, folder, redirection):
 
 
 def launched_by_shell(command, folder, redirection):
-    """By the launcher, which itself puts something in the place of each standard stream that is closed."""
+    """By the launcher, which itself puts something in the place of each standard stream that is closed. It is told the
+    program, not itself."""
     words = ["sh", "-c", f'exec "$0" "$@" {redirection}', ROOT / "cobsound", *command[1:]]
-    env = {**os.environ, "COBSOUND_PROGRAM": str(command[0])}
+    env = {**os.environ, "COBSOUND_PROGRAM": str(program_path())}
     return ended(subprocess.Popen(words, cwd=folder, stdout=subprocess.PIPE, env=env))
 
 
