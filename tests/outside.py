@@ -266,8 +266,9 @@ def launched():
     left = {"S": SAMPLE, "LINK": SAMPLE, "HARD": SAMPLE, "D": None}
     for name in ("S", "./S", "D/../S", "LINK", "HARD"):
         yield Outer("the launcher", ["analyse", "S", name], {"S": SAMPLE}, 64, "", left, ready=make)
-    for words in (["analyse", "--", "S", "S"], ["analyse", "S", "--", "S"], ["--", "analyse", "S", "S"]):
+    for words in (["analyse", "--", "S", "S"], ["analyse", "S", "--", "S"]):
         yield Outer("the launcher", words, {"S": SAMPLE}, 64, "", left, ready=make)
+    yield Outer("the launcher", ["--", "analyse", "S", "S"], {"S": SAMPLE}, 4, "E1 usage --\n", left, ready=make)
 
 
 def checks():
