@@ -92,9 +92,10 @@ def started_by_shell(command, folder, redirection):
 
 
 def launched_by_shell(command, folder, redirection):
-    """By the launcher, which itself puts something in the place of each standard stream that is closed."""
+    """By the launcher, which itself puts something in the place of each standard stream that is closed. It is told the
+    program, not itself."""
     words = ["sh", "-c", f'exec "$0" "$@" {redirection}', ROOT / "cobsound", *command[1:]]
-    env = {**os.environ, "COBSOUND_PROGRAM": str(command[0])}
+    env = {**os.environ, "COBSOUND_PROGRAM": str(program_path())}
     return ended(subprocess.Popen(words, cwd=folder, stdout=subprocess.PIPE, env=env))
 
 
@@ -265,6 +266,9 @@ def launched():
     left = {"S": SAMPLE, "LINK": SAMPLE, "HARD": SAMPLE, "D": None}
     for name in ("S", "./S", "D/../S", "LINK", "HARD"):
         yield Outer("the launcher", ["analyse", "S", name], {"S": SAMPLE}, 64, "", left, ready=make)
+    for words in (["analyse", "--", "S", "S"], ["analyse", "S", "--", "S"]):
+        yield Outer("the launcher", words, {"S": SAMPLE}, 64, "", left, ready=make)
+    yield Outer("the launcher", ["--", "analyse", "S", "S"], {"S": SAMPLE}, 4, "E1 usage --\n", left, ready=make)
 
 
 def checks():

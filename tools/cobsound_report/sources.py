@@ -25,10 +25,15 @@ def sources_of(path: str) -> Iterator[str]:
         yield path
         return
     names = sorted(os.path.join(folder, name) for folder, _, files in os.walk(path, onerror=stop) for name in files)
-    sources = [name for name in names if name.lower().endswith(ENDINGS)]
+    sources = [name for name in names if name.lower().endswith(ENDINGS) and is_readable_to_its_end(name)]
     if not sources:
         raise OSError(f"{path}: no file below it ends in {' or '.join(ENDINGS)}")
     yield from sources
+
+
+def is_readable_to_its_end(name: str) -> bool:
+    """Whether it is a regular file, or leads nowhere, which is told. A pipe or a device may never end."""
+    return os.path.isfile(name) or not os.path.exists(name)
 
 
 def stop(error: OSError) -> None:
