@@ -223,6 +223,12 @@ fn ending_of<F: Files, O: Sink>(
     }
 }
 
+/// Memory ran out before the first step.
+const WANT_OF_MEMORY: Ending = Ending {
+    end: Err(RunEnd::Memory),
+    sink_refused: false,
+};
+
 /// Runs a program as `run_to_ending` does. What is said of files that are never made follows there.
 fn run_through<F: Files, O: Sink>(
     alloc: Global,
@@ -247,22 +253,13 @@ fn run_through<F: Files, O: Sink>(
 {
     ways_tell_of_runs();
     let Ok(plan) = Plan::of(alloc, program, graph) else {
-        return Ending {
-            end: Err(RunEnd::Memory),
-            sink_refused: false,
-        };
+        return WANT_OF_MEMORY;
     };
     let Ok(mut world) = World::first(alloc, program, Vec::new(alloc)) else {
-        return Ending {
-            end: Err(RunEnd::Memory),
-            sink_refused: false,
-        };
+        return WANT_OF_MEMORY;
     };
     let Ok(mut handles) = Handles::none(alloc, paths.len()) else {
-        return Ending {
-            end: Err(RunEnd::Memory),
-            sink_refused: false,
-        };
+        return WANT_OF_MEMORY;
     };
     let setting = Setting {
         program,
