@@ -1,5 +1,5 @@
 -- A verb in two parts: what is judged before its lists of statements, and these lists.
-use Rattle.std.specs.Prelude.{ℕ, map, Option, None, Some}
+use Rattle.std.specs.Prelude.{ℕ, map, Option}
 use Rattle.std.specs.Option.{option_copied}
 use Rattle.cob_tree.specs.Stmt as tree
 use Rattle.cob_tree.specs.StmtView as tree_view

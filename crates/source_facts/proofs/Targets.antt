@@ -1,5 +1,5 @@
 -- Each GO TO of a source's program goes to a paragraph of it.
-use Rattle.std.proofs.Common.{◌≡◌, ℕ, ◌+◌, ◌<◌, ◌≤◌, zero, suc, Bool, true, false, List, [], ◌∷◌, ◌++◌, length, map, append_assoc, Option, Some, None, refl, sym, ap, ◌∙◌, subst, arith}
+use Rattle.std.proofs.Common.{◌≡◌, ℕ, ◌+◌, ◌<◌, ◌≤◌, zero, suc, Bool, true, false, List, [], ◌∷◌, ◌++◌, length, append_assoc, Option, Some, None, refl, sym, ap, ◌∙◌, subst, arith}
 use Rattle.std.proofs.lemmas.List.{length-map}
 use Rattle.std.specs.Prelude.{Contains, slice_get}
 use Rattle.std.specs.List.{AllByRecursion}
@@ -7,9 +7,9 @@ use Rattle.std.specs.Str.{bytes_eq}
 use Rattle.cob_tree.specs.Stmt as tree
 use Rattle.cob_data.specs.declared.layout.Flag.{Flag}
 use Rattle.cob_data.specs.declared.layout.Layout.{Layout}
-use Rattle.cob_program.specs.Act.{Stmt, MkStmt, Stmts, no_stmts, more_stmts, Phrase, left_out, given, Act, perform, go, range, inline, Para, Program}
+use Rattle.cob_program.specs.Act.{Stmt, MkStmt, Stmts, no_stmts, more_stmts, Phrase, left_out, given, Act, perform, go, range, inline, Para}
 use Rattle.cob_program.specs.Statements.{list_statements, phrase_statements, with_inner_statements, inner_statements, whens_statements, para_statements}
-use Rattle.cob_graph.specs.Nesting.{Jump, found_act, found_at, found, found_among, found_all}
+use Rattle.cob_graph.specs.Nesting.{Jump, found_act, found, found_among, found_all}
 use Rattle.cob_graph_build.specs.MainCopies.{HasTargets}
 use Rattle.cob_typed_exprs.specs.Judged.{Judged}
 use Rattle.cob_typed_exprs.specs.Scope.{Scope, place_if, found_in, paras_from, exactly_one, the_para}
