@@ -20,7 +20,7 @@ number_of p home = number_in home (homes_of p)
 
 -- ---- how the code goes
 
--- the same for a list whose places begin with a number
+-- the first place of a home in a list whose places begin with a number
 abbrev pub place_from : ℕ → Home → List Home → Option ℕ
 place_from n home [] = None
 place_from n home (h ∷ hs) = if is_home h home then Some n else place_from (n + 1) home hs

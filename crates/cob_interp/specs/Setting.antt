@@ -61,7 +61,7 @@ pub record FitsPlace (s : Setting) (node : ℕ) (x : Place) : Type 0 where
 abbrev pub LeadsOn : Setting → ℕ → ℕ → Result ℕ RunEnd → Type 0
 LeadsOn s from statement result = IfOk result (λ next. stepping.LeadsOn s.plan.nodes.items statement (suc from) next)
 
--- or one to which an operation leads
+-- the node that is answered is one to which an operation leads
 abbrev pub LeadsBy : Setting → Op → Result ℕ RunEnd → Type 0
 LeadsBy s o result =
     (from statement : ℕ) → OpLeadsOn s.plan.nodes.items from statement o → LeadsOn s from statement result

@@ -52,7 +52,7 @@ scale None count = 0
 scale (Some k) count = min (count - k - 1) 18
 
 abbrev pub number : List ℕ → List Mark → Num
-number zeros front = record { sign = sign front; digits = zeros; scale = scale (point front) (length front) }
+number spelled front = record { sign = sign front; digits = spelled; scale = scale (point front) (length front) }
 
 -- what a token of this shape is, from its characters
 abbrev pub tok_of : Shape → List Mark → Tok

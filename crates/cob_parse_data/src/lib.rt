@@ -13,7 +13,7 @@ mod parse;
 mod select;
 mod word;
 
-pub use front::{before_procedure_in, front_in};
+pub use front::front_in;
 pub use head::{ClauseHead, FdHead, SelectHead};
 pub use laws::{
     one_front, one_reading, one_stop, read_or_stopped, same_but_for_lines, takes_is_going_on,

@@ -1,5 +1,4 @@
 //! Why a statement doesn't go on.
-use cob_store::MoveEnd;
 use cob_tree::Kind;
 use std::alloc::AllocError;
 

@@ -2,7 +2,8 @@
 //! operands").
 ghost use Rattle.std.specs.Prelude.{◌≡◌};
 ghost use Rattle.std.specs.List.{list_all};
-ghost use Rattle.cob_typed_exprs.specs.Kinds.{is_amount, is_group, is_digit, may_move_item, may_move, is_number_form, is_number, is_whole_form, is_whole, is_testable, is_shown, side_of_form, side_of, beside_text, comparison};
+ghost use Rattle.cob_tree.specs.Forms.{is_number_form};
+ghost use Rattle.cob_typed_exprs.specs.Kinds.{is_amount, is_group, is_digit, may_move_item, may_move, is_number, is_whole_form, is_whole, is_testable, is_shown, side_of_form, side_of, beside_text, comparison};
 
 use crate::scope::Scope;
 use cob_data::Sender;

@@ -6,7 +6,7 @@ use super::known::Known;
 use dec_num::Mode;
 use decimal_interval::Interval;
 
-// in either direction
+// the error of a store that may go either way
 fn two_sided(unit: i128) -> Interval
     requires { pos 0 ≤ℤ unit }
     ensures { result ≡ one_sided_error Mode.Round false false unit }
@@ -17,7 +17,7 @@ fn two_sided(unit: i128) -> Interval
     }
 }
 
-// of a value of which something may be cut off
+// the error of a store that may cut something off the value
 fn one_sided(mode: Mode, not_negative: bool, not_positive: bool, unit: i128) -> Interval
     requires { pos 0 ≤ℤ unit }
     ensures { result ≡ one_sided_error mode not_negative not_positive unit }
