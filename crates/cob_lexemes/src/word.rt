@@ -13,7 +13,7 @@ use cob_tree::Keyword;
 fn same_key(first: Keyword, second: Keyword) -> bool
     ensures { result ≡ same_key first second }
 {
-    first.text() == second.text()
+    first == second
 }
 
 /// Whether a symbol is a reserved word.
