@@ -6,8 +6,8 @@ use Rattle.batch_io.specs.Faults.{Rose}
 use Rattle.batch_io.specs.FilesState.{Contents, KeepsIds, known_bytes}
 use Rattle.cob_tree.specs.declared.fault.Kind.{Kind}
 use Rattle.cob_tree.specs.declared.fault.Open.{Open}
-use Rattle.cob_meaning.specs.declared.straight.Outcome.TheVariants.{Fault}
 use Rattle.cob_program.specs.Act.{Program}
+use Rattle.cob_runs.specs.declared.outcome.Outcome.TheVariants.{Fault}
 use Rattle.cob_runs.specs.Files.{Choice}
 use Rattle.cob_runs.specs.Runs.{IsFaultless, run}
 use Rattle.cob_runs.specs.Runs as runs
