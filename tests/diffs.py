@@ -1,5 +1,5 @@
 """What edges of a program's control graph make of differences of cells in packs, beside what is known of the cells, and
-which faults both show not to be met, answered by the program diff_driver for random rows and matrices. What must come
+which faults both show not to be met, answered by the program layer_driver for random rows and matrices. What must come
 is worked out by `differences`, from what each part of an edge does. Of two cases of which one knows at least as much as
 the other, its answer does too.
 
@@ -17,7 +17,7 @@ from tests.edges import KINDS, answers, met_with_own, random_cell, random_number
 from tests.graphs import shown
 from tests.intervals import Range
 
-PROGRAMS = ("edge_driver", "diff_driver")
+PROGRAMS = ("layer_driver",)
 
 # ---- packs
 
@@ -204,9 +204,9 @@ def wrong_among(pairs, came):
 
 def told(name, source):
     """What is wrong with the answers for a source."""
-    given = shown(answers("edge_driver", source, ["show"]))
+    given = shown(answers(source, ["show"]))
     pairs = pairs_of(name, given)
-    came = answers("diff_driver", source, [line for pair in pairs for line, _ in pair])
+    came = answers(source, [line for pair in pairs for line, _ in pair])
     wrong = list(wrong_among(pairs, came))
     return f"{name}: {len(wrong)} wrong, the first: {wrong[0]}" if wrong else None
 

@@ -1,6 +1,6 @@
 """What edges of a program's control graph make of what is known of its cells, and which faults that shows not to be
-met, answered by the program edge_driver for random rows. What must come is worked out by `steps`, from what each part
-of an edge does, in exact numbers."""
+met, answered by the program layer_driver for random rows. What must come is worked out by `steps`, from what each part
+of an edge does, in exact numbers; that of edges_by_rule.jsonl by hand."""
 
 import json
 import pathlib
@@ -11,9 +11,10 @@ import tempfile
 from tests.built import CASES, program
 from tests.graphs import shown
 from tests.intervals import Range, hull, met
+from tests.reference import cases_of
 from tests.steps import clears, post
 
-PROGRAMS = ("edge_driver",)
+PROGRAMS = ("layer_driver",)
 
 KINDS = ("SIZE", "TRUNCATION", "ZERO", "CLASS")
 
@@ -71,7 +72,7 @@ def edge_cases(chance, given):
         for _ in range(ROWS_OF_EDGE if edge.parts else 1):
             row = random_row(chance, given)
             cells = met_with_own(given, row)
-            yield f"post {number} {words_of(row)}", words_of(cells and post(given, edge, cells))
+            yield f"post {number} | {words_of(row)}", words_of(cells and post(given, edge, cells))
 
 
 def node_cases(chance, given):
@@ -81,25 +82,25 @@ def node_cases(chance, given):
             cells = met_with_own(given, row)
             for kind in KINDS:
                 told = cells is None or clears(given, node, kind, cells)
-                yield f"clears {node} {kind} {words_of(row)}", str(told).lower()
+                yield f"clears {node} {kind} | {words_of(row)}", str(told).lower()
 
 
-def answers(crate, source, lines):
-    """A driver's answers."""
+def answers(source, lines):
+    """The driver's answers."""
     with tempfile.TemporaryDirectory() as folder:
         path = pathlib.Path(folder, "S")
         path.write_text(source, "latin-1")
         given = "".join(f"{line}\n" for line in lines).encode()
-        done = subprocess.run([program(crate), path], input=given, capture_output=True)
+        done = subprocess.run([program("layer_driver"), path], input=given, capture_output=True)
     return done.stdout.decode().split("\n")[:-1]
 
 
 def told(name, source):
     """What is wrong with the answers for a source."""
-    given = shown(answers("edge_driver", source, ["show"]))
+    given = shown(answers(source, ["show"]))
     chance = random.Random(name)
     cases = [*edge_cases(chance, given), *node_cases(chance, given)]
-    came = answers("edge_driver", source, [line for line, _ in cases])
+    came = answers(source, [line for line, _ in cases])
     pairs = [(line, wanted, answer) for (line, wanted), answer in zip(cases, came) if answer != wanted]
     wrong = [f"{answer!r} in place of {wanted!r} to {line}" for line, wanted, answer in pairs]
     if not cases or len(came) != len(cases):
@@ -107,7 +108,14 @@ def told(name, source):
     return f"{name}: {len(wrong)} wrong, the first: {wrong[0]}" if wrong else None
 
 
+def told_by_rule(name, case):
+    came = answers(case["source"], case["lines"])
+    return None if came == case["answers"] else f"{name}: {came} in place of {case['answers']}"
+
+
 def checks():
+    for name, case in cases_of("edges_by_rule.jsonl"):
+        yield lambda given=(name, case): told_by_rule(*given)
     for number, line in enumerate((CASES / "edges.jsonl").open(), 1):
         source = json.loads(line)["source"]
         yield lambda given=(f"edges.jsonl {number}", source): told(*given)

@@ -1,4 +1,4 @@
-"""Programs and their control graphs, as edge_driver shows them."""
+"""Programs and their control graphs, as layer_driver shows them."""
 
 import dataclasses
 

@@ -1,6 +1,7 @@
-"""Difference-bound matrices and linear forms, answered by the program matrix_driver. What must come is worked out here:
-closures by the least sums over all paths, bounds of forms by trying all their groupings, and what assignments and demands
-leave by those bounds. Values that stand in a matrix must stand in what is left of it."""
+"""Difference-bound matrices, linear forms, ranges and classes, answered by the program matrix_driver. What must come is
+worked out here: closures by the least sums over all paths, bounds of forms by trying all their groupings, what assignments
+and demands leave by those bounds, and the ends of differences by all differences of ends. Values that stand in a matrix
+must stand in what is left of it. The crate's own lines have what was worked out by hand."""
 
 import itertools
 import random
@@ -251,9 +252,24 @@ def small_forms(chance):
         yield case("scale", [by, *a], multiple(a, by))
 
 
+def differences(chance):
+    """Of small and great ranges, whose ends have 18 digits at most."""
+    for most in (3, 20, 10**18 - 1):
+        for _ in range(40):
+            a, b = (sorted(chance.randint(-most, most) for _ in range(2)) for _ in range(2))
+            ends = [x - y for x, y in itertools.product(a, b)]
+            yield case("difference", a + b, [min(ends), max(ends)])
+
+
+def classes(chance):
+    """Numeric is only what both know to be."""
+    for a, b in itertools.product(("unknown", "numeric"), repeat=2):
+        yield f"class {a} {b}", "numeric" if a == b == "numeric" else "unknown"
+
+
 def cases():
     chance = random.Random(2001)
-    kinds = (closings, great_closings, storages, great_forms, small_forms)
+    kinds = (closings, great_closings, storages, great_forms, small_forms, differences, classes)
     return [line for kind in kinds for line in kind(chance)]
 
 

@@ -9,11 +9,11 @@ use Rattle.cert_text.specs.View.{Certificate}
 use Rattle.cob_program.specs.ActView.{plain_program}
 use Rattle.cob_interp.proofs.Passing.{ids_pass}
 use Rattle.command_words.specs.Commands.{IsCommand, analyse}
-use Rattle.check_command.specs.Types.Stop.{Stop}
-use Rattle.check_command.specs.Types.Stop.TheVariants.{Memory}
-use Rattle.check_command.specs.Types.Laid.{Laid}
-use Rattle.check_command.specs.Shared.Call.{call}
-use Rattle.check_command.specs.Shared.Steps.{Reads, HoldsLaid}
+use Rattle.command_answers.specs.declared.answer.Stop.{Stop}
+use Rattle.command_answers.specs.declared.answer.Stop.TheVariants.{Memory}
+use Rattle.command_answers.specs.declared.source.Laid.{Laid}
+use Rattle.command_answers.specs.Call.{call}
+use Rattle.command_answers.specs.Steps.{Reads, HoldsLaid}
 use Rattle.analyse_command.specs.declared.findings.Findings.{Findings}
 use Rattle.analyse_command.specs.Analysis.{Analysis, analysis, text_of}
 use Rattle.analyse_command.specs.Endings.{EndsByAnalysis, EndsWithAnalysis, FailsToWrite, IsTooLong, LeavesFront, TellsAnalysis, TellsUnwritten}

@@ -8,15 +8,15 @@ use Rattle.cob_program.specs.ActView.{plain_program}
 use Rattle.cob_front.specs.declared.refusal.Refusal.{Refusal}
 use Rattle.cob_front.specs.declared.refusal.Refusal.TheVariants as end
 use Rattle.command_words.specs.Commands.{IsCommand, trial}
-use Rattle.check_command.specs.Types.Answer as code
-use Rattle.check_command.specs.Types.Stop.{Stop}
-use Rattle.check_command.specs.Types.Stop.TheVariants as stop
-use Rattle.check_command.specs.Types.Laid.{Laid}
-use Rattle.check_command.specs.Shared.Call.{call}
-use Rattle.check_command.specs.Shared.Profile.{IsProfileCause}
-use Rattle.check_command.specs.Shared.Steps.{IsLaid, answer_to}
-use Rattle.check_command.specs.Shared.View.{plain_answer, plain_result}
-use Rattle.check_command.proofs.Shared.Refusals.{answered, no_fault, not_memory}
+use Rattle.command_answers.specs.declared.answer.Answer as code
+use Rattle.command_answers.specs.declared.answer.Stop.{Stop}
+use Rattle.command_answers.specs.declared.answer.Stop.TheVariants as stop
+use Rattle.command_answers.specs.declared.source.Laid.{Laid}
+use Rattle.command_answers.specs.Call.{call}
+use Rattle.command_answers.specs.Profile.{IsProfileCause}
+use Rattle.command_answers.specs.Steps.{IsLaid, answer_to}
+use Rattle.command_answers.specs.View.{plain_answer, plain_result}
+use Rattle.command_answers.proofs.Refusals.{answered, no_fault, not_memory}
 use Rattle.analyse_command.specs.declared.findings.Findings.{Findings}
 use Rattle.analyse_command.specs.Analysis.{Analysis, analysis}
 use Rattle.analyse_command.specs.Endings.{EndsWithAnalysis}

@@ -9,13 +9,13 @@ use Rattle.cob_graph.specs.declared.graph.Graph.{Graph}
 use Rattle.cert_text.specs.View.{Certificate}
 use Rattle.cert_text.specs.Allowed.{IsAllowed}
 use Rattle.cert_text.specs.Text.{spelling}
-use Rattle.check_command.specs.Shared.Checker.Claims.{open_pairs}
-use Rattle.check_command.specs.Shared.Checker.Checking.{Accepts}
-use Rattle.alarm_report.specs.Alarms.{alarms_of}
+use Rattle.command_answers.specs.Checker.Claims.{open_pairs}
+use Rattle.command_answers.specs.Checker.Checking.{Accepts}
+use Rattle.command_answers.specs.Alarms.{alarms_of}
 use Rattle.analyse_core.specs.Assignments.{IsPackAssignment, IsThresholdAssignment, MissesNothing, MissesNothingTogether, is_cleared_by_both, is_cleared_in}
 use Rattle.analyse_core.specs.Choice.{packs_of}
-use Rattle.check_command.specs.Shared.Profile.{IsProgramOf}
-use Rattle.check_command.specs.Shared.Answer.{Answer, Report}
+use Rattle.command_answers.specs.Profile.{IsProgramOf}
+use Rattle.command_answers.specs.Answer.{Answer, Report}
 
 -- a program with its graph, and a certificate for it
 pub record Analysis : Type 0 where

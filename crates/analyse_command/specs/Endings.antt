@@ -6,11 +6,11 @@ use Rattle.batch_io.specs.FilesState.{KeepsIds, known_bytes}
 use Rattle.batch_io.specs.Wholes.{Holds}
 use Rattle.command_words.specs.Commands.{IsCommand}
 use Rattle.command_words.specs.Commands as command
-use Rattle.check_command.specs.Shared.Text.{memory_line, write_fault_line}
-use Rattle.check_command.specs.Shared.Showing.{ShowsIfMemory, ShowsRefusal}
-use Rattle.check_command.specs.Shared.Answer.{CertificateLong, answer_text, status_of}
-use Rattle.check_command.specs.Shared.Call.{Call}
-use Rattle.check_command.specs.Answers.{certificate_limit}
+use Rattle.command_answers.specs.Text.{memory_line, write_fault_line}
+use Rattle.command_answers.specs.Showing.{ShowsIfMemory, ShowsRefusal}
+use Rattle.command_answers.specs.Answer.{CertificateLong, answer_text, status_of}
+use Rattle.command_answers.specs.Call.{Call}
+use Rattle.command_answers.specs.CheckAnswers.{certificate_limit}
 use Rattle.analyse_command.specs.Analysis.{Analysis, IsAnalysisOf, report_of, text_of}
 
 -- The file holds the certificate's text, and heading and report are shown, or a front of them.

@@ -4,7 +4,4 @@ pub mod Steps
 pub mod Trial
 pub mod TrialEndings
 pub mod TrialSteps
-pub use Rattle.check_command.specs.Answers
-pub use Rattle.check_command.specs.Shared
-pub use Rattle.check_command.specs.Types
 pub use Rattle.analyse_core.specs.Choice

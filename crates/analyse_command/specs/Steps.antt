@@ -3,8 +3,8 @@ use Rattle.std.specs.Prelude.{◌≡◌, ◌++◌, ℕ, List, [], Option}
 use Rattle.batch_io.specs.FilesState.{Contents}
 use Rattle.cob_program.specs.ActView.{plain_program}
 use Rattle.cert_text.specs.View.{Certificate}
-use Rattle.check_command.specs.Types.Laid.{Laid}
-use Rattle.check_command.specs.Shared.Answer.{answer_text, status_of}
+use Rattle.command_answers.specs.declared.source.Laid.{Laid}
+use Rattle.command_answers.specs.Answer.{answer_text, status_of}
 use Rattle.analyse_command.specs.declared.findings.Findings.{Findings}
 use Rattle.analyse_command.specs.Analysis.{Analysis, IsFound, analysis, report_of, text_of, IsAnalysisOf}
 

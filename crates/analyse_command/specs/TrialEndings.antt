@@ -1,12 +1,12 @@
 -- How a call of `trial` ends.
 use Rattle.std.specs.Prelude.{◌≡◌, ℕ, List, ◌++◌, codes, decimal, length}
 use Rattle.batch_io.specs.FilesState.{KeepsIds}
-use Rattle.alarm_report.specs.Text.{line_end}
+use Rattle.command_answers.specs.ReportText.{line_end}
 use Rattle.command_words.specs.Commands.{IsCommand}
 use Rattle.command_words.specs.Commands as command
-use Rattle.check_command.specs.Shared.Profile.{IsProgramOf, IsProfileCause}
-use Rattle.check_command.specs.Shared.Answer.{Answer, Refused}
-use Rattle.check_command.specs.Shared.Call.{Call}
+use Rattle.command_answers.specs.Profile.{IsProgramOf, IsProfileCause}
+use Rattle.command_answers.specs.Answer.{Answer, Refused}
+use Rattle.command_answers.specs.Call.{Call}
 use Rattle.analyse_command.specs.Analysis.{Analysis, IsFound}
 use Rattle.analyse_command.specs.Endings.{EndsWithAnalysis}
 use Rattle.analyse_command.specs.Trial.{trial_text}

@@ -2,7 +2,7 @@
 use Rattle.std.specs.Prelude.{ℕ, length}
 use Rattle.cob_program.specs.ActView.{plain_program}
 use Rattle.cert_text.specs.View.{Certificate}
-use Rattle.check_command.specs.Types.Laid.{Laid}
+use Rattle.command_answers.specs.declared.source.Laid.{Laid}
 use Rattle.analyse_command.specs.declared.findings.Findings.{Findings}
 use Rattle.analyse_command.specs.Analysis.{Analysis, analysis}
 use Rattle.analyse_command.specs.Steps.{IsFinding}

@@ -3,10 +3,10 @@ ghost use Rattle.std.specs.Prelude.{◌≡◌, ◌<◌, List, [], ℕ, false, Ma
 ghost use Rattle.batch_io.specs.FilesState.{KeepsIds, known_bytes};
 ghost use Rattle.cert_text.specs.View.{view};
 ghost use Rattle.cob_program.specs.ActView.{plain_program};
-ghost use Rattle.check_command.specs.Shared.Call.{call};
-ghost use Rattle.check_command.specs.Shared.Steps.{IsOfSource, Reads, refused_by_fault};
-ghost use Rattle.check_command.specs.Shared.Answer.{AnswersSource, is_usage};
-ghost use Rattle.check_command.specs.Shared.View.{plain_answer};
+ghost use Rattle.command_answers.specs.Call.{call};
+ghost use Rattle.command_answers.specs.Steps.{IsOfSource, Reads, refused_by_fault};
+ghost use Rattle.command_answers.specs.Answer.{AnswersSource, is_usage};
+ghost use Rattle.command_answers.specs.View.{plain_answer};
 ghost use Rattle.analyse_command.specs.Analysis.{Analysis, IsFound, analysis};
 ghost use Rattle.analyse_command.specs.Endings.{EndsWithAnalysis};
 ghost use Rattle.analyse_command.specs.Steps.{IsFinding, IsFindingFor, IsFindingOf};
@@ -14,11 +14,10 @@ ghost use Rattle.analyse_command.specs.Steps.{IsFinding, IsFindingFor, IsFinding
 use analyse_core::analyse as analyse_program;
 use batch_io::{Files, MakeEnd, Sink, put_file};
 use cert_text::{Cert, print};
-use check_command::answers::{
-    Answer, CERTIFICATE_REFUSED, Laid, OUT_OF_MEMORY, Stop, WRITE_FAULT, answer_text, read_source,
-    show_line, show_text, status_of,
+use command_answers::{
+    Answer, CERTIFICATE_LIMIT, CERTIFICATE_REFUSED, Laid, OUT_OF_MEMORY, Stop, WRITE_FAULT,
+    answer_text, check_certificate, read_source, show_line, show_text, status_of,
 };
-use check_command::{CERTIFICATE_LIMIT, check_certificate};
 use dom_laws::Steps;
 use source_facts::sources_have_source_graphs;
 use std::alloc::Global;

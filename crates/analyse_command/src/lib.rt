@@ -8,9 +8,5 @@ mod findings;
 mod source;
 mod trial;
 
-pub use check_command::{answers as answers, check};
 pub use findings::{Findings, findings_for, found_for, tell};
 pub use trial::{TRIAL_NAME, trial_findings};
-
-#[cfg(test)]
-mod tests;

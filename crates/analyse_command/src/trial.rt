@@ -2,15 +2,14 @@
 //! `analyse`, behind a line with the number of nodes.
 
 ghost use Rattle.std.specs.Prelude.{◌≡◌, ◌++◌, IfErr, IfOk, MatchResult};
-ghost use Rattle.check_command.specs.Shared.Steps.{IsOfSource};
-ghost use Rattle.check_command.specs.Shared.View.{plain_answer};
+ghost use Rattle.command_answers.specs.Steps.{IsOfSource};
+ghost use Rattle.command_answers.specs.View.{plain_answer};
 ghost use Rattle.analyse_command.specs.TrialEndings.{AnswersTrial, nodes_line};
 ghost use Rattle.analyse_command.specs.TrialSteps.{IsNumberedFinding, IsTrialFinding};
 
 use crate::findings::{Findings, found_for};
 use crate::source::trial_source;
-use alarm_report::push_number;
-use check_command::answers::{Answer, Laid, Stop, answer_to, laid_in};
+use command_answers::{Answer, Laid, Stop, answer_to, laid_in, push_number};
 use std::alloc::{AllocError, Global};
 
 /// The name of the file that a trial writes.

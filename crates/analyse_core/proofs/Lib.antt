@@ -16,3 +16,4 @@ pub mod PacksGiven
 pub mod SolvedRows
 mod SameCertificates
 mod SamePackLists
+pub mod ActCuts

@@ -17,18 +17,18 @@ use Rattle.cert_text.specs.Text.{spelling}
 use Rattle.cert_text.specs.View.{Certificate}
 use Rattle.cob_front.specs.Laws.{OneAnswer}
 use Rattle.cob_interp.proofs.SeenFiles.{insert_agrees, insert_gets}
-use Rattle.alarm_report.specs.declared.alarms.Alarm.{Alarm}
-use Rattle.alarm_report.specs.Alarms.{alarms_of}
+use Rattle.command_answers.specs.declared.alarms.Alarm.{Alarm}
+use Rattle.command_answers.specs.Alarms.{alarms_of}
 use Rattle.command_words.specs.Commands.{Command, IsCommand, OneReading, analyse, trial}
-use Rattle.analyse_command.specs.Shared.Text.{memory_line, write_fault_line}
-use Rattle.analyse_command.specs.Shared.Profile.{IsProgramOf}
-use Rattle.analyse_command.specs.Shared.Answer.{Answer, Report, CertificateLong, answer_text, status_of}
-use Rattle.analyse_command.specs.Shared.Showing.{Gains, ShowsRefusal}
-use Rattle.analyse_command.specs.Shared.Call.{Call}
-use Rattle.analyse_command.proofs.Shared.Statuses.{above_one, low_status, never_low}
-use Rattle.analyse_command.proofs.Shared.Limits.{within_limits}
-use Rattle.analyse_command.proofs.Shared.Sources.{Ending, read, one_ending}
-use Rattle.analyse_command.specs.Answers.{certificate_limit, HoldsCertificate}
+use Rattle.command_answers.specs.Text.{memory_line, write_fault_line}
+use Rattle.command_answers.specs.Profile.{IsProgramOf}
+use Rattle.command_answers.specs.Answer.{Answer, Report, CertificateLong, answer_text, status_of}
+use Rattle.command_answers.specs.Showing.{Gains, ShowsRefusal}
+use Rattle.command_answers.specs.Call.{Call}
+use Rattle.command_answers.proofs.Statuses.{above_one, low_status, never_low}
+use Rattle.command_answers.proofs.Limits.{within_limits}
+use Rattle.command_answers.proofs.Sources.{Ending, read, one_ending}
+use Rattle.command_answers.specs.CheckAnswers.{certificate_limit, HoldsCertificate}
 use Rattle.analyse_command.specs.Analysis.{Analysis, CanBeClean, IsAnalysisOf, IsFound, pairs_of, report_of, text_of}
 use Rattle.analyse_command.specs.Endings.{EndsByAnalysis, EndsWithAnalysis, IsTooLong, TellsAnalysis, TellsUnwritten}
 use Rattle.analyse_command.specs.Trial.{trial_text}

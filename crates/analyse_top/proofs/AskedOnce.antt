@@ -9,10 +9,10 @@ use Rattle.cob_graph.specs.Graphs.{OneGraph}
 use Rattle.cob_front.specs.Laws.{OneAnswer}
 use Rattle.command_words.specs.Commands.{Command, Run, IsCommand, OneReading}
 use Rattle.command_words.specs.Commands as command
-use Rattle.analyse_command.specs.Shared.Profile.{IsProgramOf, IsProfileCause}
-use Rattle.analyse_command.specs.Shared.Answer.{Answer, Usage, Absent, Refused, CertificateLong, CertificateBad, CertificateMisfit, NotInductive, Report, AnswersSource, HoldsProgram}
-use Rattle.analyse_command.proofs.Shared.Found.{held_bytes}
-use Rattle.analyse_command.proofs.Shared.Sources.{no_cause}
+use Rattle.command_answers.specs.Profile.{IsProgramOf, IsProfileCause}
+use Rattle.command_answers.specs.Answer.{Answer, Usage, Absent, Refused, CertificateLong, CertificateBad, CertificateMisfit, NotInductive, Report, AnswersSource, HoldsProgram}
+use Rattle.command_answers.proofs.Found.{held_bytes}
+use Rattle.command_answers.proofs.Sources.{no_cause}
 use Rattle.analyse_command.specs.Trial.{trial_text}
 use Rattle.analyse_command.specs.TrialEndings.{AnswersTrial}
 use Rattle.run_command.specs.Runs.{Task, HoldsTask, AsksFor}

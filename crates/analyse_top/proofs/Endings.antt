@@ -9,15 +9,15 @@ use Rattle.batch_io.specs.FilesState.{Contents, FilesState, known_bytes}
 use Rattle.batch_io.specs.SinkState.{SinkState}
 use Rattle.cob_interp.proofs.Passing.{ids_stay}
 use Rattle.command_words.specs.Commands.{Command, IsCommand}
-use Rattle.analyse_command.specs.Types.Stop.{Stop}
-use Rattle.analyse_command.specs.Types.Stop.TheVariants as stop
-use Rattle.analyse_command.specs.Types.Answer as code
-use Rattle.analyse_command.specs.Shared.Answer.{Answer, answer_text}
-use Rattle.analyse_command.specs.Shared.Text.{memory_line, read_fault_line}
-use Rattle.analyse_command.specs.Shared.Showing.{Gains, GainsFront, ShowsRefusal}
-use Rattle.analyse_command.specs.Shared.Call.{Call}
-use Rattle.analyse_command.specs.Shared.Steps.{Reads, stopped_by_fault, ShowsAnswer, ShowsFound}
-use Rattle.analyse_command.specs.Shared.View.{plain_answer, plain_result}
+use Rattle.command_answers.specs.declared.answer.Stop.{Stop}
+use Rattle.command_answers.specs.declared.answer.Stop.TheVariants as stop
+use Rattle.command_answers.specs.declared.answer.Answer as code
+use Rattle.command_answers.specs.Answer.{Answer, answer_text}
+use Rattle.command_answers.specs.Text.{memory_line, read_fault_line}
+use Rattle.command_answers.specs.Showing.{Gains, GainsFront, ShowsRefusal}
+use Rattle.command_answers.specs.Call.{Call}
+use Rattle.command_answers.specs.Steps.{Reads, stopped_by_fault, ShowsAnswer, ShowsFound}
+use Rattle.command_answers.specs.View.{plain_answer, plain_result}
 use Rattle.analyse_command.specs.TrialEndings.{AnswersTrial}
 use Rattle.analyse_top.specs.Answers.{Answers, AnswersCommand, IfKnown}
 use Rattle.analyse_top.specs.Conclusion.{EndsBy, EndsByAnswer, MayBeShown}

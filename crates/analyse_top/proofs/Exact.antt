@@ -11,10 +11,10 @@ use Rattle.cob_interp.specs.Ends.{told_files, IsEnd}
 use Rattle.cob_interp.specs.OneEnd.{OneEnd}
 use Rattle.cob_interp.specs.Runs.{outside}
 use Rattle.command_words.specs.Commands.{OneReading}
-use Rattle.analyse_command.specs.Shared.Answer.{Answer, HoldsProgram}
-use Rattle.analyse_command.specs.Shared.Call.{Call}
-use Rattle.analyse_command.proofs.Shared.Sources.{one_ending}
-use Rattle.analyse_command.proofs.OneCheck.{TextsAreApart}
+use Rattle.command_answers.specs.Answer.{Answer, HoldsProgram}
+use Rattle.command_answers.specs.Call.{Call}
+use Rattle.command_answers.proofs.Sources.{one_ending}
+use Rattle.command_answers.proofs.OneCheck.{TextsAreApart}
 use Rattle.analyse_command.specs.Endings.{EndsByAnalysis}
 use Rattle.run_command.specs.Runs.{Task, AsksFor}
 use Rattle.run_command.proofs.Asked.{one_for_run}

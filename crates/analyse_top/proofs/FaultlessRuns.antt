@@ -15,12 +15,12 @@ use Rattle.cob_interp.specs.declared.ends.RunEnd.{RunEnd}
 use Rattle.cob_interp.specs.declared.ends.RunEnd.TheVariants as end
 use Rattle.cob_interp.specs.Ends.{told_files, IsEnd}
 use Rattle.cob_interp.specs.Runs.{outside}
-use Rattle.alarm_report.specs.declared.alarms.Alarm.{Alarm}
+use Rattle.command_answers.specs.declared.alarms.Alarm.{Alarm}
 use Rattle.command_words.specs.Commands.{Command, Run, OneReading}
 use Rattle.command_words.specs.Commands as command
-use Rattle.analyse_command.specs.Shared.Answer.{Answer, Report}
-use Rattle.analyse_command.specs.Shared.Call.{Call}
-use Rattle.analyse_command.proofs.Shared.Statuses.{low_status, never_low}
+use Rattle.command_answers.specs.Answer.{Answer, Report}
+use Rattle.command_answers.specs.Call.{Call}
+use Rattle.command_answers.proofs.Statuses.{low_status, never_low}
 use Rattle.run_command.specs.Runs.{Task, HoldsTask, AsksFor, TellsEnd, run_status}
 use Rattle.run_command.proofs.RunEnds.{refused_or_ends}
 use Rattle.analyse_top.specs.Answers.{Answers, AnswersCommand}

@@ -4,9 +4,9 @@ use Rattle.batch_io.specs.FilesState.{Contents}
 use Rattle.command_words.specs.Commands.{Command, Run, OneReading}
 use Rattle.command_words.specs.Commands as command
 use Rattle.cob_front.specs.declared.refusal.Refusal.{Refusal}
-use Rattle.analyse_command.specs.Shared.Answer.{Answer, Usage, Absent, Refused, CertificateLong, CertificateBad, CertificateMisfit, NotInductive, Report}
-use Rattle.analyse_command.proofs.Shared.Sources.{Ending, EndsIn, read, refused}
-use Rattle.analyse_command.proofs.OneCheck.{TextsAreApart, one_for_check}
+use Rattle.command_answers.specs.Answer.{Answer, Usage, Absent, Refused, CertificateLong, CertificateBad, CertificateMisfit, NotInductive, Report}
+use Rattle.command_answers.proofs.Sources.{Ending, EndsIn, read, refused}
+use Rattle.command_answers.proofs.OneCheck.{TextsAreApart, one_for_check}
 use Rattle.analyse_command.specs.Trial.{trial_text}
 use Rattle.analyse_command.specs.TrialEndings.{AnswersTrial}
 use Rattle.run_command.specs.Runs.{AnswersRun}

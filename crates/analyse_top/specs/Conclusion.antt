@@ -6,8 +6,8 @@ use Rattle.batch_io.specs.Faults.{Rose}
 use Rattle.batch_io.specs.FilesState.{Contents, KeepsIds, known_bytes}
 use Rattle.cob_tree.specs.declared.fault.Kind.{Kind}
 use Rattle.cob_tree.specs.declared.fault.Open.{Open}
-use Rattle.cob_meaning.specs.declared.straight.Outcome.TheVariants.{Fault}
 use Rattle.cob_program.specs.Act.{Program}
+use Rattle.cob_runs.specs.declared.outcome.Outcome.TheVariants.{Fault}
 use Rattle.cob_runs.specs.Files.{Choice}
 use Rattle.cob_runs.specs.Runs.{IsFaultless, run}
 use Rattle.cob_runs.specs.Runs as runs
@@ -18,21 +18,21 @@ use Rattle.cob_interp.specs.declared.ends.RunEnd.{RunEnd}
 use Rattle.cob_interp.specs.declared.ends.RunEnd.TheVariants as end
 use Rattle.cob_interp.specs.Ends.{told_files, IsEnd}
 use Rattle.cob_interp.specs.Runs.{outside}
-use Rattle.alarm_report.specs.declared.alarms.Alarm.{Alarm}
-use Rattle.alarm_report.specs.Alarms.{alarms_of}
-use Rattle.alarm_report.specs.Text.{report_text}
+use Rattle.command_answers.specs.declared.alarms.Alarm.{Alarm}
+use Rattle.command_answers.specs.Alarms.{alarms_of}
+use Rattle.command_answers.specs.ReportText.{report_text}
 use Rattle.cert_text.specs.View.{Certificate}
 use Rattle.cert_text.specs.Lengths.{most_bounds}
 use Rattle.analyse_command.specs.Choice.{packs_of}
-use Rattle.analyse_command.specs.Shared.Checker.Checking.{Accepts}
+use Rattle.command_answers.specs.Checker.Checking.{Accepts}
 use Rattle.command_words.specs.Commands.{Run, IsCommand}
 use Rattle.command_words.specs.Commands as command
-use Rattle.analyse_command.specs.Shared.Text.{memory_line, read_fault_line}
-use Rattle.analyse_command.specs.Shared.Showing.{Gains, GainsFront, Shows}
-use Rattle.analyse_command.specs.Shared.Profile.{IsProgramOf}
-use Rattle.analyse_command.specs.Shared.Answer.{Answer, Report, HoldsProgram, answer_text, status_of, status_unwritten}
-use Rattle.analyse_command.specs.Shared.Call.{Call}
-use Rattle.analyse_command.specs.Answers.{HoldsCertificate, certificate_limit}
+use Rattle.command_answers.specs.Text.{memory_line, read_fault_line}
+use Rattle.command_answers.specs.Showing.{Gains, GainsFront, Shows}
+use Rattle.command_answers.specs.Profile.{IsProgramOf}
+use Rattle.command_answers.specs.Answer.{Answer, Report, HoldsProgram, answer_text, status_of, status_unwritten}
+use Rattle.command_answers.specs.Call.{Call}
+use Rattle.command_answers.specs.CheckAnswers.{HoldsCertificate, certificate_limit}
 use Rattle.analyse_command.specs.Analysis.{Analysis, CanBeClean, IsAnalysisOf, pairs_of, report_of, text_of}
 use Rattle.analyse_command.specs.Endings.{IsTooLong, EndsByAnalysis}
 use Rattle.analyse_command.specs.Trial.{trial_text}

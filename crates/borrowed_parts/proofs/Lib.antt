@@ -4,6 +4,6 @@ pub mod TestLoops
 pub mod ActViews
 pub mod FileLoops
 pub mod FormLemmas
-pub mod WriteLemmas
 pub mod EdgeLemmas
 pub mod DivisorLemmas
+pub mod EndLoops

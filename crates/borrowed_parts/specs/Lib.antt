@@ -1,4 +1,3 @@
 pub mod Seeking
 pub mod PartView
 pub mod Pieces
-pub mod Writing

@@ -16,7 +16,7 @@ use crate::moves::{of_from, of_into, of_move};
 use crate::part::EdgePart;
 use crate::seeking::{Sought, none, one, two};
 use crate::senders::number_read;
-use cob_data::{Layout, Sender};
+use cob_data::Sender;
 use cob_program::{Act, Program, Stmt, Turns};
 use cob_runs::Action;
 

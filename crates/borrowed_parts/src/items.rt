@@ -1,10 +1,10 @@
 //! What the items of a layout are.
 ghost use Rattle.std.specs.Prelude.{◌≡◌};
 ghost use Rattle.std.specs.Option.{option_copied};
+ghost use Rattle.cob_tree.specs.Forms.{is_number_form};
 ghost use Rattle.cob_data.specs.declared.layout.Layout as layout;
 ghost use Rattle.cob_runs.specs.Contents.{item_at, form_at, scale_of};
 ghost use Rattle.cob_runs.specs.Moves.{takes_number, is_group, is_group_sender};
-ghost use Rattle.cob_runs.specs.Deciding.{is_number_form};
 ghost use Rattle.cob_edge_parts.specs.Parts.{is_number_item, gets_value, is_read_for};
 
 use cob_data::{Item, Layout, Sender};

@@ -15,4 +15,4 @@ mod sums;
 mod tests_of;
 
 pub use part::{Amount, Divisor, EdgePart};
-pub use parts::{part_at, part_count, writes_before};
+pub use parts::{part_at, part_count};

@@ -1,10 +1,8 @@
 //! The parts of an edge by their numbers.
-ghost use Rattle.std.specs.Prelude.{◌≡◌, ◌-◌, ◌^◌, min, length, take, slice_get};
-ghost use Rattle.std.specs.List.{list_any};
+ghost use Rattle.std.specs.Prelude.{◌≡◌, ◌-◌, ◌^◌, min, length, slice_get};
 ghost use Rattle.std.specs.Option.{option_map};
 ghost use Rattle.cob_program.specs.ActView.{plain_stmt, plain_program};
 ghost use Rattle.borrowed_parts.specs.PartView.{plain_part, edge_parts};
-ghost use Rattle.borrowed_parts.specs.Writing.{writes, writes_at};
 
 use crate::edges::of_edge;
 use crate::part::EdgePart;
@@ -33,35 +31,4 @@ pub fn part_at<'a>(
         ≡ slice_get (edge_parts (plain_program program.now) (plain_stmt statement.now) action) k }
 {
     of_edge(program, statement, action, k).break_value()
-}
-
-// Whether a part changes storage, or sets a counter.
-fn writes(part: EdgePart) -> bool
-    ensures { result ≡ writes (plain_part part.entry) }
-{
-    match part {
-        EdgePart::Store { .. } | EdgePart::Bytes { .. } | EdgePart::SetCount { .. } => true,
-        _ => false,
-    }
-}
-
-fn writes_at(program: &Program, statement: &Stmt, action: Action, k: u32) -> bool
-    ensures { result ≡ writes_at (edge_parts (plain_program program.now) (plain_stmt statement.now) action) k }
-{
-    match part_at(program, statement, action, k) {
-        None => false,
-        Some(part) => writes(part),
-    }
-}
-
-/// Whether a part that writes stands before the one with a number.
-pub fn writes_before(program: &Program, statement: &Stmt, action: Action, k: u32) -> bool
-    ensures { result ≡ list_any writes (take k (edge_parts (plain_program program.now) (plain_stmt statement.now) action)) }
-{
-    for before in 0..k {
-        if writes_at(program, statement, action, before) {
-            return true;
-        }
-    }
-    false
 }

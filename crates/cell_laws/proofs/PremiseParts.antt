@@ -10,6 +10,7 @@ use Rattle.std.proofs.lemmas.Option.{same_Some}
 use Rattle.dec_num.specs.declared.types.Mode.TheVariants.{Trunc}
 use Rattle.cob_tree.specs.declared.form.Form.{Form}
 use Rattle.cob_tree.specs.declared.form.Form.TheVariants as form
+use Rattle.cob_tree.specs.Forms.{is_number_form}
 use Rattle.cob_data.specs.declared.layout.FileDecl.{FileDecl}
 use Rattle.cob_data.specs.declared.layout.Item.{Item}
 use Rattle.cob_data.specs.declared.layout.Layout.{Layout}
@@ -35,7 +36,6 @@ use Rattle.cob_items.specs.WellFormed.{IsWellFormedFile, HasWellFormedItems}
 use Rattle.data_laws.proofs.Items.{item_sound}
 use Rattle.cob_calc.specs.Contents.{bound_at}
 use Rattle.cob_calc.specs.Arithmetic.{is_small_result, are_small_results, is_small_rest, are_small_rests, take_numbers, is_sound_remainder, CanCompute}
-use Rattle.cob_runs.specs.Deciding.{is_number_form}
 use Rattle.cob_calc.specs.Comparing.{CanTest}
 use Rattle.cob_world.specs.Needs.{IsNumber}
 use Rattle.cob_world.specs.Doing.{CanMoveTo, CanDoAct}

@@ -8,6 +8,7 @@ use Rattle.dec_num.proofs.Powers.{ten_monotone}
 use Rattle.cob_tree.specs.declared.form.Form.{Form}
 use Rattle.cob_tree.specs.declared.form.Form.TheVariants as form
 use Rattle.cob_tree.specs.declared.token.Num.{Num}
+use Rattle.cob_tree.specs.Forms.{is_number_form}
 use Rattle.cob_data.specs.declared.layout.Item.{Item}
 use Rattle.cob_data.specs.declared.layout.Layout.{Layout}
 use Rattle.cob_data.specs.declared.layout.Sender.{Sender}
@@ -15,7 +16,7 @@ use Rattle.cob_data.specs.declared.layout.Sender.TheVariants as sender
 use Rattle.cob_program.specs.Bounds.{Bound, of_digits, form_bound, literal_bound, raised, joint, sum_bound, is_small}
 use Rattle.cob_runs.specs.Contents.{item_at, form_at, scale_of}
 use Rattle.cob_runs.specs.Moves.{takes_number}
-use Rattle.cob_runs.specs.Deciding.{is_number_form, is_number_end}
+use Rattle.cob_runs.specs.Deciding.{is_number_end}
 use Rattle.cob_items.specs.WellFormed.{IsWellFormedForm, HasWellFormedItems, IsShort, IsShortLiteral, IsCountable}
 use Rattle.cob_calc.specs.Comparing.{IsShortEnd}
 use Rattle.cob_calc.specs.Contents.{bound_at}

@@ -52,7 +52,7 @@ module _ (p : Program) (g : Graph) where
   abbrev pub edge_clears : Kind → List Known → Edge → Bool
   edge_clears fault cells x = option_map_or (λ a. clears_edge p (left g x) a x.action cells fault) (act_at p (left g x)) true
 
-  -- nor does any part of an edge that leaves the node
+  -- If the edge leaves the node, no part of it meets such a fault.
   abbrev pub leaves_clear : ℕ → Kind → List Known → Edge → Bool
   leaves_clear node fault cells x = not (x.from == node) || edge_clears fault cells x
 

@@ -7,3 +7,4 @@ pub mod Heights
 pub mod Making
 pub mod Leaving
 pub mod OwnEdges
+pub mod Filled

@@ -14,11 +14,11 @@ use Rattle.graph_runs.specs.Sources.{IsSourceGraph}
 use Rattle.cell_laws.specs.Layer.{left}
 use Rattle.cell_walk.specs.Statements.{number_in, act_in}
 
--- The parts of an edge can be counted by a `u32`,
+-- The parts of an edge can be counted by a `u32`.
 abbrev pub HasFewAt : Program → Graph → Edge → Type 0
 HasFewAt p g x = (a : Act) → act_at p (left g x) ≡ Some a → length (parts_of p (left g x) a x.action) < 2 ^ 32 - 1
 
--- and so can those of each edge of the graph.
+-- The parts of each edge of the graph can be counted so.
 abbrev pub HasFewParts : Program → Graph → Type 0
 HasFewParts p g = All (HasFewAt p g) g.edges
 

@@ -1,3 +1,4 @@
 pub mod Known
 pub mod Elements
 pub mod Rows
+pub mod Classes

@@ -3,15 +3,17 @@
 //!
 //! A row begins with 1 where the node is reached, and has two words for each cell: the ends of the interval
 //! that its number lies in, or 1 and 0 where nothing is known of it. Where no run comes all words are 0.
-//! No call takes memory.
+//! Beside them stand classes of cells, numeric or not. No call takes memory.
 #![tactic(auto)]
 
+mod class;
 mod joining;
 mod laws;
 mod order;
 mod widening;
 mod words;
 
+pub use class::{Class, class_join};
 pub use joining::join;
 pub use laws::rows_are_a_lattice;
 pub use order::leq;

@@ -33,7 +33,7 @@ abbrev pub if_named : {A : Type 0} → Option A → List Home → List Home
 if_named None hs = []
 if_named (Some n) hs = hs
 
--- of the items from a place on
+-- the homes of the items from a place on
 abbrev pub item_homes : ℕ → List Item → List Home
 item_homes place [] = []
 item_homes place (i ∷ items) = if_named i.name (home_of place i.form) ++ item_homes (suc place) items

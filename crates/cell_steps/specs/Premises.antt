@@ -16,10 +16,10 @@ pub record HasSoundItems (l : Layout) : Type 0 where
   -- the number that it holds lies in its own range
   pub own : (place : ℕ) (bytes : List ℕ) (z : ℤ) → length bytes ≡ l.storage
       → contents_value (form_at l place) (bytes_at l bytes place) ≡ Some z → Holds (form_range (form_at l place)) z
-  -- the bytes of a number that it has room for are as many as its own,
+  -- the bytes of a number that it has room for are as many as its own
   pub whole : (place : ℕ) (i : Item) (z : ℤ) → item_at l place ≡ Some i → takes_number i.form ≡ true
       → unsigned_abs z < 10 ^ digits_of i.form → length (bytes_of i.form z) ≡ i.length
-  -- and are read as that number, or as its absolute value where the item has no sign
+  -- the bytes of such a number are read as that number, or as its absolute value where the item has no sign
   pub back : (place digits scale : ℕ) (signed : Bool) (usage : Usage) (z : ℤ) → form_at l place ≡ form.Number digits scale signed usage
       → unsigned_abs z < 10 ^ digits
       → contents_value (form_at l place) (bytes_of (form_at l place) z) ≡ Some (if signed then z else pos (unsigned_abs z))

@@ -8,8 +8,8 @@ use Rattle.cell_steps.specs.Storages.{known_of}
 use Rattle.cell_rows.specs.Known.{Known}
 use Rattle.cell_rows.specs.Rows as rows
 use Rattle.cell_rows.specs.Rows.{IsReached}
-use Rattle.cell_homes.specs.Numbers.{number_in, number_of}
-use Rattle.cell_homes.proofs.NumberLemmas.{number_within}
+use Rattle.cell_amounts.specs.Numbers.{number_in, number_of}
+use Rattle.cell_amounts.proofs.NumberLemmas.{number_within}
 use Rattle.cell_steps.specs.Cells.{with_known}
 use Rattle.cell_walk.specs.ProgramRows.{known_in, set_in, IsCellNumber, IsRowOf}
 

@@ -20,8 +20,8 @@ use Rattle.cob_runs.specs.Contents.{item_at, form_at}
 use Rattle.cob_items.specs.WellFormed.{IsShort}
 use Rattle.cob_graph.specs.Graphs.{cells_of}
 use Rattle.cell_steps.specs.Homes.{Home, of_item, of_count, home_of, if_named, item_homes, turns_homes, act_homes, count_homes, homes_of}
-use Rattle.cell_homes.specs.Numbers.{item_of, items_of}
-use Rattle.cell_homes.proofs.Parallel.{cells_same}
+use Rattle.cell_amounts.specs.Numbers.{item_of, items_of}
+use Rattle.cell_amounts.proofs.Parallel.{cells_same}
 use Rattle.cell_rows.specs.Known.{Known, IsOrdered}
 use Rattle.cell_rows.specs.Rows as rows
 use Rattle.cell_rows.specs.Rows.{IsReached, words_in, cells_in, row_of, row_from}

@@ -18,8 +18,8 @@ use Rattle.cell_steps.specs.Homes.{Home, of_item, of_count, home_of, if_named, i
 use Rattle.cell_rows.specs.Known.{Known}
 use Rattle.cell_rows.specs.Rows as rows
 use Rattle.cell_rows.specs.Rows.{IsReached}
-use Rattle.cell_homes.specs.Numbers.{item_of, items_of}
-use Rattle.cell_homes.proofs.Parallel.{cells_same}
+use Rattle.cell_amounts.specs.Numbers.{item_of, items_of}
+use Rattle.cell_amounts.proofs.Parallel.{cells_same}
 use Rattle.cell_steps.specs.Cells.{forgotten, is_in_bytes, is_beside}
 use Rattle.cell_walk.specs.ProgramRows.{IsRowOf}
 use Rattle.cell_walk.specs.Forgetting.{has_bytes, forgotten_at, forgotten_by}

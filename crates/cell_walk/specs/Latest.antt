@@ -32,7 +32,7 @@ ranges_of (range.Quotient top under) = taken top (Some under)
 ranges_of (range.Remainder top under scale) = taken top (Some under)
 
 module _ (p : Program) (a : Act) (x : Action) where
-  -- of a store, where operands are taken
+  -- what a store may do, by the moment where operands are taken
   abbrev pub outcome : Seen → ℕ → Mode → Amount → Latest
   outcome t place mode amount = record {
     result = option_map ranges_of (stores.amount_at p a x t place amount);
@@ -40,7 +40,7 @@ module _ (p : Program) (a : Act) (x : Action) where
     may_fit = stores.may_fit p a x t place mode amount;
   }
 
-  -- behind a part, where it was so before
+  -- the latest store behind a part: the part itself, if it is one, or else the latest one before it
   abbrev pub latest_behind : Part → Seen → Latest → Latest
   latest_behind (store place mode amount) s before = outcome (with_taken p a x s) place mode amount
   latest_behind y s before = before

@@ -1,5 +1,5 @@
 //! What is known of cells where a run begins: an item with a VALUE gets it, and is read.
-ghost use Rattle.std.specs.Prelude.{◌≡◌, ◌≤◌, ◌+◌, ◌*◌, ◌<◌, suc, [], Some, Ok, length, replicate, IfSome, IsTrue};
+ghost use Rattle.std.specs.Prelude.{◌≡◌, ◌≤◌, ◌+◌, ◌*◌, ◌<◌, suc, [], Some, Ok, length, IfSome, IsTrue};
 ghost use Rattle.std.specs.Result.{result_ok};
 ghost use Rattle.std.specs.List.{All};
 ghost use Rattle.dec_num.specs.Scaled.{value_of};
@@ -7,7 +7,7 @@ ghost use Rattle.dec_num.specs.declared.types.Mode.TheVariants.{Trunc};
 ghost use Rattle.cob_tree.specs.declared.form.Form.TheVariants as form;
 ghost use Rattle.cob_program.specs.ActView.{plain_program};
 ghost use Rattle.cob_program.specs.Bounds.{IsSmall};
-ghost use Rattle.cob_runs.specs.Contents.{item_at, form_at, fitted, number_in, stored};
+ghost use Rattle.cob_runs.specs.Contents.{item_at, form_at, number_in, stored};
 ghost use Rattle.cob_runs.specs.Moves.{takes_number, number_of, text_of, moved_text, moved_number, moved};
 ghost use Rattle.cob_graph.specs.Graphs.{cells_of as program_cells};
 ghost use Rattle.cob_items.specs.WellFormed.{HasWellFormedItems, IsWellFormedForm, IsWellFormedItem, IsShort, IsConstant, IsCountable, CanMove};
@@ -22,6 +22,7 @@ use cob_data::{Item, Layout, Sender};
 use cob_items::{digits_of, literal, number_in, scale_of, write_units};
 use cob_program::Program;
 use cob_runs::Cell;
+use cob_store::{write_fill, write_text};
 use cob_tree::Form;
 use dec_num::{Fit, Mode, Scaled, fit};
 use decimal_interval::Interval;
@@ -49,21 +50,6 @@ fn read_point(form: &Form, bytes: &[u8]) -> Option<Interval>
 }
 
 // ---- texts
-
-// Cut on the right, or filled with spaces there.
-fn write_text(text: &[u8], bytes: &mut [u8])
-    ensures { bytes.new ≡ fitted (length bytes.old) text.now }
-{
-    let count = text.len().min(bytes.len());
-    bytes[..count].copy_from_slice(&text[..count]);
-    bytes[count..].fill(b' ');
-}
-
-fn write_fill(byte: u8, bytes: &mut [u8])
-    ensures { bytes.new ≡ fitted (length bytes.old) (replicate (length bytes.old) byte) }
-{
-    bytes.fill(byte);
-}
 
 fn write_constant(layout: &Layout, value: &Sender, bytes: &mut [u8])
     requires constant { IsConstant value.now }

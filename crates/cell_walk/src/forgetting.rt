@@ -2,7 +2,7 @@
 ghost use Rattle.std.specs.Prelude.{◌≡◌, ◌<◌, length, IfSome};
 ghost use Rattle.std.specs.List.{All};
 ghost use Rattle.cob_program.specs.ActView.{plain_program};
-ghost use Rattle.cell_homes.specs.Numbers.{items_of};
+ghost use Rattle.cell_amounts.specs.Numbers.{items_of};
 ghost use Rattle.cell_steps.specs.Homes.{homes_of};
 ghost use Rattle.cell_rows.specs.Rows.{IsReached, cells_of};
 ghost use Rattle.cell_steps.specs.Cells.{share_bytes, forgotten, is_in_bytes, is_beside};

@@ -8,7 +8,7 @@ ghost use Rattle.cell_rows.specs.Rows.{IsReached, cells_of};
 ghost use Rattle.cell_steps.specs.Cells.{with_known};
 ghost use Rattle.cell_walk.specs.ProgramRows.{known_in, set_in, IsCellNumber, IsRowOf};
 
-use cell_homes::{cell_of, cell_of_count};
+use cell_amounts::{cell_of, cell_of_count};
 use cell_rows::{known_at, set_known};
 use cob_program::Program;
 use cob_runs::Cell;

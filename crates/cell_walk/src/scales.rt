@@ -7,7 +7,7 @@ use result_ranges::Taken as Ranges;
 
 /// The range of a sum in units of its scale. Where a quotient is its last operation and stays exact, `top` and `scale` are
 /// those of what is divided, `under` and `under_scale` those of what divides.
-#[derive(Clone, Copy, Debug, PartialEq, Eq)]
+#[derive(Clone, Copy, PartialEq, Eq)]
 pub struct Taken {
     pub top: Interval,
     pub scale: u32,

@@ -12,3 +12,4 @@ pub mod Answering
 pub mod Asking
 pub mod Noting
 pub mod Sources
+pub mod Taking

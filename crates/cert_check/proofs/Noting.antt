@@ -83,7 +83,7 @@ flat_more f first (suc count) j e =
 
 -- ---- one more node
 
-abbrev made : Bool → Bool → Bool → Bool → Cleared
+abbrev pub made : Bool → Bool → Bool → Bool → Cleared
 made a b c d = record { size = a; truncation = b; zero = c; class = d }
 
 same_fields : (a b c d s t u v : Bool) → a ≡ s → b ≡ t → c ≡ u → d ≡ v → made a b c d ≡ made s t u v
@@ -160,3 +160,8 @@ written_back xs items n e = ap (λ m. take m (xs ++ drop (length xs) items)) e �
     whole : {A : Type 0} (xs ys : List A) → take (length xs) (xs ++ ys) ≡ xs
     whole [] ys = refl
     whole (x ∷ xs) ys = ap (λ zs. x ∷ zs) (whole xs ys)
+
+-- the tests of the kinds, one by one
+pub each_kind : (a b c d : Bool) (test : Kind → Bool) → a ≡ test kind.Size → b ≡ test kind.Truncation → c ≡ test kind.Zero → d ≡ test kind.Class →
+    made a b c d ≡ by_kind test
+each_kind a b c d test e f g h = same_fields _ _ _ _ _ _ _ _ e f g h

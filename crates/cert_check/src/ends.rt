@@ -15,7 +15,7 @@ pub enum Shape {
 
 /// An edge, and a place at which what it reaches doesn't lie in its target's claims: of cells in layer 1, of packs in
 /// layer 2. Edge 0 is the entry.
-#[derive(Clone, Copy, Debug, PartialEq, Eq)]
+#[derive(Clone, Copy, PartialEq, Eq)]
 pub struct Leak {
     pub layer: u8,
     pub edge: u32,

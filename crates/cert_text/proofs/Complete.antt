@@ -5,7 +5,7 @@ use Rattle.std.specs.List.{AllByRecursion}
 use Rattle.std.proofs.lemmas.Bool.{and_parts, and_from, or_right, ltb-true, leb-true, eqb-true, lt-ltb, le-leb, eq-eqb, cond-true}
 use Rattle.std.proofs.lemmas.List.{append-nil, length-append, nil_from_length, length-map}
 use Rattle.std.proofs.lemmas.Option.{same_Some}
-use Rattle.text_lines.specs.Lines.{Line}
+use Rattle.cert_text.specs.Lines.{Line}
 use Rattle.cert_text.specs.declared.cert.Claim.{Claim}
 use Rattle.cert_text.specs.declared.cert.Bound.{Bound}
 use Rattle.cert_text.specs.declared.draft.Stage.TheVariants as stages

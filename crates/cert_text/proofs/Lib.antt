@@ -1,3 +1,7 @@
+pub mod Cuts
+pub mod OneLine
+pub mod Texts
+pub mod Stops
 pub mod Loops
 pub mod Numbers
 pub mod Printed

@@ -4,7 +4,7 @@ use Rattle.std.proofs.lemmas.List.{take_more, get_or_default, map_push, length-t
 use Rattle.std.proofs.lemmas.List.Concat.{flat_map-append}
 use Rattle.std.proofs.lemmas.Simd.{map-map}
 use Rattle.std.specs.Fmt.{decimal, signed_decimal}
-use Rattle.text_lines.specs.Lines.{Line, text_of}
+use Rattle.cert_text.specs.Lines.{Line, text_of}
 use Rattle.cert_text.specs.Text.{Entry, entries_text, entry_line, numbers_text, place_entries, nodes_entries, heading}
 use Rattle.cert_text.specs.View.{Place}
 

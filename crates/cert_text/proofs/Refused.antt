@@ -3,9 +3,9 @@ use Rattle.std.proofs.Common.{◌≡◌, ℕ, ◌+◌, ◌-◌, ◌^◌, min, Bo
 use Rattle.std.specs.Prelude.{IfOk, IfErr}
 use Rattle.std.proofs.lemmas.List.{append-nil, length-append, map-append}
 use Rattle.std.proofs.lemmas.Option.{same_Some}
-use Rattle.text_lines.specs.Lines.{Line, cut, text_of}
-use Rattle.text_lines.specs.Viable.{IsViable, FirstBad}
-use Rattle.text_lines.proofs.Texts.{bad_there, bad_behind}
+use Rattle.cert_text.specs.Lines.{Line, cut, text_of}
+use Rattle.cert_text.specs.Viable.{IsViable, FirstBad}
+use Rattle.cert_text.proofs.Texts.{bad_there, bad_behind}
 use Rattle.cert_text.specs.declared.draft.Stage.TheVariants as stages
 use Rattle.cert_text.specs.declared.cert.Cert.{Cert}
 use Rattle.cert_text.specs.declared.cert.CertEnd.{CertEnd}

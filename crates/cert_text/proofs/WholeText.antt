@@ -6,10 +6,10 @@ use Rattle.std.specs.List.{AllByRecursion}
 use Rattle.std.proofs.lemmas.Bool.{and_parts, and_from, eqb-true, cond-true}
 use Rattle.std.proofs.lemmas.List.{append-nil, nil_from_length, map-append}
 use Rattle.std.proofs.lemmas.Option.{same_Some}
-use Rattle.text_lines.specs.Lines.{Line, Cut, cut, text_of, IsOneLine}
-use Rattle.text_lines.proofs.OneLine.{one_line-append, literal, signed_decimal-one_line}
-use Rattle.text_lines.specs.Viable.{FirstBad}
-use Rattle.text_lines.proofs.Texts.{cut_joins, cut-text_of, text_not_bad}
+use Rattle.cert_text.specs.Lines.{Line, Cut, cut, text_of, IsOneLine}
+use Rattle.cert_text.proofs.OneLine.{one_line-append, literal, signed_decimal-one_line}
+use Rattle.cert_text.specs.Viable.{FirstBad}
+use Rattle.cert_text.proofs.Texts.{cut_joins, cut-text_of, text_not_bad}
 use Rattle.cert_text.specs.declared.draft.Stage.TheVariants as stages
 use Rattle.cert_text.specs.View.{Certificate}
 use Rattle.cert_text.specs.Text.{name, Entry, entry_line, numbers_text, entries, lines, spelling}

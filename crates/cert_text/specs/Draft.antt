@@ -82,7 +82,7 @@ abbrev pub one_number : List ℤ → Option ℕ
 one_number (z ∷ []) = small_natural z
 one_number _ = None
 
--- below 10 ^ 18 in absolute value
+-- a number below 10 ^ 18 in absolute value
 abbrev pub small_integer : ℤ → Option ℤ
 small_integer z = if nat_lt (unsigned_abs z) (10 ^ 18) then Some z else None
 

@@ -1,3 +1,5 @@
+pub mod Lines
+pub mod Viable
 pub mod View
 pub mod Allowed
 pub mod Text

@@ -1,7 +1,7 @@
 -- How a certificate is spelled. A line is a word and numbers, parted by one space and ended by LF.
 use Rattle.std.specs.Prelude.{ℕ, suc, List, [], ◌∷◌, ◌++◌, map, length, ℤ, pos, codes}
 use Rattle.std.specs.Fmt.{signed_decimal}
-use Rattle.text_lines.specs.Lines.{Line, text_of}
+use Rattle.cert_text.specs.Lines.{Line, text_of}
 use Rattle.cert_text.specs.declared.word.Word.{Word}
 use Rattle.cert_text.specs.declared.word.Word.TheVariants as words
 use Rattle.cert_text.specs.declared.cert.Claim.{Claim}

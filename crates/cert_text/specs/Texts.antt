@@ -1,7 +1,7 @@
 -- The texts of certificates, as lines.
 use Rattle.std.specs.Prelude.{◌≡◌, ℕ, ◌-◌, ◌^◌, min, List}
-use Rattle.text_lines.specs.Lines.{Line}
-use Rattle.text_lines.specs.Viable.{FirstBad}
+use Rattle.cert_text.specs.Lines.{Line}
+use Rattle.cert_text.specs.Viable.{FirstBad}
 use Rattle.cert_text.specs.declared.cert.CertEnd.{CertEnd}
 use Rattle.cert_text.specs.declared.cert.CertEnd.TheVariants as ends
 use Rattle.cert_text.specs.View.{Certificate}

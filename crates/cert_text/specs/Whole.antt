@@ -1,6 +1,6 @@
 -- Reading a text line by line.
 use Rattle.std.specs.Prelude.{◌≡◌, ℕ, ◌+◌, ◌-◌, ◌^◌, ◌&&◌, min, ◌==◌, if◌then◌else◌, List, [], ◌∷◌, length, Option, Some, None, Result, Ok, Err}
-use Rattle.text_lines.specs.Lines.{Line, cut}
+use Rattle.cert_text.specs.Lines.{Line, cut}
 use Rattle.cert_text.specs.declared.draft.Stage.TheVariants as stages
 use Rattle.cert_text.specs.declared.cert.Cert.{Cert}
 use Rattle.cert_text.specs.declared.cert.CertEnd.{CertEnd}

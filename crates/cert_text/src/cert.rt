@@ -7,7 +7,7 @@ use std::alloc::{AllocError, AllocFailed};
 
 /// The range of one cell at a node, in the cell's units, both ends included. The cell goes by its
 /// place from 1.
-#[derive(Clone, Copy, Debug, PartialEq, Eq)]
+#[derive(Clone, Copy, PartialEq, Eq)]
 pub struct Claim {
     pub cell: u32,
     pub low: i64,
@@ -16,7 +16,7 @@ pub struct Claim {
 
 /// The value at `row` minus that at `column` is at most `most`, in the pack's finest unit. The pack
 /// goes by its place from 1. Row and column are places in the pack from 1, and 0 is the number 0.
-#[derive(Clone, Copy, Debug, PartialEq, Eq)]
+#[derive(Clone, Copy, PartialEq, Eq)]
 pub struct Bound {
     pub pack: u32,
     pub row: u32,
@@ -26,7 +26,7 @@ pub struct Bound {
 
 /// What is claimed of a node: that no run reaches it, or the ranges and the bounds of the values
 /// there. A cell without a claim is unknown.
-#[derive(Debug, PartialEq, Eq, Drop)]
+#[derive(PartialEq, Eq, Drop)]
 pub enum Element {
     Unreached,
     At {
@@ -36,7 +36,7 @@ pub enum Element {
 }
 
 /// A certificate: the number of cells, the packs, and what is claimed of each node in order.
-#[derive(Debug, PartialEq, Eq, Drop)]
+#[derive(PartialEq, Eq, Drop)]
 pub struct Cert {
     pub cells: u32,
     pub packs: Vec<Pack>,
@@ -45,7 +45,7 @@ pub struct Cert {
 
 /// Why no certificate was read: the first line with which no certificate's text goes on, counted
 /// from 1, or want of memory. A line number past `u32::MAX` is given as `u32::MAX`.
-#[derive(Clone, Copy, Debug, PartialEq, Eq)]
+#[derive(Clone, Copy, PartialEq, Eq)]
 pub enum CertEnd {
     Syntax { line: u32 },
     Memory,

@@ -1,6 +1,6 @@
 //! Laws of the text.
 ghost use Rattle.std.specs.Prelude.{◌≡◌, ℕ, ◌<◌, ◌≤◌, List, length};
-ghost use Rattle.text_lines.specs.Viable.{FirstBad};
+ghost use Rattle.cert_text.specs.Viable.{FirstBad};
 ghost use Rattle.cert_text.specs.View.{Certificate};
 ghost use Rattle.cert_text.specs.Allowed.{IsAllowed};
 ghost use Rattle.cert_text.specs.Text.{spelling};

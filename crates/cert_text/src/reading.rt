@@ -9,8 +9,8 @@ ghost use Rattle.cert_text.specs.Whole.{Gives, read_of};
 
 use crate::cert::{Cert, CertEnd};
 use crate::draft::{Draft, Stage};
+use crate::split_line;
 use std::alloc::Global;
-use text_lines::split_line;
 
 fn certificate(draft: Draft) -> Cert
     ensures { view result ≡ certificate_of (parts_of draft) }

@@ -3,6 +3,11 @@ use Rattle.std.proofs.Common.{◌≡◌, ℕ, zero, suc, ◌+◌, List, [], ◌�
 use Rattle.std.specs.List.{flat_map, range_with_len}
 use Rattle.cert_text.specs.declared.cert.Bound.{Bound}
 
+-- what two calls add, one behind the other
+pub both_added : (old mid new first second all : List Bound) → mid ≡ old ++ first → all ≡ first ++ second → new ≡ mid ++ second → new ≡ old ++ all
+both_added old mid new first second all grown cut more =
+    more ∙ ap (λ xs. xs ++ second) grown ∙ append_assoc old first second ∙ ap (λ xs. old ++ xs) (sym cut)
+
 module _ (f : ℕ → List Bound) where
   range_more : (a n j : ℕ) → a + n ≡ j → flat_map f (range_with_len a (suc n)) ≡ flat_map f (range_with_len a n) ++ f j
   range_more a zero j e = append-nil (f a) ∙ ap f (let same : a ≡ j = omega (arith, e) in same)

@@ -126,6 +126,12 @@ module _ (pack size : ℕ) (b : Bound) (bounds : List Bound) (is : IsBoundOf pac
 
 -- ---- a loop from the last bound on
 
+pub place_within : (pack size : ℕ) (bounds : List Bound) (j : ℕ) (d : Bound) (m : List ℤ) → AllByRecursion (IsBoundOf pack size) bounds → j < length bounds
+    → length m ≡ words_of size → (get_or bounds j d).row * (size + 1) + (get_or bounds j d).column < length m
+place_within pack size bounds j d m are within wide =
+    let at = All-from_recursion (IsBoundOf pack size) bounds are j d within in
+    omega (arith, wide, place_fits (size + 1) (get_or bounds j d).row (get_or bounds j d).column (omega (arith, at.places.row)) (omega (arith, at.places.column)))
+
 pub next_written : (pack size : ℕ) (bounds : List Bound) (k j : ℕ) (d : Bound) (m new : List ℤ) → j ≡ k - 1 → 0 < k → k ≤ length bounds
     → AllByRecursion (IsBoundOf pack size) bounds → m ≡ claimed_matrix (drop k bounds) pack size
     → new ≡ set m ((get_or bounds j d).row * (size + 1) + (get_or bounds j d).column) (get_or bounds j d).most

@@ -9,7 +9,7 @@ use Rattle.std.proofs.lemmas.Nat.{div-add-mod', mod_below}
 use Rattle.dom_laws.specs.Lattice.{IsElement}
 use Rattle.diff_bounds.specs.Matrix.{IsMatrix, none}
 use Rattle.diff_bounds.specs.Order.{IsAtMost}
-use Rattle.form_bounds.specs.Numbers.{number_of}
+use Rattle.linear_form.specs.Numbers.{number_of}
 use Rattle.cert_text.specs.declared.cert.Bound.{Bound}
 use Rattle.claimed_rows.specs.declared.gap.Gap.{Gap}
 use Rattle.claimed_rows.specs.declared.gap.Gap.TheVariants.{Diff}

@@ -2,7 +2,7 @@
 use Rattle.std.specs.Prelude.{◌≡◌, ◌≢◌, ◌↔◌, ◌≤◌, ℕ, suc, ◌+◌, ◌/◌, ◌%◌, List, [], ◌∷◌, ◌++◌, length, take, drop, Some, ℤ, pos, int_lt, if◌then◌else◌, slice_index_or}
 use Rattle.std.specs.List.{AllByRecursion, Contains, flat_map, range_with_len}
 use Rattle.dom_laws.specs.Lattice.{IsElement}
-use Rattle.form_bounds.specs.Numbers.{number_of}
+use Rattle.linear_form.specs.Numbers.{number_of}
 use Rattle.diff_bounds.specs.PackRows.{words_of, packs_lattice}
 use Rattle.cert_text.specs.declared.cert.Claim.{Claim}
 use Rattle.cert_text.specs.declared.cert.Bound.{Bound}

@@ -1,7 +1,7 @@
 //! The first place at which what is reached of packs doesn't lie in what is claimed of them.
 ghost use Rattle.std.specs.Prelude.{◌≡◌, ◌≤◌, ◌<◌, ◌+◌, ◌^◌, ℕ, length, slice_get};
 ghost use Rattle.std.specs.List.{AllByRecursion};
-ghost use Rattle.form_bounds.specs.Numbers.{number_of};
+ghost use Rattle.linear_form.specs.Numbers.{number_of};
 ghost use Rattle.diff_bounds.specs.PackRows.{width_of, words_of};
 ghost use Rattle.claimed_rows.specs.MatrixClaims.{cells_in, sizes_of};
 ghost use Rattle.claimed_rows.specs.MatrixGaps.{gaps, gaps_from, matrix_gaps, word_gaps};

@@ -8,6 +8,7 @@ use Rattle.cob_program.specs.Values.{whole_number, negated, plus, with_factor, �
 use Rattle.cob_program.proofs.Steps.{both}
 use Rattle.cob_tree.specs.declared.form.Form.{Form}
 use Rattle.cob_tree.specs.declared.form.Form.TheVariants as form
+use Rattle.cob_tree.specs.Forms.{is_number_form}
 use Rattle.num_bytes.specs.Reading.{contents_value}
 use Rattle.cob_runs.specs.Contents.{form_at, bytes_at, scaled_by, number_in, number_at}
 use Rattle.cob_runs.specs.Computing.{items_in, items_in_parts, items_in_factors, items_in_atom, are_numeric, worth, cut_quotient, remainder_of}
@@ -18,7 +19,6 @@ use Rattle.cob_calc.specs.Receiving.{rest_of}
 use Rattle.cob_calc.proofs.RootLemmas.{root_more, root_many}
 use Rattle.dec_num.specs.Scaled.{value_of}
 use Rattle.cob_calc.specs.Arithmetic.{are_numbers}
-use Rattle.cob_runs.specs.Deciding.{is_number_form}
 
 pub bind_same : {A B : Type 0} (x y : Option A) (f g : A → Option B) → x ≡ y → ((a : A) → f a ≡ g a) → (x >>= f) ≡ (y >>= g)
 bind_same None y f g e h = ap (λ o. o >>= g) e

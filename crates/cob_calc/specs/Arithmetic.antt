@@ -1,6 +1,7 @@
 -- How great the results of an arithmetic statement can be, whatever its items hold within their pictures: each is small.
 use Rattle.std.specs.Prelude.{◌≡◌, ℕ, ◌-◌, ◌+◌, ◌*◌, ◌/◌, ◌^◌, ◌&&◌, nat_le, if◌then◌else◌, Bool, true, List, [], ◌∷◌, Option, Some, None}
 use Rattle.std.specs.List.{list_all}
+use Rattle.cob_tree.specs.Forms.{is_number_form}
 use Rattle.cob_data.specs.declared.layout.Layout.{Layout}
 use Rattle.cob_program.specs.declared.act.Target.{Target}
 use Rattle.cob_program.specs.declared.act.How.{How}
@@ -11,7 +12,6 @@ use Rattle.cob_program.specs.Bounds.{Bound, exactly, sum_bound, product_bound, i
 use Rattle.cob_runs.specs.Contents.{scale_of, form_at}
 use Rattle.cob_runs.specs.Moves.{takes_number}
 use Rattle.cob_runs.specs.Computing.{items_in}
-use Rattle.cob_runs.specs.Deciding.{is_number_form}
 use Rattle.cob_calc.specs.Contents.{bound_at}
 
 -- n / d at a scale, rounded down

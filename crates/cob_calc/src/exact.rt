@@ -8,7 +8,7 @@ use crate::numbers::scaled;
 use dec_num::{Fit, Mode, Quot, Scaled, fit, quot};
 
 /// A value before it is stored: a number, or a quotient that stays exact.
-#[derive(Clone, Copy, Debug)]
+#[derive(Clone, Copy)]
 pub enum Exact {
     Number(Scaled),
     Quotient { top: Scaled, bottom: Scaled },

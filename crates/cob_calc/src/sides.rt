@@ -1,9 +1,10 @@
 //! The sides of a comparison: items, literals and figurative constants (ISO 1989:1985, "Relation condition").
 ghost use Rattle.std.specs.Prelude.{◌≡◌, ◌+◌, ◌≤◌, length, true, option_map, IfSome};
+ghost use Rattle.cob_tree.specs.Forms.{is_number_form};
 ghost use Rattle.cob_program.specs.Values.{literal};
 ghost use Rattle.cob_runs.specs.Contents.{form_at, bytes_at, number_in, number_at};
 ghost use Rattle.cob_runs.specs.Moves.{as_digits, item_text, number_of, text_of};
-ghost use Rattle.cob_runs.specs.Deciding.{form_length, side_length, is_number_form, is_number_end};
+ghost use Rattle.cob_runs.specs.Deciding.{form_length, side_length, is_number_end};
 ghost use Rattle.cob_items.specs.WellFormed.{IsWellFormedForm, IsShortLiteral};
 ghost use Rattle.cob_data.specs.declared.layout.Sender.{Sender};
 ghost use Rattle.cob_calc.specs.Contents.{IsWellFormed};

@@ -90,7 +90,7 @@ impl<'a> Text<'a> {
         }
     }
 
-    // by each place
+    // the order of two texts, place by place
     #[tactic(auto, using(crate::proofs::TextLemmas::orders))]
     fn order_by_places(&self, other: &Text) -> Ordering
         requires left { IsShortText self.now }

@@ -16,7 +16,7 @@ use dec_num::{Mode, Quot, Scaled, quot};
 
 /// What the receivers of an arithmetic statement get, worked out before the first of them changes: what is stored of its
 /// sum, and what that is worth to a receiver that is added to, or the like. A part that no receiver asks for stays out.
-#[derive(Clone, Copy, Debug)]
+#[derive(Clone, Copy)]
 pub struct Worked {
     pub whole: Option<Exact>,
     pub value: Option<Scaled>,

@@ -10,3 +10,4 @@ pub mod PrintLemmas
 pub mod NameLemmas
 pub mod PartLemmas
 pub mod StartLemmas
+pub mod StepLemmas

@@ -220,15 +220,9 @@ pub was_there : (x y z : Bool) → x ≡ not y → y ≡ z → not x ≡ z
 was_there x true z is same = rw (is, ← same) refl
 was_there x false z is same = rw (is, ← same) refl
 
-pub flags_step : {A : Type 0} (p : A → Bool) (xs : List A) (i : ℕ) (x : A) (flags more : List Bool) (b : Bool) → i < length xs → x ≡ get_or xs i x → b ≡ p x → more ≡ flags ++ b ∷ [] →
-    flags ≡ map p (take i xs) → more ≡ map p (take (i + 1) xs)
-flags_step p xs i x flags more b within is flag pushed so_far =
-    let one : i + 1 ≡ suc i = omega arith in
-    let split : take (i + 1) xs ≡ take i xs ++ x ∷ [] = rw one (take-suc xs i x within ∙ ap (λ m. take i xs ++ m ∷ []) (sym is)) in
-    rw (pushed, so_far, flag, split) (sym (map_last p (take i xs) x)) where
-      map_last : {A : Type 0} (p : A → Bool) (xs : List A) (x : A) → map p (xs ++ x ∷ []) ≡ map p xs ++ p x ∷ []
-      map_last p [] x = refl
-      map_last p (y ∷ ys) x = ap (λ t. p y ∷ t) (map_last p ys x)
+pub same_flags : {A : Type 0} (p r : A → Bool) (xs : List A) → ((x : A) → p x ≡ r x) → map p xs ≡ map r xs
+same_flags p r [] are = refl
+same_flags p r (x ∷ xs) are = rw (are x) (ap (λ t. r x ∷ t) (same_flags p r xs are))
 
 -- ---- the rule on FDs
 

@@ -18,12 +18,12 @@ abbrev pub IsAnswer : Tree → Result Layout DataEnd → Type 0
 IsAnswer t (Ok l) = HasLayout t × (l ≡ layout t)
 IsAnswer t (Err end) = IsCause t end
 
--- refused for this reason, or for want of memory
+-- the tree is refused for this reason, or for want of memory
 abbrev pub IsRefused : Result Layout DataEnd → DataEnd → Type 0
 IsRefused (Ok l) end = ⊥
 IsRefused (Err e) end = (e ≡ end) ⊎ (e ≡ data_end.Memory)
 
--- not refused, but for want of memory
+-- the tree is refused for no reason but want of memory
 abbrev pub IsAccepted : Result Layout DataEnd → Type 0
 IsAccepted (Ok l) = Unit {0}
 IsAccepted (Err e) = e ≡ data_end.Memory

@@ -3,7 +3,7 @@ use crate::layout::Sender;
 use cob_tree::{Form, Many, Name, Usage};
 
 /// Where an entry stands: below a file's FD, by the place of this, or in working storage.
-#[derive(Clone, Copy, Debug, PartialEq, Eq)]
+#[derive(Clone, Copy, PartialEq, Eq)]
 pub enum Area {
     File(u32),
     Storage,

@@ -57,7 +57,7 @@ pub enum Which {
 }
 
 /// Why a tree has no layout.
-#[derive(Clone, Copy, Debug, PartialEq, Eq)]
+#[derive(Clone, Copy, PartialEq, Eq)]
 pub enum DataEnd {
     /// A rule is broken, at this line first.
     Outside { rule: Rule, line: u32 },

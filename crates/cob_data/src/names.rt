@@ -108,11 +108,14 @@ fn external_names(alloc: Global, selects: &[Select]) -> Result<Vec<Name>, AllocE
 
 // ---- names that stand twice, and names among others
 
-/// For each name whether it stands among those before it.
-fn repeats(alloc: Global, names: &[Name]) -> Result<Vec<bool>, AllocError>
+fn flag_repeats(
+    seen: &mut IndexSet<Vec<u8>>,
+    alloc: Global,
+    names: &[Name],
+) -> Result<Vec<bool>, AllocError>
+    requires { seen.old.keys ≡ [] }
     ensures { IfOk result (λ v. v.items ≡ repeats [] names.now) }
 {
-    let mut seen = IndexSet::new(alloc);
     let mut repeated = Vec::new(alloc);
     for place in 0..names.len() {
         let key = Vec::from_slice(alloc, names[place].get())?;
@@ -122,28 +125,47 @@ fn repeats(alloc: Global, names: &[Name]) -> Result<Vec<bool>, AllocError>
     Ok(repeated)
 }
 
-fn set_of(alloc: Global, names: &[Name]) -> Result<IndexSet<Vec<u8>>, AllocError>
-    ensures { IfOk result (λ s. (q : List ℕ) → list_any (λ k. bytes_eq q k.items) s.keys ≡ stands_in names.now q) }
+/// For each name whether it stands among those before it.
+fn repeats(alloc: Global, names: &[Name]) -> Result<Vec<bool>, AllocError>
+    ensures { IfOk result (λ v. v.items ≡ repeats [] names.now) }
 {
-    let mut set = IndexSet::new(alloc);
+    let mut seen = IndexSet::new(alloc);
+    flag_repeats(&mut seen, alloc, names)
+}
+
+fn put_names(set: &mut IndexSet<Vec<u8>>, alloc: Global, names: &[Name]) -> Result<(), AllocError>
+    requires { set.old.keys ≡ [] }
+    ensures { OnOk result ((q : List ℕ) → list_any (λ k. bytes_eq q k.items) set.new.keys ≡ stands_in names.now q) }
+{
     for place in 0..names.len() {
         let key = Vec::from_slice(alloc, names[place].get())?;
         set.insert(key)?;
     }
-    Ok(set)
+    Ok(())
 }
 
-/// For each name whether it stands among the others.
-fn are_among(alloc: Global, others: &[Name], names: &[Name]) -> Result<Vec<bool>, AllocError>
-    ensures { IfOk result (λ v. v.items ≡ map (stands_in others.now) names.now) }
+fn flag_found(
+    set: &IndexSet<Vec<u8>>,
+    alloc: Global,
+    names: &[Name],
+) -> Result<Vec<bool>, AllocError>
+    ensures { IfOk result (λ v. v.items ≡ map (λ q. list_any (λ k. bytes_eq q k.items) set.now.keys) names.now) }
 {
-    let set = set_of(alloc, others)?;
     let mut found = Vec::new(alloc);
     for name in names {
         let is_there = set.contains(name.get());
         found.push(is_there)?;
     }
     Ok(found)
+}
+
+/// For each name whether it stands among the others.
+fn are_among(alloc: Global, others: &[Name], names: &[Name]) -> Result<Vec<bool>, AllocError>
+    ensures { IfOk result (λ v. v.items ≡ map (stands_in others.now) names.now) }
+{
+    let mut set = IndexSet::new(alloc);
+    put_names(&mut set, alloc, others)?;
+    flag_found(&set, alloc, names)
 }
 
 // ---- FILE STATUS
@@ -182,15 +204,19 @@ fn note_item(
     }
 }
 
-/// For each name of items whether it names a single one, which may hold a status.
-fn status_items(alloc: Global, items: &[Description]) -> Result<IndexMap<Vec<u8>, bool>, AllocError>
-    ensures { IfOk result (λ m. (q : List ℕ) → unwrap_or (get_by (λ k. bytes_eq q k.items) m) false ≡ is_status_item q items.now) }
+/// Notes for each name of items whether it names a single one, which may hold a status.
+fn note_items(
+    notes: &mut IndexMap<Vec<u8>, bool>,
+    alloc: Global,
+    items: &[Description],
+) -> Result<(), AllocError>
+    requires { notes.old.entries ≡ [] }
+    ensures { OnOk result ((q : List ℕ) → unwrap_or (get_by (λ k. bytes_eq q k.items) notes.new) false ≡ is_status_item q items.now) }
 {
-    let mut notes = IndexMap::new(alloc);
     for place in 0..items.len() {
-        note_item(&mut notes, alloc, &items[place])?;
+        note_item(notes, alloc, &items[place])?;
     }
-    Ok(notes)
+    Ok(())
 }
 
 fn is_noted(notes: &IndexMap<Vec<u8>, bool>, name: &[u8]) -> bool
@@ -211,6 +237,21 @@ fn is_wrong_status(notes: &IndexMap<Vec<u8>, bool>, name: Option<&Name>) -> bool
     }
 }
 
+fn flag_wrong_statuses(
+    notes: &IndexMap<Vec<u8>, bool>,
+    alloc: Global,
+    selects: &[Select],
+) -> Result<Vec<bool>, AllocError>
+    ensures { IfOk result (λ v. (items : List Description) → ((q : List ℕ) → unwrap_or (get_by (λ k. bytes_eq q k.items) notes.now) false ≡ is_status_item q items) → v.items ≡ map (breaks_status items) selects.now) }
+{
+    let mut wrong = Vec::new(alloc);
+    for select in selects {
+        let is_wrong = is_wrong_status(notes, status_of(select));
+        wrong.push(is_wrong)?;
+    }
+    Ok(wrong)
+}
+
 fn wrong_statuses(
     alloc: Global,
     items: &[Description],
@@ -218,13 +259,9 @@ fn wrong_statuses(
 ) -> Result<Vec<bool>, AllocError>
     ensures { IfOk result (λ v. v.items ≡ map (breaks_status items.now) selects.now) }
 {
-    let notes = status_items(alloc, items)?;
-    let mut wrong = Vec::new(alloc);
-    for select in selects {
-        let is_wrong = is_wrong_status(&notes, status_of(select));
-        wrong.push(is_wrong)?;
-    }
-    Ok(wrong)
+    let mut notes = IndexMap::new(alloc);
+    note_items(&mut notes, alloc, items)?;
+    flag_wrong_statuses(&notes, alloc, selects)
 }
 
 // ---- all of them

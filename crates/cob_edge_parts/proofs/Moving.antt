@@ -13,6 +13,7 @@ use Rattle.cob_tree.specs.declared.fault.Kind.{Kind}
 use Rattle.cob_tree.specs.declared.fault.Kind.TheVariants as kind
 use Rattle.cob_tree.specs.declared.form.Form.{Form}
 use Rattle.cob_tree.specs.declared.form.Form.TheVariants as form
+use Rattle.cob_tree.specs.Forms.{is_number_form}
 use Rattle.cob_data.specs.declared.layout.Item.{Item}
 use Rattle.cob_data.specs.declared.layout.Layout.{Layout}
 use Rattle.cob_data.specs.declared.layout.Sender.{Sender}
@@ -21,7 +22,6 @@ use Rattle.cob_program.specs.Values as value
 use Rattle.cob_runs.specs.Contents.{written, fitted, item_at, form_at, length_at, bytes_at, filled_at, number_in, stored}
 use Rattle.cob_runs.specs.Faults.{◌>>=◌, or_fault}
 use Rattle.cob_runs.specs.Moves.{is_group_sender, as_digits, item_text, number_of, text_of, raw_text, moved_number, moved_text, moved_amount, moved, moved_to, after_move}
-use Rattle.cob_runs.specs.Deciding.{is_number_form}
 use Rattle.cob_edge_parts.specs.Parts as part
 use Rattle.cob_edge_parts.specs.Parts.{Part, number_reads, is_number_item, gets_value, is_read_for, item_bytes, receiver_parts, receivers_parts, move_parts}
 use Rattle.cob_edge_parts.specs.Meaning.{Moment, changed_in, stored_bytes, PassesAll, Meets}

@@ -7,6 +7,7 @@ use Rattle.dec_num.specs.declared.types.Mode.{Mode}
 use Rattle.dec_num.specs.declared.types.Mode.TheVariants.{Trunc}
 use Rattle.cob_tree.specs.declared.form.Form.{Form}
 use Rattle.cob_tree.specs.declared.form.Form.TheVariants as form
+use Rattle.cob_tree.specs.Forms.{is_number_form}
 use Rattle.cob_data.specs.declared.layout.FileDecl.{FileDecl}
 use Rattle.cob_data.specs.declared.layout.Layout.{Layout}
 use Rattle.cob_data.specs.declared.layout.Pair.{Pair}
@@ -25,7 +26,6 @@ use Rattle.cob_runs.specs.declared.action.Action.TheVariants as action
 use Rattle.cob_runs.specs.Contents.{form_at, item_at, scale_of, number_in}
 use Rattle.cob_runs.specs.Moves.{takes_number, is_group_sender}
 use Rattle.cob_runs.specs.Computing.{items_in}
-use Rattle.cob_runs.specs.Deciding.{is_number_form}
 use Rattle.cob_runs.specs.Acts.{decl_at, file_from}
 use Rattle.cob_runs.specs.Effects.{is_times, tests_in_act}
 use Rattle.cob_runs.specs.Steps.{is_given}

@@ -1,6 +1,6 @@
 -- A search finds what is reached, and nothing else.
-use Rattle.std.proofs.Common.{◌≡◌, ◌≢◌, ℕ, ◌+◌, ◌-◌, ◌*◌, ◌<◌, ◌≤◌, zero, suc, min, Bool, true, false, ◌&&◌, ◌||◌, ◌⊎◌, inl, inr, ⊎_elim, List, [], ◌∷◌, ◌++◌, length, set, replicate, get_or, map, take, if◌then◌else◌, refl, sym, ap, ◌∙◌, subst, arith}
-use Rattle.std.proofs.lemmas.List.{length-set, length-append, length-map, length-replicate, get_or-set_same, get_or-set_other, get_or_append_left, get_or-append_right, get_or-replicate, get_or-map, get_or_default, map_push}
+use Rattle.std.proofs.Common.{◌≡◌, ◌≢◌, ℕ, ◌+◌, ◌-◌, ◌<◌, ◌≤◌, zero, suc, min, Bool, true, false, ◌||◌, ◌⊎◌, inl, inr, ⊎_elim, List, [], ◌∷◌, ◌++◌, length, set, replicate, get_or, map, take, if◌then◌else◌, Option, Some, None, refl, sym, ap, ◌∙◌, subst, arith}
+use Rattle.std.proofs.lemmas.List.{length-set, length-append, length-map, length-replicate, get_or-set_same, get_or-set_other, get_or_append_left, get_or-append_right, get_or-replicate, set-get_or}
 use Rattle.std.proofs.lemmas.List.Sums.{sum_by-set}
 use Rattle.std.proofs.lemmas.List.Folds.{sum_by-replicate}
 use Rattle.std.proofs.lemmas.Bool.{cases_order, cases_lt}
@@ -8,8 +8,8 @@ use Rattle.std.specs.List.{sum_by}
 use Rattle.cob_graph.specs.declared.calls.Call as declared_call
 use Rattle.cob_graph.specs.declared.reach.Hull.{Hull}
 use Rattle.cob_graph.specs.Listing.{plain_call, plain_span}
-use Rattle.cob_graph.specs.Nesting.{Span, Call, IsIn}
-use Rattle.cob_graph.specs.Reaching.{is_in, blank, call_at, has_within, has_call, through, is_marked, unmarked, is_part, IsRow, IsHull, AreHulls, IsNoted, IsSearch, IsReached, IsListed, IsLooked, IsLookedAt, IsClosed, IsSearchTo}
+use Rattle.cob_graph.specs.Nesting.{Span, Call}
+use Rattle.cob_graph.specs.Reaching.{is_in, call_at, has_within, has_call, through, is_marked, unmarked, is_part, IsRow, IsHull, AreHulls, IsNoted, IsSearch, IsReached, IsListed, IsLooked, IsLookedAt, IsClosed, IsSearchTo, AreRows, AreTaken, IsFollowed}
 use Rattle.std.specs.Prelude.{nat_le}
 use Rattle.cob_graph.proofs.BoolLemmas.{and_true, le_is, in_is, is_in_from}
 use Rattle.cob_graph.proofs.LeastLemmas.{call_read}
@@ -77,6 +77,13 @@ hulls_more cs at hulls more hull are is made = record {
       subst (λ n. IsHull cs (call_at cs n).span (get_or more i d)) (sym same) (subst (IsHull cs (call_at cs at).span) (sym last) is))
       (cases_lt i at);
 }
+
+-- the hull of the range of a call, as contracts see it
+pub hull_read : (calls : List declared_call.Call) (i : ℕ) (d : declared_call.Call) (hull : Hull) → i < length calls →
+    IsHull (map plain_call calls) (plain_span (get_or calls i d).span) hull →
+    IsHull (map plain_call calls) (call_at (map plain_call calls) i).span hull
+hull_read calls i d hull within is =
+    subst (λ s. IsHull (map plain_call calls) s hull) (ap (λ (x : Call). x.span) (call_read calls i d within)) is
 
 -- ---- one call more
 
@@ -277,18 +284,15 @@ module _ (cs : List Call) (s : Span) (from : ℕ) (marks : List Bool) (found : L
       let h = in_is (call_at cs k).para (call_at cs j).span has in
       is_in_from (call_at cs k).para s (record { from = omega (arith, le_is _ _ p.0, h.from); to = omega (arith, le_is _ _ p.1, h.to) })
 
-  -- what is marked then is listed, or its range has no other calls
+  -- what is marked then was so before, or is listed, or its range has no other calls
   pub looked_listed : (hull : Hull) (more : List Bool) (all : List ℕ) → IsHull cs s hull → IsLooked cs s hull.from hull.end marks found more all →
-      ((j : ℕ) → j < length cs → is_marked marks j ≡ true → IsListed found j ⊎ IsClosed cs marks j) →
-      (j : ℕ) → j < length cs → is_marked more j ≡ true → IsListed all j ⊎ IsClosed cs more j
-  looked_listed hull more all hulls is old j h e =
-      ⊎_elim
-      (λ (o : is_marked marks j ≡ true).
-      ⊎_elim (λ (l : IsListed found j). inl (l.0, omega (arith, l.1, is.longer), is.order l.0 l.1 ∙ l.2)) (λ (c : IsClosed cs marks j). inr (λ k g has. is.kept k (c k g has))) (old j h o))
+      (j : ℕ) → is_marked more j ≡ true → (is_marked marks j ≡ true) ⊎ (IsListed all j ⊎ IsClosed cs more j)
+  looked_listed hull more all hulls is j e =
+      ⊎_elim (λ (o : is_marked marks j ≡ true). inl o)
       (λ (n : IsListed all j ⊎ (is_part (call_at cs j).span s ≡ true)).
-      ⊎_elim (λ (l : IsListed all j). inl l)
+      inr (⊎_elim (λ (l : IsListed all j). inl l)
       (λ (p : is_part (call_at cs j).span s ≡ true).
-      inr (λ k g has. let within = part_has j k p has in let at = hulls.has k g within in is.met k at.0 at.1 within)) n)
+      inr (λ k g has. let within = part_has j k p has in let at = hulls.has k g within in is.met k at.0 at.1 within)) n))
       (is.listed j e)
 
 -- ---- the range of a call
@@ -312,6 +316,131 @@ looked_at calls hulls place c d marks more found all are within looked =
       subst (λ s. IsLooked (map plain_call calls) s hull.from hull.end marks found more all) span looked,
     )
 
+-- ---- a row that is known
+
+module _ (row : List Bool) (at : ℕ) (marks more : List Bool) (within : at < length more) (is : AreTaken row at marks more) where
+  taken_set : (is_marked more at ≡ true) ⊎ (is_marked row at ≡ true) → AreTaken row (at + 1) marks (set more at true)
+  taken_set from = record {
+    wide = length-set more at true ∙ is.wide;
+    fewer = let sums = sum_by-set unmarked more at true false within in omega (arith, sums, is.fewer);
+    kept = λ j e. set_keeps more at j within (is.kept j e);
+    met = λ j h e.
+        ⊎_elim (λ (g : j < at). set_keeps more at j within (is.met j g e))
+        (λ (g : at ≤ j). let here : j ≡ at = omega (arith, g, h) in ap (λ n. is_marked (set more at true) n) here ∙ get_or-set_same more at true false within)
+        (cases_lt j at);
+    said = λ j e.
+        ⊎_elim
+        (λ (g : j ≡ at).
+        ⊎_elim (λ (m : is_marked more at ≡ true). is.said j (ap (is_marked more) g ∙ m)) (λ (r : is_marked row at ≡ true). inr (ap (is_marked row) g ∙ r)) from)
+        (λ (g : is_marked more j ≡ true). is.said j g) (set_says more at j e);
+  }
+
+  taken_same : is_marked row at ≡ false → AreTaken row (at + 1) marks more
+  taken_same out = record {
+    wide = is.wide;
+    fewer = is.fewer;
+    kept = is.kept;
+    met = λ j h e.
+        ⊎_elim (λ (g : j < at). is.met j g e)
+        (λ (g : at ≤ j). let here : j ≡ at = omega (arith, g, h) in let both : is_marked row at ≡ true = ap (is_marked row) (sym here) ∙ e in absurd (cc))
+        (cases_lt j at);
+    said = is.said;
+  }
+
+  taken_by : (m r : Bool) → is_marked more at ≡ m → is_marked row at ≡ r → AreTaken row (at + 1) marks (set more at (m || r))
+  taken_by true r e f = taken_set (inl e)
+  taken_by false true e f = taken_set (inr f)
+  taken_by false false e f =
+      let same : set more at false ≡ more = ap (set more at) (sym e) ∙ set-get_or more at false in
+      subst (λ ms. AreTaken row (at + 1) marks ms) (sym same) (taken_same f)
+
+  pub taken_one : (value : Bool) → value ≡ (is_marked more at || is_marked row at) → AreTaken row (at + 1) marks (set more at value)
+  taken_one value e =
+      subst (λ v. AreTaken row (at + 1) marks (set more at v)) (sym e) (taken_by (is_marked more at) (is_marked row at) refl refl)
+
+pub taken_none : (row marks : List Bool) → AreTaken row 0 marks marks
+taken_none row marks = record {
+  wide = refl;
+  fewer = omega arith;
+  kept = λ j e. e;
+  met = λ j h e. absurd (omega (arith, h));
+  said = λ j e. inl e;
+}
+
+module _ (cs : List Call) (place : ℕ) (within : place < length cs) (marks : List Bool) (found : List ℕ) (more : List Bool) where
+  pub followed_row : (row : List Bool) → length marks ≡ length cs → IsRow cs place row → AreTaken row (length marks) marks more →
+      IsFollowed cs place marks found more found
+  followed_row row wide is taken =
+      let has : (j k : ℕ) → j < length cs → k < length cs → through cs (length cs) place j ≡ true → has_call cs j k ≡ true → is_marked more k ≡ true =
+      λ j k h g goes e.
+      taken.met k (omega (arith, g, wide))
+      (is.marks k g
+      ∙ goes_onward cs (length cs) j place k h goes (goes_directly cs (length cs) j k (in_is (call_at cs k).para (call_at cs j).span e))) in record {
+        search = λ start goes old. record {
+          wide = taken.wide ∙ old.wide;
+          reached = λ j h e.
+              ⊎_elim (λ (o : is_marked marks j ≡ true). old.reached j h o)
+              (λ (r : is_marked row j ≡ true). goes_onward cs (length cs) place start j within goes (sym (is.marks j h) ∙ r)) (taken.said j e);
+          marked = λ i h. let known = old.marked i h in (known.0, taken.kept (get_or found i 0) known.1);
+          room = omega (arith, taken.fewer, old.room);
+        };
+        kept = taken.kept;
+        longer = omega arith;
+        order = λ i h. refl;
+        closed = λ j h e.
+            taken.met j (omega (arith, h, wide))
+            (is.marks j h ∙ goes_directly cs (length cs) place j (in_is (call_at cs j).para (call_at cs place).span e));
+        listed = λ j h e.
+            ⊎_elim (λ (o : is_marked marks j ≡ true). inl o)
+            (λ (r : is_marked row j ≡ true). inr (inr (λ k g e_k. has j k h g (sym (is.marks j h) ∙ r) e_k))) (taken.said j e);
+      }
+
+  pub followed_looked : (all : List ℕ) → IsLookedAt cs place marks found more all → IsFollowed cs place marks found more all
+  followed_looked all at =
+      let hull = at.0 in
+      let is = at.1 in
+      let looked = at.2 in record {
+        search = λ start goes old.
+            looked.search start
+            (record {
+              calls = λ j h e.
+                  goes_onward cs (length cs) place start j within goes
+                  (goes_directly cs (length cs) place j (in_is (call_at cs j).para (call_at cs place).span e));
+            })
+            old;
+        kept = looked.kept;
+        longer = looked.longer;
+        order = looked.order;
+        closed = λ j h e. let in_hull = is.has j h e in looked.met j in_hull.0 in_hull.1 e;
+        listed = λ j h e. looked_listed cs (call_at cs place).span hull.from marks found hull more all is looked j e;
+      }
+
+-- the rows of the first calls
+pub record AreRowsTo (cs : List Call) (at : ℕ) (all : List (Option (List Bool))) : Type 0 where
+  pub count : length all ≡ at
+  pub rows : AreRows cs all
+
+pub rows_none : (cs : List Call) (rows : List (Option (List Bool))) → rows ≡ [] → AreRowsTo cs 0 rows
+rows_none cs rows e = record { count = ap length e; rows = λ i row is. let none = ap (λ rs. get_or rs i None) e in absurd (cc) }
+
+last_row : (new : Option (List Bool)) (k : ℕ) (row : List Bool) → get_or (new ∷ []) k None ≡ Some row → (k ≡ 0) × (new ≡ Some row)
+last_row new zero row e = (refl, e)
+last_row new (suc k) row e = absurd (cc)
+
+pub rows_more : (cs : List Call) (at : ℕ) (rows more : List (Option (List Bool))) (new : Option (List Bool)) → AreRowsTo cs at rows →
+    ((row : List Bool) → new ≡ Some row → IsRow cs at row) → more ≡ rows ++ new ∷ [] → AreRowsTo cs (at + 1) more
+rows_more cs at rows more new are is made = record {
+  count = ap length made ∙ length-append rows (new ∷ []) ∙ ap (λ n. n + 1) are.count;
+  rows = λ i row e.
+      let read = ap (λ rs. get_or rs i None) made in
+      ⊎_elim (λ (g : i < at). are.rows i row (sym (read ∙ get_or_append_left rows (new ∷ []) None i (omega (arith, g, are.count))) ∙ e))
+      (λ (g : at ≤ i).
+      let last = last_row new (i - at) row (sym (read ∙ get_or-append_right rows (new ∷ []) at i None are.count g) ∙ e) in
+      let same : i ≡ at = omega (arith, g, last.0) in
+      subst (λ n. IsRow cs n row) (sym same) (is row last.1))
+      (cases_lt i at);
+}
+
 -- ---- the search
 
 module _ (cs : List Call) (start : ℕ) where
@@ -326,16 +455,8 @@ module _ (cs : List Call) (start : ℕ) where
         room = let sum = ap (sum_by unmarked) made ∙ sum_by-replicate unmarked (length cs) false in omega (arith, sum);
       }
 
-  -- ranges of the start and of what is reached
   reached_first : IsReached cs start (call_at cs start).span
   reached_first = record { calls = λ j h e. goes_directly cs (length cs) start j (in_is (call_at cs j).para (call_at cs start).span e) }
-
-  reached_next : (place : ℕ) → place < length cs → through cs (length cs) start place ≡ true → IsReached cs start (call_at cs place).span
-  reached_next place within goes = record {
-    calls = λ j h e.
-        goes_onward cs (length cs) place start j within goes
-        (goes_directly cs (length cs) place j (in_is (call_at cs j).para (call_at cs place).span e));
-  }
 
   pub search_first : (marks more : List Bool) (found all : List ℕ) → found ≡ [] → marks ≡ replicate (length cs) false →
       IsLookedAt cs start marks found more all → IsSearchTo cs start 0 more all
@@ -347,34 +468,37 @@ module _ (cs : List Call) (start : ℕ) where
         search = looked.search start reached_first (search_none marks made);
         first = λ j h e. let in_hull = is.has j h e in looked.met j in_hull.0 in_hull.1 e;
         later = λ i below h j g e. absurd (omega (arith, below));
-        listed = looked_listed cs (call_at cs start).span hull.from marks [] hull more all is looked
-            (λ j h e. let un = ap (λ ms. is_marked ms j) made ∙ get_or-replicate (length cs) j false false h in absurd (cc));
+        listed = λ j h e.
+            ⊎_elim
+            (λ (o : is_marked marks j ≡ true). let un = ap (λ ms. is_marked ms j) made ∙ get_or-replicate (length cs) j false false h in absurd (cc))
+            (λ (n : IsListed all j ⊎ IsClosed cs more j). n)
+            (looked_listed cs (call_at cs start).span hull.from marks [] hull more all is looked j e);
       }
 
   pub search_next : (next place : ℕ) (marks more : List Bool) (found all : List ℕ) → next < length found → place ≡ get_or found next 0 →
-      IsLookedAt cs place marks found more all → IsSearchTo cs start next marks found → IsSearchTo cs start (next + 1) more all
-  search_next next place marks more found all within read at old =
-      let hull = at.0 in
-      let is = at.1 in
-      let looked = at.2 in
+      IsFollowed cs place marks found more all → IsSearchTo cs start next marks found → IsSearchTo cs start (next + 1) more all
+  search_next next place marks more found all within read is old =
       let known = old.search.marked next within in
       let inside : place < length cs = subst (λ n. n < length cs) (sym read) known.0 in
       let goes = old.search.reached place inside (subst (λ n. is_marked marks n ≡ true) (sym read) known.1) in record {
-        search = looked.search start (reached_next place inside goes) old.search;
-        first = λ j h e. looked.kept j (old.first j h e);
+        search = is.search start goes old.search;
+        first = λ j h e. is.kept j (old.first j h e);
         later = λ i below h j g e.
             ⊎_elim
             (λ (k : i < next).
-            let same = looked.order i (omega (arith, k, within)) in
-            looked.kept j (old.later i k (omega (arith, k, within)) j g (subst (λ n. has_call cs n j ≡ true) same e)))
+            let same = is.order i (omega (arith, k, within)) in
+            is.kept j (old.later i k (omega (arith, k, within)) j g (subst (λ n. has_call cs n j ≡ true) same e)))
             (λ (k : next ≤ i).
             let here : i ≡ next = omega (arith, k, below) in
-            let same : get_or all i 0 ≡ place = ap (λ n. get_or all n 0) here ∙ looked.order next within ∙ sym read in
-            let has = subst (λ n. has_call cs n j ≡ true) same e in
-            let in_hull = is.has j g has in
-            looked.met j in_hull.0 in_hull.1 has)
+            let same : get_or all i 0 ≡ place = ap (λ n. get_or all n 0) here ∙ is.order next within ∙ sym read in
+            is.closed j g (subst (λ n. has_call cs n j ≡ true) same e))
             (cases_lt i next);
-        listed = looked_listed cs (call_at cs place).span hull.from marks found hull more all is looked old.listed;
+        listed = λ j h e.
+            ⊎_elim
+            (λ (o : is_marked marks j ≡ true).
+            ⊎_elim (λ (l : IsListed found j). inl (l.0, omega (arith, l.1, is.longer), is.order l.0 l.1 ∙ l.2))
+            (λ (c : IsClosed cs marks j). inr (λ k g has. is.kept k (c k g has))) (old.listed j h o))
+            (λ (n : IsListed all j ⊎ IsClosed cs more j). n) (is.listed j h e);
       }
 
   -- what is reached is marked in the end

@@ -1,5 +1,5 @@
 -- Which ranges perform which, by the places of their calls, and the search for them.
-use Rattle.std.specs.Prelude.{◌≡◌, ◌<◌, ◌≤◌, ◌⊎◌, ◌+◌, ℕ, zero, suc, Bool, true, false, ◌&&◌, ◌||◌, nat_le, List, [], ◌∷◌, ◌++◌, length, set, slice_index_or, if◌then◌else◌}
+use Rattle.std.specs.Prelude.{◌≡◌, ◌<◌, ◌≤◌, ◌⊎◌, ◌+◌, ℕ, zero, suc, Bool, true, false, ◌&&◌, ◌||◌, nat_le, List, [], ◌∷◌, ◌++◌, length, set, slice_index_or, if◌then◌else◌, Option, Some, None}
 use Rattle.std.specs.List.{sum_by}
 use Rattle.cob_graph.specs.Nesting.{Span, Call}
 use Rattle.cob_graph.specs.declared.reach.Hull.{Hull}
@@ -34,6 +34,10 @@ is_marked marks j = slice_index_or marks j false
 pub record IsRow (cs : List Call) (start : ℕ) (row : List Bool) : Type 0 where
   pub wide : length row ≡ length cs
   pub marks : (j : ℕ) → j < length cs → is_marked row j ≡ through cs (length cs) start j
+
+-- rows of some of the first calls
+abbrev pub AreRows : List Call → List (Option (List Bool)) → Type 0
+AreRows cs rows = (i : ℕ) (row : List Bool) → slice_index_or rows i None ≡ Some row → IsRow cs i row
 
 -- ---- where the calls of a range stand
 
@@ -95,6 +99,24 @@ IsLookedAt cs place marks found more all =
 -- a range has no other calls than those that are marked
 abbrev pub IsClosed : List Call → List Bool → ℕ → Type 0
 IsClosed cs marks i = (j : ℕ) → j < length cs → has_call cs i j ≡ true → is_marked marks j ≡ true
+
+-- what a row has at places below another is marked as well
+pub record AreTaken (row : List Bool) (at : ℕ) (marks more : List Bool) : Type 0 where
+  pub wide : length more ≡ length marks
+  pub fewer : sum_by unmarked more ≤ sum_by unmarked marks
+  pub kept : (j : ℕ) → is_marked marks j ≡ true → is_marked more j ≡ true
+  pub met : (j : ℕ) → j < at → is_marked row j ≡ true → is_marked more j ≡ true
+  pub said : (j : ℕ) → is_marked more j ≡ true → (is_marked marks j ≡ true) ⊎ (is_marked row j ≡ true)
+
+-- the calls in the range of one that is reached are marked, and of those that are marked with them each is listed, or its
+-- range has no others
+pub record IsFollowed (cs : List Call) (place : ℕ) (marks : List Bool) (found : List ℕ) (more : List Bool) (all : List ℕ) : Type 0 where
+  pub search : (start : ℕ) → through cs (length cs) start place ≡ true → IsSearch cs start marks found → IsSearch cs start more all
+  pub kept : (j : ℕ) → is_marked marks j ≡ true → is_marked more j ≡ true
+  pub longer : length found ≤ length all
+  pub order : (i : ℕ) → i < length found → slice_index_or all i 0 ≡ slice_index_or found i 0
+  pub closed : IsClosed cs more place
+  pub listed : (j : ℕ) → j < length cs → is_marked more j ≡ true → (is_marked marks j ≡ true) ⊎ (IsListed all j ⊎ IsClosed cs more j)
 
 -- those of the start and of the first that were to be looked at haven't, nor those of marked ones that aren't to be looked at
 pub record IsSearchTo (cs : List Call) (start next : ℕ) (marks : List Bool) (found : List ℕ) : Type 0 where

@@ -9,14 +9,14 @@ use cob_program::{Act, Body, Program, Stmt};
 use std::alloc::{AllocError, Global};
 
 /// The paragraphs from one to another, by their places.
-#[derive(Clone, Copy, Debug)]
+#[derive(Clone, Copy)]
 pub struct Span {
     pub first: u32,
     pub last: u32,
 }
 
 /// A PERFORM of a range: its line, the place of its paragraph, its range.
-#[derive(Clone, Copy, Debug)]
+#[derive(Clone, Copy)]
 pub struct Call {
     pub line: u32,
     pub para: usize,
@@ -24,7 +24,7 @@ pub struct Call {
 }
 
 /// A GO TO: its line, the place of its paragraph, and where it goes.
-#[derive(Clone, Copy, Debug)]
+#[derive(Clone, Copy)]
 pub struct Jump {
     pub line: u32,
     pub para: usize,

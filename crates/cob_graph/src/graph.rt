@@ -12,7 +12,7 @@ pub struct Node {
 }
 
 /// A way from a node to another.
-#[derive(Clone, Copy, Debug, PartialEq, Eq)]
+#[derive(Clone, Copy, PartialEq, Eq)]
 pub struct Edge {
     pub from: u32,
     pub to: u32,

@@ -7,14 +7,14 @@ ghost use Rattle.cob_program.specs.ActView.{plain_program};
 ghost use Rattle.cob_graph.specs.Nesting as spec;
 ghost use Rattle.cob_graph.specs.Nesting.{IsNested, IsOutside};
 ghost use Rattle.cob_graph.specs.Listing.{plain_span, plain_call, plain_jump, plain_found};
-ghost use Rattle.cob_graph.specs.Reaching.{IsRow, AreHulls};
+ghost use Rattle.cob_graph.specs.Reaching.{IsRow, AreRows, AreHulls};
 ghost use Rattle.cob_graph.specs.Covering.{Covers};
 ghost use Rattle.cob_graph.specs.Broken.{least_below, is_crossing, is_leaving, cycle_at, crossing_at, crossings, leaving_at, leavings, reversed_at, told, IsFirst, answer_of};
 
 use crate::calls::{Call, Found, Jump, Span};
 use crate::distinct::distinct;
 use crate::end::FlowEnd;
-use crate::reach::{Hull, Row, hulls_of, reached};
+use crate::reach::{Hull, Row, hulls_of, reached, rows_of};
 use cob_data::Rule;
 use cob_program::Program;
 use rule_order::{lesser, noted};
@@ -72,8 +72,14 @@ struct Reached {
 }
 
 /// Those that the rows tell, one row after another.
-fn first_reached(alloc: Global, calls: &[Call], hulls: &[Hull]) -> Result<Reached, AllocError>
-    requires { AreHulls (map plain_call calls.now) hulls.now }
+fn first_reached(
+    alloc: Global,
+    calls: &[Call],
+    hulls: &[Hull],
+    rows: &[Option<Row>],
+) -> Result<Reached, AllocError>
+    requires hulls { AreHulls (map plain_call calls.now) hulls.now }
+    requires rows { AreRows (map plain_call calls.now) rows.now }
     ensures cycle { IfOk result (λ r. r.cycle ≡ least_below (cycle_at (map plain_call calls.now)) (length calls.now)) }
     ensures crossing { IfOk result
         (λ r. r.crossing ≡ least_below (crossings (map plain_call calls.now)) (length calls.now)) }
@@ -81,7 +87,7 @@ fn first_reached(alloc: Global, calls: &[Call], hulls: &[Hull]) -> Result<Reache
     let mut cycle = None;
     let mut crossing = None;
     for outer in 0..calls.len() {
-        let row = reached(alloc, calls, hulls, outer)?;
+        let row = reached(alloc, calls, hulls, rows, outer)?;
         cycle = noted(cycle, row.has(outer), calls[outer].line);
         crossing = lesser(crossing, crossings(calls, &row, outer));
     }
@@ -149,7 +155,8 @@ fn first_broken(
         → IsFirst (record { calls = all; jumps = map plain_jump jumps.now }) told) }
 {
     let hulls = hulls_of(alloc, calls)?;
-    let reached = first_reached(alloc, calls, &hulls)?;
+    let rows = rows_of(alloc, calls, &hulls)?;
+    let reached = first_reached(alloc, calls, &hulls, &rows)?;
     let leaving = first_leaving(calls, jumps);
     let reversed = first_reversed(calls);
     Ok(told(reached.cycle, reached.crossing, leaving, reversed))

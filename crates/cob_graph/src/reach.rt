@@ -1,8 +1,9 @@
 //! Which calls are reached from the range of which call: a search from each call, which looks at each range that it
-//! finds once, from the first call in it to the last, and at none that is part of the range that has its call.
-ghost use Rattle.std.specs.Prelude.{◌≡◌, ◌<◌, ◌≤◌, ℕ, false, length, map, replicate, slice_index_or, IfOk, OnOk};
+//! finds once, from the first call in it to the last, and at none that is part of the range that has its call. Where it
+//! finds one of some calls that were searched from first, it takes what is reached from there, and looks no further.
+ghost use Rattle.std.specs.Prelude.{◌≡◌, ◌<◌, ◌≤◌, ℕ, false, length, map, replicate, slice_index_or, IfOk, IfSome, OnOk};
 ghost use Rattle.cob_graph.specs.Listing.{plain_span, plain_call};
-ghost use Rattle.cob_graph.specs.Reaching.{is_in, is_part, IsRow, IsHull, AreHulls, IsNoted, IsLooked, IsLookedAt};
+ghost use Rattle.cob_graph.specs.Reaching.{is_in, is_part, IsRow, AreRows, IsHull, AreHulls, IsNoted, IsLooked, IsLookedAt, AreTaken, IsFollowed};
 
 use crate::calls::{Call, Span};
 use std::alloc::{AllocError, Global};
@@ -83,6 +84,16 @@ impl Row {
     {
         self.marks[place]
     }
+
+    /// Marks what is reached.
+    fn take(&self, marks: &mut [bool])
+        requires { length self.now ≡ length marks.old }
+        ensures { AreTaken self.now (length marks.old) marks.old marks.new }
+    {
+        for place in 0..marks.len() {
+            marks[place] = marks[place] || self.has(place);
+        }
+    }
 }
 
 /// Marks a call, which stands last of those that are to be looked at, unless it was marked before or is done with.
@@ -145,16 +156,42 @@ fn look_at(
     Ok(())
 }
 
+/// Marks the calls in the range of a call, or all that are reached from it where they are known.
+fn follow(
+    calls: &[Call],
+    hulls: &[Hull],
+    rows: &[Option<Row>],
+    place: usize,
+    marks: &mut [bool],
+    found: &mut Vec<usize>,
+) -> Result<(), AllocError>
+    requires place { place < length calls.now }
+    requires wide { length marks.old ≡ length calls.now }
+    requires hulls { AreHulls (map plain_call calls.now) hulls.now }
+    requires rows { AreRows (map plain_call calls.now) rows.now }
+    ensures { OnOk result
+        (IsFollowed (map plain_call calls.now) place marks.old found.old.items marks.new found.new.items) }
+{
+    if let Some(Some(row)) = rows.get(place) {
+        row.take(marks);
+        return Ok(());
+    }
+    look_at(calls, hulls, place, marks, found)?;
+    Ok(())
+}
+
 /// Marks the calls that are reached from a call, where none is marked yet.
 fn search(
     alloc: Global,
     calls: &[Call],
     hulls: &[Hull],
+    rows: &[Option<Row>],
     start: usize,
     marks: &mut [bool],
 ) -> Result<(), AllocError>
     requires start { start < length calls.now }
     requires hulls { AreHulls (map plain_call calls.now) hulls.now }
+    requires rows { AreRows (map plain_call calls.now) rows.now }
     requires none { marks.old ≡ replicate (length calls.now) false }
     ensures { OnOk result (IsRow (map plain_call calls.now) start marks.new) }
 {
@@ -165,7 +202,7 @@ fn search(
             return Ok(());
         }
         let place = found[next];
-        look_at(calls, hulls, place, marks, &mut found)?;
+        follow(calls, hulls, rows, place, marks, &mut found)?;
     }
     Ok(())
 }
@@ -175,13 +212,54 @@ pub fn reached(
     alloc: Global,
     calls: &[Call],
     hulls: &[Hull],
+    rows: &[Option<Row>],
     start: usize,
 ) -> Result<Row, AllocError>
     requires start { start < length calls.now }
     requires hulls { AreHulls (map plain_call calls.now) hulls.now }
+    requires rows { AreRows (map plain_call calls.now) rows.now }
     ensures { IfOk result (λ row. IsRow (map plain_call calls.now) start row) }
 {
     let mut marks = Vec::from_elem(alloc, false, calls.len())?;
-    search(alloc, calls, hulls, start, marks.as_mut_slice())?;
+    search(alloc, calls, hulls, rows, start, marks.as_mut_slice())?;
     Ok(Row { marks })
+}
+
+/// Rows are kept of no more calls than this.
+const MOST_ROWS: usize = 64;
+
+/// The row of a call, where it is one of those whose rows are kept, which stand as far apart as each other.
+fn row_if_kept(
+    alloc: Global,
+    calls: &[Call],
+    hulls: &[Hull],
+    rows: &[Option<Row>],
+    place: usize,
+) -> Result<Option<Row>, AllocError>
+    requires place { place < length calls.now }
+    requires hulls { AreHulls (map plain_call calls.now) hulls.now }
+    requires rows { AreRows (map plain_call calls.now) rows.now }
+    ensures { IfOk result (λ row. IfSome row (IsRow (map plain_call calls.now) place)) }
+{
+    if place % (calls.len() / MOST_ROWS + 1) != 0 {
+        return Ok(None);
+    }
+    let row = reached(alloc, calls, hulls, rows, place)?;
+    Ok(Some(row))
+}
+
+/// The rows that are kept.
+pub fn rows_of(
+    alloc: Global,
+    calls: &[Call],
+    hulls: &[Hull],
+) -> Result<Vec<Option<Row>>, AllocError>
+    requires { AreHulls (map plain_call calls.now) hulls.now }
+    ensures { IfOk result (λ rows. AreRows (map plain_call calls.now) rows.items) }
+{
+    let mut rows = Vec::new(alloc);
+    for place in 0..calls.len() {
+        rows.push(row_if_kept(alloc, calls, hulls, &rows, place)?)?;
+    }
+    Ok(rows)
 }

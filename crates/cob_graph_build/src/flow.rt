@@ -13,7 +13,6 @@ ghost use Rattle.cob_graph_build.specs.Tables.{is_in, main_paras, IsTable};
 use crate::cells::cells_of;
 use crate::counting::{Entry, plus, range_fits, range_size, table_of};
 use crate::laying::Laying;
-use crate::numbers::exact;
 use crate::within::Within;
 use cob_data::Which;
 use cob_graph::{Edge, FlowEnd, Graph, Node};
@@ -89,10 +88,7 @@ fn graph_with(
             count,
         });
     }
-    let Ok(last) = exact(count) else {
-        return Err(FlowEnd::Memory);
-    };
-    let Ok((nodes, edges)) = lay_all(alloc, program, table, paras, last) else {
+    let Ok((nodes, edges)) = lay_all(alloc, program, table, paras, count as u32) else {
         return Err(FlowEnd::Memory);
     };
     Ok(Graph {

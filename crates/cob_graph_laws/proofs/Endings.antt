@@ -4,9 +4,9 @@ use Rattle.std.specs.Prelude.{Contains}
 use Rattle.std.proofs.lemmas.Bool.{false≢true}
 use Rattle.std.proofs.lemmas.Option.{same_Some}
 use Rattle.cob_tree.specs.declared.fault.Kind.{Kind}
-use Rattle.cob_meaning.specs.declared.straight.Outcome.{Outcome}
-use Rattle.cob_meaning.specs.declared.straight.Outcome.TheVariants.{Ended, IoStop, Fault}
 use Rattle.cob_runs.specs.declared.action.Action.{Action}
+use Rattle.cob_runs.specs.declared.outcome.Outcome.{Outcome}
+use Rattle.cob_runs.specs.declared.outcome.Outcome.TheVariants.{Ended, IoStop, Fault}
 use Rattle.cob_runs.specs.State.{World}
 use Rattle.cob_runs.specs.Effects.{status, is_handled}
 use Rattle.cob_graph.specs.declared.graph.Node.{Node}

@@ -13,7 +13,7 @@ use Rattle.cob_program.specs.declared.act.How.TheVariants as how
 use Rattle.cob_program.specs.Sum.{Sum, MkSum, no_parts, more_parts, MkPart, no_factors, more_factors, MkFactor, item, number}
 use Rattle.cob_program.specs.Logic.{test}
 use Rattle.cob_program.specs.Act.{once, MkStmt, Stmts, no_stmts, more_stmts, left_out, move, arith, perform, go, nothing, stop, show, range, Program}
-use Rattle.cob_meaning.specs.declared.straight.Outcome.TheVariants.{Going, Ended, IoStop, Fault}
+use Rattle.cob_runs.specs.declared.outcome.Outcome.TheVariants.{Going, Ended, IoStop, Fault}
 use Rattle.cob_runs.specs.State.{State}
 use Rattle.cob_runs.specs.Runs.{run}
 use Rattle.cob_graph.specs.declared.graph.Graph.{Graph}

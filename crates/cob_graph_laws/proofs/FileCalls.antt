@@ -9,8 +9,8 @@ use Rattle.cob_program.specs.declared.act.Opening.{Opening}
 use Rattle.cob_program.specs.Act.{Act, open_files, close_files, write}
 use Rattle.cob_runs.specs.declared.action.Action.{Action}
 use Rattle.cob_runs.specs.declared.action.Action.TheVariants as action
-use Rattle.cob_meaning.specs.declared.straight.Outcome.{Outcome}
-use Rattle.cob_meaning.specs.declared.straight.Outcome.TheVariants.{Going, Ended, IoStop, Fault}
+use Rattle.cob_runs.specs.declared.outcome.Outcome.{Outcome}
+use Rattle.cob_runs.specs.declared.outcome.Outcome.TheVariants.{Going, Ended, IoStop, Fault}
 use Rattle.cob_runs.specs.Faults.{◌>>=◌}
 use Rattle.cob_runs.specs.State.{World, Doing, state}
 use Rattle.cob_runs.specs.Acts.{has_status, is_fine, open_one, close_one, write_one, file_from, move_if}

@@ -3,7 +3,7 @@ use Rattle.std.proofs.Common.{◌≡◌, ℕ, suc, ◌+◌, Bool, true, false, n
 use Rattle.std.specs.Prelude.{◌==◌, ◌&&◌, if◌then◌else◌}
 use Rattle.cob_program.specs.Act.{Stmts, Phrase, left_out, given, read}
 use Rattle.cob_runs.specs.declared.action.Action.TheVariants as action
-use Rattle.cob_meaning.specs.declared.straight.Outcome.TheVariants.{Going, IoStop}
+use Rattle.cob_runs.specs.declared.outcome.Outcome.TheVariants.{Going, IoStop}
 use Rattle.cob_runs.specs.State.{World, Doing, rest, state, going}
 use Rattle.cob_runs.specs.Acts.{has_status, is_fine, take_one, into_if, where_fine}
 use Rattle.cob_runs.specs.Steps.{outcome_of, behind_read, is_given, list_of}

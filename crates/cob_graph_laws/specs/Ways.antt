@@ -3,8 +3,8 @@ use Rattle.std.specs.Prelude.{◌≡◌, ◌≤◌, ℕ, ◌+◌, ◌-◌, true,
 use Rattle.cob_tree.specs.declared.fault.Kind.{Kind}
 use Rattle.cob_program.specs.Act.{Program}
 use Rattle.cob_runs.specs.declared.action.Action.{Action}
-use Rattle.cob_meaning.specs.declared.straight.Outcome.{Outcome}
-use Rattle.cob_meaning.specs.declared.straight.Outcome.TheVariants.{Going, Ended, IoStop, Fault}
+use Rattle.cob_runs.specs.declared.outcome.Outcome.{Outcome}
+use Rattle.cob_runs.specs.declared.outcome.Outcome.TheVariants.{Going, Ended, IoStop, Fault}
 use Rattle.cob_runs.specs.Files.{Choice}
 use Rattle.cob_runs.specs.State.{World, Doing, State}
 use Rattle.cob_runs.specs.Steps.{number_of}

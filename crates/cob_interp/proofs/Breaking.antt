@@ -22,6 +22,7 @@ use Rattle.cob_interp.specs.Ends.{told_files, AreFree, state_after}
 use Rattle.cob_interp.specs.Told.{seen, seen_file, seen_files, IsSynced, AreSynced, KeepsNames}
 use Rattle.cob_interp.specs.Touching.{IsPartOf, makes_by, makes_none, TouchesIn, Touches}
 use Rattle.cob_interp.specs.Meeting.{IsMetBy, IfFailed}
+use Rattle.cob_interp.specs.Reached.{up_to, last_of}
 use Rattle.cob_interp.specs.Runs.{Outside, IfTold, makes_next, ShowsFront, IsMetNext, IsOver, BreaksOff, IsBroken}
 use Rattle.cob_interp.specs.Running.{StandsIn, Stands, RestsIn, Rests}
 use Rattle.cob_interp.proofs.SeenFiles.{SeenAt, seen_at}
@@ -97,23 +98,24 @@ all_shown start mid now text waits whole r gained is (inr (why, (k, front))) = i
 
 module _ (p : Program) (g : Graph) (paths : List (List ℕ)) (budget : ℕ) where
   module _ (first told now : Contents) (w : World) (steps : ℕ) (makes : ℕ → Bool) (before after : SinkState)
-      (r : Result Ended RunEnd) where
+      (r : Result Ended RunEnd) (reached : ℕ) where
     -- behind so many steps, or in the next one
     breaks_off : steps ≤ budget → AreFree p (told_files first paths) steps
         → (state_after p (told_files first paths) steps).world.files ≡ seen_files told paths w.files
         → AreSynced told paths w.files → KeepsNames first told paths
         → ((place : ℕ) (f : File) (whole other : Option (List ℕ)) → IsPartOf (makes place) f whole other
-        → IsPartOf (makes_next p (state_after p (told_files first paths) steps) place) f whole other)
+        → IsPartOf (makes_next p (state_after p (told_files first paths) steps) reached place) f whole other)
         → TouchesIn paths makes w told now
         → (after.told ≡ append_known before.told (state_after p (told_files first paths) steps).world.shown)
         ⊎ ShowsFront before after r (state_after p (told_files first paths) steps).world.shown
         → IfFailed r (IsOver p paths budget first now steps
-        ⊎ (Rose before.faults after.faults ⊎ IsMetNext p (state_after p (told_files first paths) steps) r))
+        ⊎ (Rose before.faults after.faults ⊎ IsMetNext p (state_after p (told_files first paths) steps) reached r))
         → BreaksOff p paths budget first now before after r
     breaks_off within free files synced others next touches shows meets = record {
       steps = steps;
       within = within;
       free = free;
+      reached = reached;
       files = λ place path f at has.
           next place f f.content (get now path)
           (part_seen paths makes w told now synced touches place path f at
@@ -125,32 +127,34 @@ module _ (p : Program) (g : Graph) (paths : List (List ℕ)) (budget : ℕ) wher
 
   -- where it stands at a node at which a step begins, or is in that step
   pub broken_here : (start mid now : Outside) (w : World) (steps node : ℕ) (x : Node) (a : Act)
-      (r : Result Ended RunEnd)
+      (r : Result Ended RunEnd) (reached : ℕ)
       → steps ≤ budget → node_at g.nodes node ≡ Some x → x.starts ≡ true → act_at p x.statement ≡ Some a
-      → Touches paths (makes_by a) w mid.files now.files → ShowsWaiting start.sink mid.sink now.sink w.shown r
-      → IfFailed r (Rose start.sink.faults now.sink.faults ⊎ IsMetBy a r)
+      → Touches paths (makes_by (up_to reached a)) w mid.files now.files → ShowsWaiting start.sink mid.sink now.sink w.shown r
+      → IfFailed r (Rose start.sink.faults now.sink.faults ⊎ IsMetBy (last_of reached a) r)
       → Stands p g paths start mid w steps steps node → IsBroken p paths budget start now r
-  broken_here start mid now w steps node x a r within at starts its touches shows met s =
+  broken_here start mid now w steps node x a r reached within at starts its touches shows met s =
       told_on (λ first told. StandsIn p g paths first told s.text w steps steps node)
       (λ first told. BreaksOff p paths budget first told start.sink now.sink r)
       (known_bytes start.files) (known_bytes mid.files) (known_bytes now.files) s.told
       (λ first told e st.
       let t = touches.known told e in
       let on = st.tells.goes_on steps node (seen told paths s.text w) x st.way at starts in
-      let makes : (place : ℕ) → makes_by a place ≡ makes_next p (state_after p (told_files first paths) steps) place =
-      λ place. sym (ap (λ (n : ℕ). option_map_or (λ b. makes_by b place) (act_at p n) false) on.next
-      ∙ ap (λ (o : Option Act). option_map_or (λ b. makes_by b place) o false) its) in
+      let makes : (place : ℕ)
+      → makes_by (up_to reached a) place ≡ makes_next p (state_after p (told_files first paths) steps) reached place =
+      λ place. sym (ap (λ (n : ℕ). option_map_or (λ b. makes_by (up_to reached b) place) (act_at p n) false) on.next
+      ∙ ap (λ (o : Option Act). option_map_or (λ b. makes_by (up_to reached b) place) o false) its) in
       subst (λ (c : Option Contents). IfTold (λ f_ n. BreaksOff p paths budget f_ n start.sink now.sink r)
       (Some first) c) (sym t.is)
-      (breaks_off first told t.now w steps (makes_by a) start.sink now.sink r within st.free
+      (breaks_off first told t.now w steps (makes_by (up_to reached a)) start.sink now.sink r reached within st.free
       (ap (λ (u : World). u.files) on.world) st.synced st.others
       (λ place f whole other part. subst (λ (b : Bool). IsPartOf b f whole other) (makes place) part) t.touches
       (all_shown start.sink mid.sink now.sink s.text w.shown
       (state_after p (told_files first paths) steps).world.shown r s.well.gained
       (ap (λ (u : World). u.shown) on.world) shows)
-      (if_failed r (Rose start.sink.faults now.sink.faults ⊎ IsMetBy a r)
+      (if_failed r (Rose start.sink.faults now.sink.faults ⊎ IsMetBy (last_of reached a) r)
       (IsOver p paths budget first t.now steps
-      ⊎ (Rose start.sink.faults now.sink.faults ⊎ IsMetNext p (state_after p (told_files first paths) steps) r))
+      ⊎ (Rose start.sink.faults now.sink.faults
+      ⊎ IsMetNext p (state_after p (told_files first paths) steps) reached r))
       (λ m. inr (elim m [
         | inl rose ↦ inl rose
         | inr by ↦ inr (record { act = a; next = ap (λ (n : ℕ). act_at p n) on.next ∙ its; met = by })
@@ -169,14 +173,14 @@ module _ (p : Program) (g : Graph) (paths : List (List ℕ)) (budget : ℕ) wher
       let there = one_end.stands p (told_files first paths) budget own st.steps st.answer in
       subst (λ (c : Option Contents). IfTold (λ f_ n. BreaksOff p paths budget f_ n start.sink now.sink r)
       (Some first) c) (sym t.is)
-      (breaks_off first told t.now w st.steps makes_none start.sink now.sink r there.within there.free st.files
+      (breaks_off first told t.now w st.steps makes_none start.sink now.sink r 0 there.within there.free st.files
       st.synced st.others
       (λ place f whole other part.
-      part_of_any (makes_next p (state_after p (told_files first paths) st.steps) place) f whole other part) t.touches
+      part_of_any (makes_next p (state_after p (told_files first paths) st.steps) 0 place) f whole other part) t.touches
       (all_shown start.sink mid.sink now.sink s.text w.shown
       (state_after p (told_files first paths) st.steps).world.shown r s.well.gained st.shown shows)
       (failed_any r (IsOver p paths budget first t.now st.steps
-      ⊎ (Rose start.sink.faults now.sink.faults ⊎ IsMetNext p (state_after p (told_files first paths) st.steps) r))
+      ⊎ (Rose start.sink.faults now.sink.faults ⊎ IsMetNext p (state_after p (told_files first paths) st.steps) 0 r))
       (inl (record {
         own = own;
         ends = st.answer;

@@ -1,5 +1,5 @@
 -- Faults of the outside, by which a statement is refused.
-use Rattle.std.proofs.Common.{◌≡◌, ℕ, not, Bool, true, false, List, Some, Result, Ok, Err, refl, sym, ap, subst, ◌∙◌}
+use Rattle.std.proofs.Common.{◌≡◌, ℕ, zero, suc, not, Bool, true, false, List, [], ◌∷◌, Some, Result, Ok, Err, refl, sym, ap, subst, ◌∙◌}
 use Rattle.std.specs.Prelude.{slice_get, IfErr}
 use Rattle.std.proofs.lemmas.Bool.{false≢true}
 use Rattle.cob_data.specs.declared.layout.Layout.{Layout}
@@ -16,8 +16,9 @@ use Rattle.cob_interp.specs.declared.setting.Setting.{Setting}
 use Rattle.cob_interp.specs.declared.setting.Place.{Place}
 use Rattle.cob_interp.specs.Doing.{answered, halted, DoesPart}
 use Rattle.cob_interp.specs.Meeting.{reads_files, writes_files, IsMetIn, IsMetBy, IfFailed, IsFailureBy, FailsBy, shows_first, end_behind}
+use Rattle.cob_interp.specs.Reached.{last_opened, last_of}
 use Rattle.cob_interp.specs.Rooms.{written_by}
-use Rattle.cob_interp.specs.Setting.{IsCall}
+use Rattle.cob_interp.specs.Setting.{IsCall, is_uncalled}
 use Rattle.cob_interp.proofs.Touched.{any_at}
 
 -- ---- results
@@ -172,6 +173,55 @@ open_met os k o (end.Ragged file count) at h = tt
 open_met os k o (end.StepsSpent count) at h = tt
 open_met os k o (end.IoStop status statement) at h = tt
 open_met os k o (end.Fault kind statement step) at h = tt
+
+last_is : (os : List Opening) (k : ℕ) (o : Opening) → slice_get os k ≡ Some o → last_opened (suc k) os ≡ o ∷ []
+last_is [] k o at = cc
+last_is (x ∷ os) zero o at = let same : x ≡ o = cc in ap (λ (y : Opening). y ∷ []) same
+last_is (x ∷ os) (suc k) o at = last_is os k o at
+
+-- it meets the fault of the last file to which it came
+pub last_met : (os : List Opening) (k place : ℕ) (o : Opening) (e : RunEnd) → place ≡ k → slice_get os place ≡ Some o
+    → IsFailureBy o.output e → IsMetIn (open_files (last_opened (suc k) os)) e
+last_met os k place o e same at h =
+    let here = subst (λ (n : ℕ). slice_get os n ≡ Some o) same at in
+    subst (λ (xs : List Opening). IsMetIn (open_files xs) e) (sym (last_is os k o here)) (open_met (o ∷ []) 0 o e refl h)
+
+-- ---- statements that come to one file
+
+pub last_uncalled : (a : Act) → is_uncalled a ≡ true → last_of 0 a ≡ a
+last_uncalled (open_files os) is = absurd (false≢true is)
+last_uncalled (close_files fs) is = refl
+last_uncalled (read f into end_ fine) is = refl
+last_uncalled (move x places) is = refl
+last_uncalled (arith sum targets remainder size fine) is = refl
+last_uncalled (if_ t held other) is = refl
+last_uncalled (evaluate ws other) is = refl
+last_uncalled (perform body turns) is = refl
+last_uncalled (go para) is = refl
+last_uncalled nothing is = refl
+last_uncalled stop is = refl
+last_uncalled (write r from) is = refl
+last_uncalled (show xs) is = refl
+
+last_written : (l : Layout) (a : Act) (place : ℕ) → written_by l a ≡ Some place → last_of 0 a ≡ a
+last_written l (write r from) place is = refl
+last_written l (open_files os) place is = cc
+last_written l (close_files fs) place is = refl
+last_written l (read f into end_ fine) place is = refl
+last_written l (move x places) place is = refl
+last_written l (arith sum targets remainder size fine) place is = refl
+last_written l (if_ t held other) place is = refl
+last_written l (evaluate ws other) place is = refl
+last_written l (perform body turns) place is = refl
+last_written l (go para) place is = refl
+last_written l nothing place is = refl
+last_written l stop place is = refl
+last_written l (show xs) place is = refl
+
+pub write_met_last : {A : Type 0} (l : Layout) (a : Act) (place : ℕ) (r : Result A RunEnd) → written_by l a ≡ Some place
+    → FailsBy true r → IsMetBy (last_of 0 a) r
+write_met_last l a place r is h =
+    subst (λ (b : Act). IsMetBy b r) (sym (last_written l a place is)) (write_met l a place r is h)
 
 -- behind an OPEN or a CLOSE nothing waits
 pub open_first : (a : Act) (os : List Opening) (P : Type 0) → a ≡ open_files os → shows_first a ≡ false → P

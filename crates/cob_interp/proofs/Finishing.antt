@@ -26,6 +26,7 @@ use Rattle.cob_interp.specs.declared.walk.Halt.{Halt}
 use Rattle.cob_interp.specs.declared.walk.Halt.TheVariants as halt
 use Rattle.cob_interp.specs.Setting.{program_of, paths_of, StartsAt}
 use Rattle.cob_interp.specs.Touching.{makes_by, makes_none, Touches}
+use Rattle.cob_interp.specs.Reached.{up_to, last_of}
 use Rattle.cob_interp.specs.Readying.{IsRefusal, Sees, AreEmptied}
 use Rattle.cob_interp.specs.Meeting.{is_failure, IfFailed, IsMetBy, shows_first, ShowsRest}
 use Rattle.cob_interp.specs.Runs.{Outside, outside, IfTold, CountsOn, EndsRun, EndsWell, IsBroken, IfRefused, EndsBy, Runs, TellsOfSink}
@@ -117,48 +118,48 @@ module _ (p : Program) (g : Graph) (paths : List (List ℕ)) (budget : ℕ) wher
           here.stands.well refuses.why,
       if_refused (Err (by_sink e)) (IsBroken p paths budget start (outside files new) (Err (by_sink e)))
           (broken_here p g paths budget start (outside files old)
-          (outside files new) w steps node x a (Err (by_sink e)) within at starts its
-          (touches_stay paths (makes_by a) w files)
+          (outside files new) w steps node x a (Err (by_sink e)) 0 within at starts its
+          (touches_stay paths (makes_by (up_to 0 a)) w files)
           (inr (
             sink_why start (outside files old) (outside files new) here.stands.text e here.stands.well refuses.why,
             refuses.front,
           ))
           (sink_meets start (outside files old) (outside files new) here.stands.text e
-          (IsMetBy {A = Ended} a (Err (by_sink e))) here.stands.well refuses.why)
+          (IsMetBy {A = Ended} (last_of 0 a) (Err (by_sink e))) here.stands.well refuses.why)
           here.stands),
     )
 
-    goes_by : (old new : FilesState) (sink : SinkState) (w v : World) (step next : ℕ)
-        → Touches paths (makes_by a) w old new
+    goes_by : (old new : FilesState) (sink : SinkState) (w v : World) (step next reached : ℕ)
+        → Touches paths (makes_by (up_to reached a)) w old new
         → Stands p g paths start (outside old sink) w steps steps node
         → Arrives p g paths budget start (outside new sink) v step (Ok next)
         → GoesOn p g paths budget start (outside new sink) v step (Ok next)
-    goes_by old new sink w v step next touches stands arrives = record {
+    goes_by old new sink w v step next reached touches stands arrives = record {
       stands = arrives;
       part = broken_here p g paths budget start (outside old sink)
-          (outside new sink) w steps node x a (Err end.Memory) within at starts its touches
+          (outside new sink) w steps node x a (Err end.Memory) reached within at starts its touches
           (inr (inl refl, (0, append_none sink.told))) tt stands;
     }
 
     -- ---- a refusal of the statement, and the text that waits
 
     -- The statement was refused behind a world with this text that waits, and this much of it was shown then.
-    refused_with : (old new : FilesState) (mid now : SinkState) (w v : World) (step : ℕ) (e : RunEnd)
-        → Touches paths (makes_by a) w old new → IsMetBy {A = Ended} a (Err e)
+    refused_with : (old new : FilesState) (mid now : SinkState) (w v : World) (step : ℕ) (e : RunEnd) (reached : ℕ)
+        → Touches paths (makes_by (up_to reached a)) w old new → IsMetBy {A = Ended} (last_of reached a) (Err e)
         → (is_failure e ≡ true → now.told ≡ append_known mid.told w.shown)
         → (is_failure e ≡ false → now.told ≡ mid.told)
         → Stands p g paths start (outside old mid) w steps steps node
         → Halts p g paths budget start (outside new now) v (Err e)
         → GoesOn p g paths budget start (outside new now) v step (Err e)
-    refused_with old new mid now w v step e touches met all same stands halts = (halts, part e met all same) where
+    refused_with old new mid now w v step e reached touches met all same stands halts = (halts, part e met all same) where
       broken : (r : Result Ended RunEnd) → ShowsWaiting start.sink mid now w.shown r
-          → IfFailed r (Rose start.sink.faults now.faults ⊎ IsMetBy a r)
+          → IfFailed r (Rose start.sink.faults now.faults ⊎ IsMetBy (last_of reached a) r)
           → IsBroken p paths budget start (outside new now) r
       broken r shows meets =
-          broken_here p g paths budget start (outside old mid) (outside new now) w steps node x a r within at starts its
+          broken_here p g paths budget start (outside old mid) (outside new now) w steps node x a r reached within at starts its
           touches shows meets stands
 
-      part : (d : RunEnd) → IsMetBy {A = Ended} a (Err d)
+      part : (d : RunEnd) → IsMetBy {A = Ended} (last_of reached a) (Err d)
           → (is_failure d ≡ true → now.told ≡ append_known mid.told w.shown)
           → (is_failure d ≡ false → now.told ≡ mid.told)
           → IfRefused (Err d) (IsBroken p paths budget start (outside new now) (Err d))
@@ -194,8 +195,8 @@ module _ (p : Program) (g : Graph) (paths : List (List ℕ)) (budget : ℕ) wher
     failed (end.IoStop status statement) P fails h = cc
     failed (end.Fault kind statement step) P fails h = cc
 
-    module _ (old new : FilesState) (mid now : SinkState) (w u v : World) (step : ℕ) (e : RunEnd)
-        (touches : Touches paths (makes_by a) w old new) (met : IsMetBy {A = ℕ} a (Err e))
+    module _ (old new : FilesState) (mid now : SinkState) (w u v : World) (step : ℕ) (e : RunEnd) (reached : ℕ)
+        (touches : Touches paths (makes_by (up_to reached a)) w old new) (met : IsMetBy {A = ℕ} (last_of reached a) (Err e))
         (first : shows_first a ≡ true → w.shown ≡ [])
         (still : shows_first a ≡ false → IfFailed {A = ℕ} (Err e) (u.shown ≡ w.shown))
         (stands : Stands p g paths start (outside old mid) w steps steps node)
@@ -204,7 +205,7 @@ module _ (p : Program) (g : Graph) (paths : List (List ℕ)) (budget : ℕ) wher
       silent : (shows_first a ≡ true) ⊎ (is_failure e ≡ false)
           → GoesOn p g paths budget start (outside new mid) u step (Err e)
       silent why =
-          refused_with old new mid mid w u step e touches met
+          refused_with old new mid mid w u step e reached touches met
           (λ fails. elim why [
             | inl all ↦ append_none mid.told ∙ ap (append_known mid.told) (sym (first all))
             | inr not_ ↦ absurd (true≢false (sym fails ∙ not_))
@@ -218,7 +219,7 @@ module _ (p : Program) (g : Graph) (paths : List (List ℕ)) (budget : ℕ) wher
       shown_all : Flushes mid now u v → shows_first a ≡ false → is_failure e ≡ true
           → GoesOn p g paths budget start (outside new now) v step (Err e)
       shown_all flushes waits fails =
-          refused_with old new mid now w v step e touches met
+          refused_with old new mid now w v step e reached touches met
           (λ _. flushes.gains.told ∙ ap (append_known mid.told) (same_text waits fails))
           (λ not_. absurd (true≢false (sym fails ∙ not_)))
           stands (halts_shown new mid now u v e fails flushes.gains.faults arrives)
@@ -231,7 +232,7 @@ module _ (p : Program) (g : Graph) (paths : List (List ℕ)) (budget : ℕ) wher
             (outside new now) stands.text why stands.well refuses.why,
         if_refused (Err (by_sink why)) (IsBroken p paths budget start (outside new now) (Err (by_sink why)))
             (broken_here p g paths budget start (outside old mid) (outside new now) w steps node x a
-            (Err (by_sink why)) within at starts its touches
+            (Err (by_sink why)) reached within at starts its touches
             (inr (
               sink_why start (outside old mid) (outside new now) stands.text why stands.well refuses.why,
               (
@@ -241,7 +242,7 @@ module _ (p : Program) (g : Graph) (paths : List (List ℕ)) (budget : ℕ) wher
               ),
             ))
             (sink_meets start (outside old mid) (outside new now) stands.text why
-            (IsMetBy {A = Ended} a (Err (by_sink why))) stands.well refuses.why)
+            (IsMetBy {A = Ended} (last_of reached a) (Err (by_sink why))) stands.well refuses.why)
             stands),
       )
 
@@ -436,8 +437,8 @@ module _ (s : Setting) (budget steps node : ℕ) (x : Place) (starts : StartsAt 
       (plain_act x.statement.now.act.now)
       (omega (arith, within)) starts.is.plan_node.stands its_start its_act files old new w v step e refuses here
 
-  module _ (may : MayFlush old new w v) (behind : FilesState) (u : World) (step : ℕ)
-      (touches : Touches (paths_of s) (makes_by (plain_act x.statement.now.act.now)) v files behind) where
+  module _ (may : MayFlush old new w v) (behind : FilesState) (u : World) (step reached : ℕ)
+      (touches : Touches (paths_of s) (makes_by (up_to reached (plain_act x.statement.now.act.now))) v files behind) where
     stands : Stands (program_of s) s.graph.now (paths_of s) start (outside files new) v steps steps node
     stands = stands_shown (program_of s) s.graph.now
         (paths_of s) start files old new w v steps steps node may here.stands
@@ -449,11 +450,11 @@ module _ (s : Setting) (budget steps node : ℕ) (x : Place) (starts : StartsAt 
     step_taken next takes =
         goes_by (program_of s) s.graph.now (paths_of s) budget start steps node starts.is.plan_node.node
         (plain_act x.statement.now.act.now)
-        (omega (arith, within)) starts.is.plan_node.stands its_start its_act files behind new v u step next touches
+        (omega (arith, within)) starts.is.plan_node.stands its_start its_act files behind new v u step next reached touches
         stands (takes stands)
 
     pub step_refused : (now : SinkState) (z : World) (e : RunEnd) (h : Halt)
-        → IsMetBy {A = ℕ} (plain_act x.statement.now.act.now) (Err e)
+        → IsMetBy {A = ℕ} (last_of reached (plain_act x.statement.now.act.now)) (Err e)
         → (shows_first (plain_act x.statement.now.act.now) ≡ true → v.shown ≡ [])
         → (shows_first (plain_act x.statement.now.act.now) ≡ false → IfFailed {A = ℕ} (Err e) (u.shown ≡ v.shown))
         → ShowsRest (plain_act x.statement.now.act.now) new now u z e h
@@ -463,7 +464,7 @@ module _ (s : Setting) (budget steps node : ℕ) (x : Place) (starts : StartsAt 
     step_refused now z e h met first still rest takes =
         refused_by (program_of s) s.graph.now (paths_of s) budget start steps node starts.is.plan_node.node
         (plain_act x.statement.now.act.now)
-        (omega (arith, within)) starts.is.plan_node.stands its_start its_act files behind new now v u z step e touches
+        (omega (arith, within)) starts.is.plan_node.stands its_start its_act files behind new now v u z step e reached touches
         met first still stands (takes stands) h rest
 
 -- the budget is spent

@@ -1,10 +1,12 @@
 -- Steps of a plan, gone through.
-use Rattle.std.proofs.Common.{◌≡◌, ◌≢◌, ◌<◌, ◌≤◌, ◌==◌, ◌||◌, inl, inr, ℕ, zero, suc, Bool, true, false, List, [], ◌∷◌, length, Option, Some, None, Result, Ok, Err, refl, sym, ap, subst, ◌∙◌, arith}
-use Rattle.std.specs.Prelude.{slice_get}
+use Rattle.std.proofs.Common.{◌≡◌, ◌≢◌, ◌+◌, ◌<◌, ◌≤◌, ◌==◌, ◌||◌, ◌⊎◌, inl, inr, ℕ, zero, suc, Bool, true, false, List, [], ◌∷◌, length, Option, Some, None, Result, Ok, Err, refl, sym, ap, subst, ◌∙◌, arith}
+use Rattle.std.specs.Prelude.{slice_get, Contains, IfOk}
 use Rattle.std.proofs.lemmas.Bool.{eqb-false, eq-eqb, ne_eqb, false≢true}
-use Rattle.std.proofs.lemmas.Option.{none-some, slice_get_within}
+use Rattle.std.proofs.lemmas.Option.{none-some, same_Some, slice_get_within}
+use Rattle.cob_program.specs.declared.act.Opening.{Opening}
 use Rattle.cob_program.specs.Act.{Act, move, arith as arithmetic, if_, evaluate, perform, go, nothing, stop, open_files, close_files, read, write, show}
 use Rattle.cob_program.specs.ActView.{plain_act}
+use Rattle.cob_runs.specs.declared.action.Action.{Action}
 use Rattle.cob_runs.specs.Effects.{act_at}
 use Rattle.cob_runs.specs.State.{World}
 use Rattle.cob_graph.specs.declared.graph.Graph.{Graph}
@@ -16,19 +18,23 @@ use Rattle.cob_plan.specs.declared.node.Op.TheVariants as op
 use Rattle.cob_plan.specs.declared.node.PlanNode.{PlanNode}
 use Rattle.cob_plan.specs.Doing.{Does}
 use Rattle.cob_plan.specs.Fitting.{IsOfRead, BeginsRead}
-use Rattle.cob_plan.specs.Plan.{ArePlanNodes, IsPlanNode}
+use Rattle.cob_plan.specs.Plan.{ArePlanNodes, IsPlanNode, op_edges}
 use Rattle.cob_plan.specs.Stepping as stepping
-use Rattle.cob_plan.specs.Stepping.{rests_in, rests, IsRest, IsWithin}
+use Rattle.cob_plan.specs.Stepping.{rests_in, rests, IsRest, IsWithin, file_opened}
 use Rattle.cob_interp.specs.declared.parts.Call.TheVariants as call
 use Rattle.cob_interp.specs.declared.ends.RunEnd.{RunEnd}
 use Rattle.cob_interp.specs.declared.ends.RunEnd.TheVariants as end
 use Rattle.cob_interp.specs.declared.setting.Setting.{Setting}
 use Rattle.cob_interp.specs.declared.setting.Place.{Place}
-use Rattle.cob_interp.specs.Setting.{IsReady, IsPlace, FitsPlace, StartsAt, IsUncalled, is_uncalled, IsCall, LeadsOn, LeadsBy, program_of, paths_of}
+use Rattle.cob_interp.specs.Setting.{IsReady, IsPlace, FitsPlace, StartsAt, IsUncalled, is_uncalled, IsCall, IsWayOn, LeadsOn, LeadsBy, OpensAt, program_of, paths_of}
 use Rattle.cob_interp.specs.Runs.{Outside}
 use Rattle.cob_interp.specs.Running.{IsAt, HaltsOff}
 use Rattle.cob_interp.specs.Doing.{IsPlain, IsQuiet, DoesPart, answered}
+use Rattle.cob_interp.specs.Meeting.{IsMetBy, FailsBy}
+use Rattle.cob_interp.specs.Reached.{last_of}
+use Rattle.cob_interp.proofs.Failing.{last_uncalled, read_met}
 use Rattle.cob_interp.proofs.Finishing.{spends_here}
+use Rattle.cob_interp.proofs.OpLemmas.{opened_op}
 
 -- ---- nodes by their numbers
 
@@ -140,6 +146,11 @@ uncalled_read stop file is = refl
 uncalled_read (write r from) file is = refl
 uncalled_read (show xs) file is = refl
 
+pub read_met_last : {A : Type 0} (a : Act) (file : ℕ) (r : Result A RunEnd) → IsCall a (call.Read file) → FailsBy false r
+    → IsMetBy (last_of 0 a) r
+read_met_last a file r is h =
+    subst (λ (b : Act). IsMetBy b r) (sym (last_uncalled a (uncalled_read a file is))) (read_met a file r is h)
+
 pub uncalled_other : (a : Act) → IsCall a call.Other → is_uncalled a ≡ true
 uncalled_other (read f into e fine) is = refl
 uncalled_other (open_files os) is = absurd is
@@ -171,6 +182,14 @@ part_on s x step w v r d from statement led =
           → LeadsOn s from statement (answered x.statement.now.number step o)
       by (Ok to) done = led done.action to done.out
       by (Err e) done = tt
+
+pub part_way : (s : Setting) (x : Place) (step : ℕ) (w v : World) (r : Result ℕ RunEnd) → DoesPart s x step w v r
+    → IsWayOn x.plan_node.now.op r
+part_way s x step w v r d = subst (IsWayOn x.plan_node.now.op) (sym d.told) (by d.outcome d.does) where
+  by : (o : Result ℕ DoEnd) → Does (program_of s) x.statement.now.number x.plan_node.now.op w v o
+      → IsWayOn x.plan_node.now.op (answered x.statement.now.number step o)
+  by (Ok to) done = (done.action, done.out)
+  by (Err e) done = tt
 
 -- a node at which no step goes on is the graph's
 pub graph_goes : (g : Graph) (ns : List PlanNode) (node : ℕ) → ArePlanNodes g ns → rests ns node ≡ false
@@ -247,6 +266,33 @@ module _ (s : Setting) (node : ℕ) (x : Place) (is : IsPlace s node x) (fits : 
       → LeadsBy s x.plan_node.now.op r → LeadsOn s node statement r
   on_by statement r within on =
       subst (λ (n : ℕ). LeadsOn s node n r) (within.own x.plan_node.now fits.at) (on node x.plan_node.now.statement fits.leads)
+
+  -- it opens a file, and leads to where no step goes on, or to the node that opens the next one
+  pub opens_here : (k : ℕ) → OpensAt s node k → file_opened x.plan_node.now.op ≡ Some k
+  opens_here k opens = opens x.plan_node.now fits.at
+
+  opens_on : IsReady s → (k : ℕ) → OpensAt s node k → (next : ℕ) (a : Action)
+      → Contains (op_edges x.plan_node.now.op) (a, next) → IsRest s.plan.nodes.items next ⊎ OpensAt s next (k + 1)
+  opens_on ready k opens next a out =
+      elim ((ready.steps.opens node x.plan_node.now fits.at fits.below).next k (opens_here k opens) a next out) [
+        | inl rest ↦ inl rest
+        | inr there ↦ inr (λ y at. subst (λ (z : PlanNode). file_opened z.op ≡ Some (k + 1))
+            (same_Some there.0 y (sym there.1 ∙ at)) there.2)
+      ]
+
+  pub turns_on : IsReady s → (r : Result ℕ RunEnd) → IsWayOn x.plan_node.now.op r
+      → IfOk r (λ next. (k : ℕ) → OpensAt s node k → IsRest s.plan.nodes.items next ⊎ OpensAt s next (k + 1))
+  turns_on ready (Ok next) way = λ k opens. opens_on ready k opens next way.0 way.1
+  turns_on ready (Err e) way = tt
+
+  -- a step of an OPEN begins with the first of its files
+  pub opens_first : IsReady s → x.plan_node.now.starts ≡ true → (os : List Opening)
+      → plain_act x.statement.now.act.now ≡ open_files os → OpensAt s node 0
+  opens_first ready starts os its = λ y at.
+      let opened = opened_op (program_of s) x.plan_node.now.op (plain_act x.statement.now.act.now) os its is.fits.fits in
+      let first = (ready.steps.opens node x.plan_node.now fits.at fits.below).first starts opened.0 opened.1 in
+      subst (λ (z : PlanNode). file_opened z.op ≡ Some 0) (same_Some x.plan_node.now y (sym fits.at ∙ at))
+      (subst (λ (n : ℕ). file_opened x.plan_node.now.op ≡ Some n) first opened.1)
 
   -- a step begins there
   pub starts_at : IsRest s.plan.nodes.items node → StartsAt s node x

@@ -6,9 +6,9 @@ use Rattle.std.proofs.lemmas.Bool.{false≢true, eq-eqb}
 use Rattle.std.proofs.lemmas.Bool.{cases_order}
 use Rattle.std.proofs.lemmas.Bool.Decides.{eqb_tells}
 use Rattle.cob_program.specs.Act.{Act, move, arith as arithmetic, if_, evaluate, perform, go, nothing, stop, open_files, close_files, read, write, show, Program}
-use Rattle.cob_meaning.specs.declared.straight.Outcome.{Outcome}
-use Rattle.cob_meaning.specs.declared.straight.Outcome.TheVariants.{Going, Fault, IoStop}
-use Rattle.cob_meaning.specs.declared.straight.Outcome.TheVariants as outcome
+use Rattle.cob_runs.specs.declared.outcome.Outcome.{Outcome}
+use Rattle.cob_runs.specs.declared.outcome.Outcome.TheVariants.{Going, Fault, IoStop}
+use Rattle.cob_runs.specs.declared.outcome.Outcome.TheVariants as outcome
 use Rattle.cob_runs.specs.Files.{bytes_in}
 use Rattle.cob_runs.specs.State.{World, State}
 use Rattle.cob_runs.specs.Steps.{step, step_in}

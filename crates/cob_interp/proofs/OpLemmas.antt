@@ -1,11 +1,12 @@
 -- Operations of statements that open, close or read a file.
-use Rattle.std.proofs.Common.{◌≡◌, ◌<◌, ℕ, zero, suc, Bool, true, List, [], ◌∷◌, length, None, refl, subst, arith as by_arith}
+use Rattle.std.proofs.Common.{◌≡◌, ◌<◌, ℕ, zero, suc, Bool, true, List, [], ◌∷◌, length, Some, None, refl, subst, arith as by_arith}
 use Rattle.std.specs.Prelude.{slice_get}
 use Rattle.cob_program.specs.declared.act.Opening.{Opening}
 use Rattle.cob_program.specs.Act.{Act, move, arith, if_, evaluate, perform, go, nothing, stop, open_files, close_files, read, write, show, Program}
 use Rattle.cob_plan.specs.declared.node.Op.{Op}
 use Rattle.cob_plan.specs.declared.node.Op.TheVariants as op
 use Rattle.cob_plan.specs.Fitting.{Fits, IsOfRead, BeginsRead}
+use Rattle.cob_plan.specs.Stepping.{file_opened}
 use Rattle.cob_interp.specs.declared.parts.Call.TheVariants as call
 use Rattle.cob_interp.specs.Setting.{IsCall}
 
@@ -56,6 +57,23 @@ module _ (p : Program) (o : Op) (a : Act) where
   module _ (os : List Opening) (its : a ≡ open_files os) (fits : Fits p o a) where
     opens_it : Opens (length os) o
     opens_it = opens p o os (subst (Fits p o) its fits)
+
+    pub opened_op : (k : ℕ) × (file_opened o ≡ Some k)
+    opened_op = by_op o opens_it
+      where
+        by_op : (u : Op) → Opens (length os) u → (k : ℕ) × (file_opened u ≡ Some k)
+        by_op (op.Open k fine bad) h = (k, refl)
+        by_op (op.Skip to) h = absurd h
+        by_op (op.Assign to) h = absurd h
+        by_op (op.Show to) h = absurd h
+        by_op (op.SetCount to) h = absurd h
+        by_op (op.CountDown to) h = absurd h
+        by_op (op.Compute fine size) h = absurd h
+        by_op (op.Test k held other_) h = absurd h
+        by_op (op.Close k fine bad) h = absurd h
+        by_op (op.Read found at_end bad) h = absurd h
+        by_op (op.Write fine bad) h = absurd h
+        by_op op.Final h = absurd h
 
     pub always_opens : ((k fine bad : ℕ) → o ≡ op.Open k fine bad → ⊥) → ⊥
     always_opens other = by_op o opens_it other

@@ -4,9 +4,9 @@ use Rattle.std.specs.Prelude.{◌==◌, ◌&&◌, slice_get}
 use Rattle.std.specs.Option.{option_map_or}
 use Rattle.std.proofs.lemmas.Bool.{cases_lt}
 use Rattle.cob_program.specs.Act.{Act, read, Program}
-use Rattle.cob_meaning.specs.declared.straight.Outcome.{Outcome}
-use Rattle.cob_meaning.specs.declared.straight.Outcome.TheVariants.{Going, Fault, IoStop}
-use Rattle.cob_meaning.specs.declared.straight.Outcome.TheVariants as outcome
+use Rattle.cob_runs.specs.declared.outcome.Outcome.{Outcome}
+use Rattle.cob_runs.specs.declared.outcome.Outcome.TheVariants.{Going, Fault, IoStop}
+use Rattle.cob_runs.specs.declared.outcome.Outcome.TheVariants as outcome
 use Rattle.cob_runs.specs.State.{World, State}
 use Rattle.cob_runs.specs.Effects.{act_at}
 use Rattle.cob_runs.specs.Runs.{Contents}

@@ -5,8 +5,8 @@ use Rattle.std.specs.FinMap.{get}
 use Rattle.batch_io.specs.FilesState.{Contents, FilesState, Purpose, known_bytes}
 use Rattle.cob_data.specs.declared.layout.FileDecl.{FileDecl}
 use Rattle.cob_program.specs.Act.{Program}
-use Rattle.cob_meaning.specs.declared.straight.Outcome.{Outcome}
-use Rattle.cob_meaning.specs.declared.straight.Outcome.TheVariants.{Going, Ended, IoStop, Fault}
+use Rattle.cob_runs.specs.declared.outcome.Outcome.{Outcome}
+use Rattle.cob_runs.specs.declared.outcome.Outcome.TheVariants.{Going, Ended, IoStop, Fault}
 use Rattle.cob_runs.specs.Files.{File, Choice}
 use Rattle.cob_runs.specs.State.{World, Doing, rest, paras}
 use Rattle.cob_runs.specs.Steps.{body_at, settled, settled_on, settle}
@@ -135,8 +135,9 @@ module _ (p : Program) (g : Graph) (paths : List (List ℕ)) (same : length path
       steps = 0;
       within = omega arith;
       free = none_begun (told_files told paths);
+      reached = 0;
       files = λ place path f at has.
-          part_seen paths (λ n. makes_next p (state_after p (told_files told paths) 0) n)
+          part_seen paths (λ n. makes_next p (state_after p (told_files told paths) 0) 0 n)
           (first_world p [] []) told told
           (first_synced told paths p.layout.files 0 same)
           (record { its = λ n q x at_ has_ s. part_held told q _ x s; others = λ name none. refl }) place path f at

@@ -1,12 +1,15 @@
 -- What is left outside of a file that is put, and of all files.
 use Rattle.std.proofs.Common.{◌≡◌, ◌≢◌, ℕ, zero, suc, Bool, true, false, ◌||◌, ◌&&◌, ◌==◌, List, [], ◌∷◌, Option, Some, ◌⊎◌, inl, inr, refl, sym, ap, subst, ◌∙◌}
-use Rattle.std.specs.Prelude.{Contains, slice_get}
+use Rattle.std.specs.Prelude.{Contains, slice_get, take, Result}
 use Rattle.std.specs.List.{list_any}
 use Rattle.std.specs.FinMap.{get}
 use Rattle.std.proofs.lemmas.Bool.{false≢true, eq-eqb}
 use Rattle.batch_io.specs.FilesState.{Contents, FilesState, known_bytes}
 use Rattle.cob_program.specs.declared.act.Opening.{Opening}
 use Rattle.cob_program.specs.Act.{Act, open_files}
+use Rattle.cob_interp.specs.declared.ends.RunEnd.{RunEnd}
+use Rattle.cob_interp.specs.Meeting.{IsMetBy}
+use Rattle.cob_interp.specs.Reached.{last_opened, up_to, last_of, Reaches}
 use Rattle.cob_runs.specs.Files.{File, Mode, closed, writing}
 use Rattle.cob_runs.specs.State.{World}
 use Rattle.cob_interp.specs.Told.{seen_in, seen_file, IsSynced, AreDistinct, AgreeBut}
@@ -239,6 +242,44 @@ pub makes_one : (os : List Opening) (k : ℕ) (o : Opening) → slice_get os k �
 makes_one os k o at place e =
     any_at (λ x. x.output && (x.file == place)) os k o at (or_false (o.output && (o.file == place)) e)
 
+-- ---- so many of the files of an OPEN
+
+or_up : (a b c : Bool) → (b ≡ true → c ≡ true) → (a || b) ≡ true → (a || c) ≡ true
+or_up true b c h e = refl
+or_up false b c h e = h e
+
+-- what one of the first files meets, one of all does
+pub any_up : (test : Opening → Bool) (n : ℕ) (os : List Opening) → list_any test (take n os) ≡ true
+    → list_any test os ≡ true
+any_up test zero os e = absurd (false≢true e)
+any_up test (suc n) [] e = e
+any_up test (suc n) (x ∷ os) e = or_up (test x) (list_any test (take n os)) (list_any test os) (any_up test n os) e
+
+any_more : (test : Opening → Bool) (n : ℕ) (os : List Opening) → list_any test (take n os) ≡ true
+    → list_any test (take (suc n) os) ≡ true
+any_more test zero os e = absurd (false≢true e)
+any_more test (suc n) [] e = e
+any_more test (suc n) (x ∷ os) e =
+    or_up (test x) (list_any test (take n os)) (list_any test (take (suc n) os)) (any_more test n os) e
+
+pub makes_later : (os : List Opening) (n place : ℕ) → makes_in (take n os) place ≡ true
+    → makes_in (take (suc n) os) place ≡ true
+makes_later os n place = any_more (λ o. o.output && (o.file == place)) n os
+
+pub makes_turn : (paths : List (List ℕ)) (os : List Opening) (w : World) (old new : FilesState) (n m : ℕ) → suc n ≡ m
+    → Makes paths (makes_in (take (suc n) os)) w old new → Makes paths (makes_in (take m os)) w old new
+makes_turn paths os w old new n m e = subst (λ (k : ℕ). Makes paths (makes_in (take k os)) w old new) e
+
+up_there : (os : List Opening) (k : ℕ) (o : Opening) → slice_get os k ≡ Some o → slice_get (take (suc k) os) k ≡ Some o
+up_there [] k o e = cc
+up_there (x ∷ os) zero o e = e
+up_there (x ∷ os) (suc k) o e = up_there os k o e
+
+-- the last of so many is
+pub makes_last : (os : List Opening) (k : ℕ) (o : Opening) → slice_get os k ≡ Some o → (place : ℕ)
+    → makes_in (o ∷ []) place ≡ true → makes_in (take (suc k) os) place ≡ true
+makes_last os k o at = makes_one (take (suc k) os) k o (up_there os k o at)
+
 pub makes_own : (o : Opening) → o.output ≡ true → makes_in (o ∷ []) o.file ≡ true
 makes_own o output = rw (output, eq-eqb o.file o.file refl) refl
 
@@ -321,17 +362,29 @@ module _ (paths : List (List ℕ)) (w v : World) (a b c : FilesState) where
 
 -- ---- a step
 
--- of an OPEN
-pub opening_touches : (paths : List (List ℕ)) (w : World) (old new : FilesState) (os : List Opening) (a : Act)
-    → a ≡ open_files os
-    → Makes paths (makes_in os) w old new → Touches paths (makes_by a) w old new
-opening_touches paths w old new os a is m =
-    touches_more paths (makes_in os) (makes_by a) w
-    (λ place made. subst (λ (b : Act). makes_by b place ≡ true) (sym is) made) old new
-    (makes_touch paths (makes_in os) w old new m)
-
 -- where no file is made anew
 pub none_touches : (paths : List (List ℕ)) (makes : ℕ → Bool) (w : World) (old new : FilesState)
     → Touches paths makes_none w old new
     → Touches paths makes w old new
 none_touches paths makes w old new t = touches_more paths makes_none makes w (under_none makes) old new t
+
+-- ---- how far it has got
+
+-- an OPEN to one of its files
+pub reaches_file : (paths : List (List ℕ)) (w : World) (old new : FilesState) (os : List Opening) (k : ℕ)
+    (r : Result ℕ RunEnd) → Makes paths (makes_in (take (suc k) os)) w old new
+    → IsMetBy (open_files (last_opened (suc k) os)) r → Reaches paths (open_files os) w old new r
+reaches_file paths w old new os k r m met = record {
+  reached = suc k;
+  touches = makes_touch paths (makes_in (take (suc k) os)) w old new m;
+  met = met;
+}
+
+-- where no file is made anew
+pub reaches_none : (paths : List (List ℕ)) (a : Act) (w : World) (old new : FilesState) (r : Result ℕ RunEnd)
+    → Touches paths makes_none w old new → IsMetBy (last_of 0 a) r → Reaches paths a w old new r
+reaches_none paths a w old new r t met = record {
+  reached = 0;
+  touches = none_touches paths (makes_by (up_to 0 a)) w old new t;
+  met = met;
+}

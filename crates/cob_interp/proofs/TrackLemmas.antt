@@ -28,6 +28,9 @@ tracks_ids old new ids keeps live = record {
 pub tracks_stay : (a : FilesState) (ids : Ids) → AreOpen a ids → Tracks a a ids ids
 tracks_stay a ids live = record { live = live; others = λ first k. k }
 
+pub ids_stay : (a : FilesState) → KeepsIds a a
+ids_stay a = record { purpose = λ id. refl; handle = λ id some. refl }
+
 pub tracks_pass : (a b c : FilesState) (x y z : Ids) → Tracks a b x y → Tracks b c y z → Tracks a c x z
 tracks_pass a b c x y z h k = record { live = k.live; others = λ first q. k.others first (h.others first q) }
 

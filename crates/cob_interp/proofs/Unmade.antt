@@ -24,6 +24,8 @@ use Rattle.cob_interp.specs.declared.ends.RunEnd.{RunEnd}
 use Rattle.cob_interp.specs.declared.ends.RunEnd.TheVariants as end
 use Rattle.cob_interp.specs.Ends.{told_files, state_after}
 use Rattle.cob_interp.specs.Touching.{IsPartOf, makes_in, makes_by}
+use Rattle.cob_interp.specs.Reached.{up_to}
+use Rattle.cob_interp.proofs.Touched.{any_up}
 use Rattle.cob_interp.specs.Runs.{Outside, IfTold, makes_next, EndsRun, EndsWell, BreaksOff, IsBroken, Runs, KeepsUnmade}
 
 if_told : (P Q : Contents → Contents → Type 0) → ((first told : Contents) → P first told → Q first told)
@@ -45,13 +47,15 @@ module _ (p : Program) (place : ℕ) (never : NeverMakes p place) (number : ℕ)
       let h = both o.1.output (o.1.file == place) o.4 in
       never number os o.1 is (o.0, o.2, o.3) h.0 (eqb-true o.1.file place h.1)
 
-  not_made_by : (a : Act) → act_at p number ≡ Some a → makes_by a place ≡ true → ⊥
-  not_made_by (open_files os) is e = not_made_in os is e
-  not_made_by a is e = false≢true e
+  module _ (reached : ℕ) where
+    not_made_by : (a : Act) → act_at p number ≡ Some a → makes_by (up_to reached a) place ≡ true → ⊥
+    not_made_by (open_files os) is e = not_made_in os is (any_up (λ o. o.output && (o.file == place)) reached os e)
+    not_made_by a is e = false≢true e
 
-  not_made : (a : Option Act) → act_at p number ≡ a → option_map_or (λ a. makes_by a place) a false ≡ true → ⊥
-  not_made None is e = false≢true e
-  not_made (Some a) is e = not_made_by a is e
+    not_made : (a : Option Act) → act_at p number ≡ a
+        → option_map_or (λ a. makes_by (up_to reached a) place) a false ≡ true → ⊥
+    not_made None is e = false≢true e
+    not_made (Some a) is e = not_made_by a is e
 
 -- a file that isn't being written, and isn't made, holds all
 whole_part : (makes : Bool) (f : File) (all now : Option (List ℕ)) → (makes ≡ true → ⊥) → (f.mode ≡ writing → ⊥)
@@ -92,17 +96,17 @@ module _ (p : Program) (g : Graph) (whole : IsWellFormed p) (is : IsGraph p g) (
             let x = held (slice_get files place) (get told path) here in
             sym x.2 ∙ (kept x.0 x.1).content ∙ told_at
 
-        by_part : place < length p.layout.files
+        by_part : (reached : ℕ) → place < length p.layout.files
             → ((f : File) → slice_get files place ≡ Some f → IsPartOf
-            (makes_next p (state_after p (told_files first paths) n) place) f f.content (get told path))
+            (makes_next p (state_after p (told_files first paths) n) reached place) f f.content (get told path))
             → get told path ≡ get first path
-        by_part within part =
+        by_part reached within part =
             let s = state_after p (told_files first paths) n in
             let x = file_stays p g (told_files first paths) [] [] place never simulates whole is n within in
             let number = next_statement p s.control in
             let k = kept x.0 x.1 in
-            whole_part (makes_next p s place) x.0 x.0.content (get told path)
-            (not_made p place never number (act_at p number) refl) k.mode (part x.0 x.1)
+            whole_part (makes_next p s reached place) x.0 x.0.content (get told path)
+            (not_made p place never number reached (act_at p number) refl) k.mode (part x.0 x.1)
             ∙ k.content ∙ told_at
 
     -- ---- at all
@@ -114,7 +118,7 @@ module _ (p : Program) (g : Graph) (whole : IsWellFormed p) (is : IsGraph p g) (
     broken : (before after : SinkState) (r : Result Ended RunEnd) → BreaksOff p paths budget first told before after r
         → KeepsUnmade p paths first told
     broken before after r x place path at within never =
-        by_part place path at never x.steps within (λ f has. x.files place path f at has)
+        by_part place path at never x.steps x.reached within (λ f has. x.files place path f at has)
 
   module _ (old new : Outside) where
     abbrev IsUnmadeKept : Type 0

@@ -5,9 +5,11 @@ use Rattle.std.specs.FinMap.{get}
 use Rattle.std.specs.Io.KnownBytes.{prepend_known}
 use Rattle.batch_io.specs.FilesState.{Contents, FilesState, Told, Handle, Gives, known_bytes, known_rest, rest_of, bytes_at}
 use Rattle.cob_runs.specs.Files.{File, Mode, reading}
+use Rattle.cob_interp.specs.declared.ends.RunEnd.{RunEnd}
+use Rattle.cob_interp.specs.declared.ends.RunEnd.TheVariants as end
 use Rattle.cob_interp.specs.Told.{IsSynced, IsSyncedIn}
 use Rattle.cob_interp.specs.Tracking.{Ids, IsHeld, IsOpen, ArePlaced}
-use Rattle.cob_interp.specs.Readying.{GivesRecord, GivesWindow, HasRest}
+use Rattle.cob_interp.specs.Readying.{GivesRecord, GivesWindow, HasRest, IsRefusal, IsRestOr}
 use Rattle.std.proofs.Math.Seq.{take-length}
 
 -- what is left behind what was given
@@ -101,3 +103,14 @@ module _ (old new : FilesState) (ids : Ids) (place size : ℕ) (room : List ℕ)
         ended = gives.ended few;
         counted = omega (arith, size_, counted);
       }
+
+-- what is refused is no rest
+pub window_refused : (old new : FilesState) (ids : Ids) (place size before : ℕ) (e : RunEnd) → IsRefusal old new e
+    → IsRestOr old new ids place size before e
+window_refused old new ids place size before end.ReadFault refused = refused
+window_refused old new ids place size before end.WriteFault refused = refused
+window_refused old new ids place size before end.Memory refused = tt
+window_refused old new ids place size before (end.Ragged file count) refused = absurd refused
+window_refused old new ids place size before (end.StepsSpent count) refused = absurd refused
+window_refused old new ids place size before (end.IoStop status statement) refused = absurd refused
+window_refused old new ids place size before (end.Fault kind statement step) refused = absurd refused

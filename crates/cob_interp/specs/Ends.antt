@@ -5,9 +5,9 @@ use Rattle.std.specs.FinMap.{get}
 use Rattle.batch_io.specs.FilesState as outside
 use Rattle.cob_data.specs.declared.layout.FileDecl.{FileDecl}
 use Rattle.cob_program.specs.Act.{Act, read, Program}
-use Rattle.cob_meaning.specs.declared.straight.Outcome.{Outcome}
-use Rattle.cob_meaning.specs.declared.straight.Outcome.TheVariants.{Going, Fault, IoStop}
-use Rattle.cob_meaning.specs.declared.straight.Outcome.TheVariants as outcome
+use Rattle.cob_runs.specs.declared.outcome.Outcome.{Outcome}
+use Rattle.cob_runs.specs.declared.outcome.Outcome.TheVariants.{Going, Fault, IoStop}
+use Rattle.cob_runs.specs.declared.outcome.Outcome.TheVariants as outcome
 use Rattle.cob_runs.specs.Files.{File, Mode, closed, reading, bytes_in, after_read}
 use Rattle.cob_runs.specs.State.{World, State}
 use Rattle.cob_runs.specs.Effects.{act_at}

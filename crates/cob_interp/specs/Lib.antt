@@ -12,3 +12,4 @@ pub mod Doing
 pub mod Meeting
 pub mod Rooms
 pub mod OneEnd
+pub mod Reached

@@ -27,7 +27,7 @@ reads_files (close_files fs) = true
 reads_files (read f into end fine) = true
 reads_files _ = false
 
--- or of one that is written
+-- the statement may meet a fault of a file that is written
 abbrev pub writes_files : Act → Bool
 writes_files (open_files os) = opens_output os
 writes_files (close_files fs) = true

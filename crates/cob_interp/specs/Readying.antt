@@ -230,7 +230,7 @@ pub record ReadyToOpen (s : Setting) (w v : World) (o : Opening) (old new : File
   pub ready : Readies old new path (λ told now. IsReadyToOpen told now path o.output file)
   -- ids stand where they stood, but for one that the file may have got, which stands at its first byte
   pub stand : StandsOrBegins old new before after path o.file o.output file
-  -- and the file has the one that its mode asks for then
+  -- the file then has the id that its mode asks for
   pub purposes : purposes_for before ≡ purposes_of w.files
       → purposes_for after ≡ slice_set (purposes_of v.files) o.file (purpose_in (opened o.output file).0.mode)
   pub keeps : KeepsPlaces w.files v.files

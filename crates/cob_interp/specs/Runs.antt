@@ -20,6 +20,7 @@ use Rattle.cob_interp.specs.Ends.{told_files, AreFree, IsEnd, state_after}
 use Rattle.cob_interp.specs.Told.{KeepsNames, Holds}
 use Rattle.cob_interp.specs.Touching.{IsPartOf, makes_by}
 use Rattle.cob_interp.specs.Meeting.{IsMetBy, IfFailed}
+use Rattle.cob_interp.specs.Reached.{up_to, last_of}
 
 -- ---- the outside, and why a run ends
 
@@ -53,15 +54,15 @@ pub record ShowsFront (old new : SinkState) (result : Result Ended RunEnd) (text
   pub why : (result ≡ Err end.Memory) ⊎ Rose old.faults new.faults
   pub front : (n : ℕ) × (new.told ≡ append_known old.told (take n text))
 
--- the next statement opens the file at a place for output
-abbrev pub makes_next : Program → State → ℕ → Bool
-makes_next p s place = option_map_or (λ a. makes_by a place) (act_at p (next_statement p s.control)) false
+-- the next statement opens the file at a place for output, among so many files that it has come to
+abbrev pub makes_next : Program → State → ℕ → ℕ → Bool
+makes_next p s reached place = option_map_or (λ a. makes_by (up_to reached a) place) (act_at p (next_statement p s.control)) false
 
--- the next statement may meet the fault
-pub record IsMetNext (p : Program) (s : State) (result : Result Ended RunEnd) : Type 0 where
+-- the next statement may meet the fault at the last of so many files that it has come to
+pub record IsMetNext (p : Program) (s : State) (reached : ℕ) (result : Result Ended RunEnd) : Type 0 where
   pub act : Act
   pub next : act_at p (next_statement p s.control) ≡ Some act
-  pub met : IsMetBy act result
+  pub met : IsMetBy (last_of reached act) result
 
 -- a refusal by the outside, or for want of memory
 abbrev pub IfRefused : Result Ended RunEnd → Type 0 → Type 0
@@ -110,22 +111,24 @@ module _ (p : Program) (paths : List (List ℕ)) (budget : ℕ) where
 
   -- The run was broken off behind so many steps, or in the next one: each file holds what it holds there, or a part
   -- of it; what is shown is all that is shown there, unless the sink refused it or memory ran out. A fault of files was
-  -- met by the next statement, or behind the run's own end.
+  -- met by the next statement, in an OPEN at the last file to which it came, or behind the run's own end. No file that
+  -- stands behind that one in the statement is made anew.
   pub record BreaksOff (first told : Contents) (sink_before sink_after : SinkState) (result : Result Ended RunEnd)
       : Type 0 where
     pub steps : ℕ
     pub within : steps ≤ budget
     pub free : AreFree p (told_files first paths) steps
+    pub reached : ℕ
     pub files : (place : ℕ) (path : List ℕ) (f : File) → slice_get paths place ≡ Some path
         → slice_get (state_after p (told_files first paths) steps).world.files place ≡ Some f
-        → IsPartOf (makes_next p (state_after p (told_files first paths) steps) place) f f.content (get told path)
+        → IsPartOf (makes_next p (state_after p (told_files first paths) steps) reached place) f f.content (get told path)
     pub others : KeepsNames first told paths
     pub shows : (sink_after.told ≡ append_known sink_before.told
         (state_after p (told_files first paths) steps).world.shown)
         ⊎ ShowsFront sink_before sink_after result (state_after p (told_files first paths) steps).world.shown
     pub meets : IfFailed result (IsOver first told steps
         ⊎ (Rose sink_before.faults sink_after.faults
-        ⊎ IsMetNext p (state_after p (told_files first paths) steps) result))
+        ⊎ IsMetNext p (state_after p (told_files first paths) steps) reached result))
 
   abbrev pub IsBroken : Outside → Outside → Result Ended RunEnd → Type 0
   IsBroken start now result =

@@ -1,16 +1,17 @@
 -- What holds of a program that is run, its plan and its paths.
-use Rattle.std.specs.Prelude.{◌≡◌, ◌≤◌, ◌<◌, ℕ, suc, Bool, true, false, List, length, map, Some, Result, IfOk, String, string_bytes}
-use Rattle.std.specs.declared.alloc.Global.{Global}
+use Rattle.std.specs.Prelude.{◌≡◌, ◌≤◌, ◌<◌, ℕ, suc, Bool, true, false, List, length, map, Contains, Some, Result, IfOk, string_bytes}
 use Rattle.std.specs.List.{All}
 use Rattle.cob_program.specs.declared.act.Opening.{Opening}
 use Rattle.cob_program.specs.Act.{Act, open_files, close_files, read, Program}
 use Rattle.cob_program.specs.ActView.{plain_act, plain_program}
-use Rattle.cob_plan.specs.Plan.{ArePlanNodes, IsPlanNode, IsStatement}
+use Rattle.cob_plan.specs.Plan.{ArePlanNodes, IsPlanNode, IsStatement, op_edges}
 use Rattle.cob_plan.specs.declared.node.Op.{Op}
+use Rattle.cob_plan.specs.declared.node.PlanNode.{PlanNode}
 use Rattle.cob_plan.specs.Fitting.{IsFitting}
 use Rattle.cob_plan.specs.Stepping as stepping
-use Rattle.cob_plan.specs.Stepping.{OpLeadsOn, HasSteps}
+use Rattle.cob_plan.specs.Stepping.{OpLeadsOn, HasSteps, file_opened}
 use Rattle.cob_graph.specs.Lookup.{node_at}
+use Rattle.cob_runs.specs.declared.action.Action.{Action}
 use Rattle.cob_runs.specs.Effects.{act_at}
 use Rattle.cob_interp.specs.declared.ends.RunEnd.{RunEnd}
 use Rattle.cob_interp.specs.declared.parts.Call.{Call}
@@ -20,14 +21,11 @@ use Rattle.cob_interp.specs.declared.setting.Place.{Place}
 use Rattle.cob_interp.specs.Able.{HasItsFiles}
 use Rattle.cob_interp.specs.Told.{AreDistinct}
 
-abbrev pub texts : List (String Global) → List (List ℕ)
-texts words = map string_bytes words
-
 abbrev pub program_of : Setting → Program
 program_of s = plain_program s.program.now
 
 abbrev pub paths_of : Setting → List (List ℕ)
-paths_of s = texts s.paths.now
+paths_of s = map string_bytes s.paths.now
 
 pub record IsReady (s : Setting) : Type 0 where
   pub nodes : ArePlanNodes s.graph.now s.plan.nodes.items
@@ -61,10 +59,18 @@ pub record FitsPlace (s : Setting) (node : ℕ) (x : Place) : Type 0 where
 abbrev pub LeadsOn : Setting → ℕ → ℕ → Result ℕ RunEnd → Type 0
 LeadsOn s from statement result = IfOk result (λ next. stepping.LeadsOn s.plan.nodes.items statement (suc from) next)
 
--- or one to which an operation leads
+-- the node that is answered is one to which an operation leads
 abbrev pub LeadsBy : Setting → Op → Result ℕ RunEnd → Type 0
 LeadsBy s o result =
     (from statement : ℕ) → OpLeadsOn s.plan.nodes.items from statement o → LeadsOn s from statement result
+
+-- the node that is answered is one of the ways on from an operation
+abbrev pub IsWayOn : Op → Result ℕ RunEnd → Type 0
+IsWayOn o result = IfOk result (λ next. (a : Action) × Contains (op_edges o) (a, next))
+
+-- the node with a number opens the file at a place of its statement's list
+abbrev pub OpensAt : Setting → ℕ → ℕ → Type 0
+OpensAt s node k = (x : PlanNode) → node_at s.plan.nodes.items node ≡ Some x → file_opened x.op ≡ Some k
 
 -- an act that neither opens nor closes files
 abbrev pub is_uncalled : Act → Bool

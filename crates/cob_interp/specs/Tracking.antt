@@ -61,7 +61,7 @@ purpose_in writing = Some Writing
 abbrev pub purposes_of : List File → List (Option Purpose)
 purposes_of files = map (λ f. purpose_in f.mode) files
 
--- and by the id
+-- what a file's id is open for, by the id that is held
 abbrev pub purpose_for : Option Held → Option Purpose
 purpose_for None = None
 purpose_for (Some x) = Some (purpose_by x.writes)

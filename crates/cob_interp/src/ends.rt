@@ -2,13 +2,13 @@
 use cob_tree::Kind;
 
 /// The run came to its end after so many steps.
-#[derive(Clone, Copy, Debug, PartialEq, Eq)]
+#[derive(Clone, Copy)]
 pub struct Ended {
     pub steps: u64,
 }
 
 /// Why a run didn't come to its end.
-#[derive(Clone, Copy, Debug, PartialEq, Eq, Drop)]
+#[derive(Clone, Copy, Drop)]
 pub enum RunEnd {
     /// A file couldn't be opened, read or closed.
     ReadFault,
@@ -36,7 +36,7 @@ pub enum RunEnd {
 }
 
 /// How a run ended, and whether the sink refused its text, so that nothing more may be shown.
-#[derive(Clone, Copy, Debug, PartialEq, Eq)]
+#[derive(Clone, Copy)]
 pub struct Ending {
     pub end: Result<Ended, RunEnd>,
     pub sink_refused: bool,

@@ -15,7 +15,7 @@ use std::mem;
 const WAITING_LIMIT: usize = 65_536;
 
 /// The id under which a file is open, and whether it's open for writing.
-#[derive(Clone, Copy, Debug, PartialEq, Eq, Drop)]
+#[derive(Clone, Copy, Drop)]
 pub struct Held {
     pub id: u32,
     pub writes: bool,

@@ -1,11 +1,13 @@
 //! OPEN (ISO 1989:1985, "The OPEN statement").
-ghost use Rattle.std.specs.Prelude.{◌≡◌, ℕ, true, IfOk, [], slice_get};
+ghost use Rattle.std.specs.Prelude.{◌≡◌, ℕ, suc, true, IfOk, [], Some, slice_get, take};
 ghost use Rattle.batch_io.specs.SinkState.{SinkState};
 ghost use Rattle.cob_program.specs.Act.{open_files};
 ghost use Rattle.cob_program.specs.ActView.{plain_act};
 ghost use Rattle.cob_interp.specs.Runs.{outside};
-ghost use Rattle.cob_interp.specs.Setting.{IsReady, IsPlace, IsPlaced, LeadsBy, paths_of};
+ghost use Rattle.cob_interp.specs.Setting.{IsReady, IsPlace, IsPlaced, IsWayOn, LeadsBy, paths_of};
 ghost use Rattle.cob_interp.specs.Meeting.{IsMetBy};
+ghost use Rattle.cob_plan.specs.Stepping.{file_opened};
+ghost use Rattle.cob_interp.specs.Reached.{last_opened};
 ghost use Rattle.cob_interp.specs.Touching.{Makes, OpensOnly, makes_in};
 ghost use Rattle.cob_interp.specs.Tracking.{AreLeft, AreOpen, ArePlaced, Tracks};
 ghost use Rattle.cob_interp.specs.Doing.{IsFresh, Leads};
@@ -87,10 +89,13 @@ pub fn do_open<F: Files>(
     ensures leads { (sink : SinkState) (node budget : ℕ) → IsPlace setting.now node place.now
         → Leads setting.now budget step node (outside (F.state files.old) sink) (outside (F.state files.new) sink)
         world.old.world world.new.world result }
-    ensures touches { Makes (paths_of setting.now) (makes_in openings.now) world.old.world
+    ensures touches { (k : ℕ) → file_opened place.now.plan_node.now.op ≡ Some k
+        → Makes (paths_of setting.now) (makes_in (take (suc k) openings.now)) world.old.world
         (F.state files.old) (F.state files.new) }
     ensures opens { IfOk result (λ _. OpensOnly world.old.world world.new.world) }
-    ensures met { IsMetBy (open_files openings.now) result }
+    ensures met { (k : ℕ) → file_opened place.now.plan_node.now.op ≡ Some k
+        → IsMetBy (open_files (last_opened (suc k) openings.now)) result }
+    ensures way { IsWayOn place.now.plan_node.now.op result }
     ensures on { LeadsBy setting.now place.now.plan_node.now.op result }
 {
     let Op::Open { file, .. } = place.plan_node.op else {

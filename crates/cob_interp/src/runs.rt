@@ -1,5 +1,5 @@
 //! A program is run on the outside's files.
-ghost use Rattle.std.specs.Prelude.{◌≡◌, ℕ, List, true, false, IfOk, IfErr, MatchResult, Result, Err, length};
+ghost use Rattle.std.specs.Prelude.{◌≡◌, ℕ, List, true, false, IfOk, IfErr, MatchResult, Result, Err, length, map, string_bytes};
 ghost use Rattle.batch_io.specs.FilesState.{KeepsIds, known_bytes};
 ghost use Rattle.batch_io.specs.SinkState.{SinkState};
 ghost use Rattle.cob_graph.specs.Graphs.{IsGraph};
@@ -14,7 +14,7 @@ ghost use Rattle.cob_interp.specs.Able.{CanBeRun, HasItsFiles};
 ghost use Rattle.cob_interp.specs.Readying.{IsRefusal, Sees, AreEmptied};
 ghost use Rattle.cob_interp.specs.Runs.{Outside, outside, IsBroken, IfTold, KeepsUnmade, Runs, TellsOfSink};
 ghost use Rattle.cob_interp.specs.Running.{HaltsOff};
-ghost use Rattle.cob_interp.specs.Setting.{IsReady, program_of, paths_of, texts};
+ghost use Rattle.cob_interp.specs.Setting.{IsReady, program_of, paths_of};
 ghost use Rattle.cob_interp.specs.Told.{AreDistinct};
 ghost use Rattle.cob_interp.specs.Touching.{Touches, makes_none};
 ghost use Rattle.cob_interp.specs.Tracking.{AreLeft, AreNone, AreOpen, AreWritten, Tracks};
@@ -245,8 +245,8 @@ fn run_through<F: Files, O: Sink>(
     requires able { CanDoProgram (plain_program program.now) }
     requires files { HasItsFiles (plain_program program.now) }
     requires paths { length paths.now ≡ length program.now.layout.files }
-    requires distinct { AreDistinct (texts paths.now) }
-    ensures runs { Runs (plain_program program.now) (texts paths.now) budget
+    requires distinct { AreDistinct (map string_bytes paths.now) }
+    ensures runs { Runs (plain_program program.now) (map string_bytes paths.now) budget
         (outside (F.state files.old) (O.state out.old)) (outside (F.state files.new) (O.state out.new)) result.end }
     ensures sink { TellsOfSink (O.state out.old) (O.state out.new) result }
     ensures ids { KeepsIds (F.state files.old) (F.state files.new) }
@@ -300,12 +300,12 @@ pub fn run_to_ending<F: Files, O: Sink>(
     requires graph { IsGraph (plain_program program.now) graph.now }
     requires able { CanBeRun (plain_program program.now) }
     requires paths { length paths.now ≡ length program.now.layout.files }
-    requires distinct { AreDistinct (texts paths.now) }
-    ensures runs { Runs (plain_program program.now) (texts paths.now) budget
+    requires distinct { AreDistinct (map string_bytes paths.now) }
+    ensures runs { Runs (plain_program program.now) (map string_bytes paths.now) budget
         (outside (F.state files.old) (O.state out.old)) (outside (F.state files.new) (O.state out.new)) result.end }
     ensures sink { TellsOfSink (O.state out.old) (O.state out.new) result }
     ensures ids { KeepsIds (F.state files.old) (F.state files.new) }
-    ensures unmade { IfTold (λ first told. KeepsUnmade (plain_program program.now) (texts paths.now) first told)
+    ensures unmade { IfTold (λ first told. KeepsUnmade (plain_program program.now) (map string_bytes paths.now) first told)
         (known_bytes (F.state files.old)) (known_bytes (F.state files.new)) }
 {
     run_through(alloc, program, graph, files, paths, out, budget)
@@ -329,11 +329,11 @@ pub fn run<F: Files, O: Sink>(
     requires graph { IsGraph (plain_program program.now) graph.now }
     requires able { CanBeRun (plain_program program.now) }
     requires paths { length paths.now ≡ length program.now.layout.files }
-    requires distinct { AreDistinct (texts paths.now) }
-    ensures runs { Runs (plain_program program.now) (texts paths.now) budget
+    requires distinct { AreDistinct (map string_bytes paths.now) }
+    ensures runs { Runs (plain_program program.now) (map string_bytes paths.now) budget
         (outside (F.state files.old) (O.state out.old)) (outside (F.state files.new) (O.state out.new)) result }
     ensures ids { KeepsIds (F.state files.old) (F.state files.new) }
-    ensures unmade { IfTold (λ first told. KeepsUnmade (plain_program program.now) (texts paths.now) first told)
+    ensures unmade { IfTold (λ first told. KeepsUnmade (plain_program program.now) (map string_bytes paths.now) first told)
         (known_bytes (F.state files.old)) (known_bytes (F.state files.new)) }
 {
     run_to_ending(alloc, program, graph, files, paths, out, budget).end

@@ -1,5 +1,5 @@
 //! A step of the run: all that its statement does, from the node at which it begins to the next such node.
-ghost use Rattle.std.specs.Prelude.{◌≡◌, ◌+◌, ◌<◌, ℕ, true, false, IfOk, Some};
+ghost use Rattle.std.specs.Prelude.{◌≡◌, ◌+◌, ◌<◌, ◌⊎◌, ℕ, suc, true, false, IfOk, Some, take};
 ghost use Rattle.batch_io.specs.FilesState.{known_bytes};
 ghost use Rattle.batch_io.specs.SinkState.{SinkState};
 ghost use Rattle.cob_program.specs.Act.{open_files, close_files};
@@ -9,10 +9,11 @@ ghost use Rattle.cob_interp.specs.declared.parts.Call.TheVariants as call;
 ghost use Rattle.cob_interp.specs.Ends.{UnlessRefused};
 ghost use Rattle.cob_interp.specs.Runs.{Outside, outside};
 ghost use Rattle.cob_interp.specs.Running.{Stands, Arrives};
-ghost use Rattle.cob_interp.specs.Setting.{IsReady, IsPlace, StartsAt, FitsPlace, LeadsOn, IsUncalled, IsCall, is_uncalled, program_of, paths_of};
+ghost use Rattle.cob_interp.specs.Setting.{IsReady, IsPlace, StartsAt, FitsPlace, LeadsOn, IsUncalled, IsCall, OpensAt, is_uncalled, program_of, paths_of};
 ghost use Rattle.cob_plan.specs.Stepping.{rests, IsWithin, IsRest};
 ghost use Rattle.cob_interp.specs.Meeting.{FailsBy, IfFailed, IsMetBy, shows_first};
-ghost use Rattle.cob_interp.specs.Touching.{Touches, Makes, ClosesOnly, OpensOnly, makes_by, makes_in, makes_none};
+ghost use Rattle.cob_interp.specs.Reached.{Reaches, last_opened};
+ghost use Rattle.cob_interp.specs.Touching.{Touches, Makes, ClosesOnly, OpensOnly, makes_in, makes_none};
 ghost use Rattle.cob_interp.specs.Tracking.{AreLeft, AreOpen, ArePlaced, KeepsPlaces, Tracks};
 ghost use Rattle.cob_interp.specs.Doing.{IsPlain, Leads};
 
@@ -141,10 +142,14 @@ fn open_next<F: Files>(
     ensures placed { AreLeft (paths_of setting.now) (F.state files.new) handles.new world.new.world.files result }
     ensures leads { (sink : SinkState) (budget : ℕ) → Leads setting.now budget step node
         (outside (F.state files.old) sink) (outside (F.state files.new) sink) world.old.world world.new.world result }
-    ensures touches { Makes (paths_of setting.now) (makes_in openings.now) world.old.world
+    ensures touches { (k : ℕ) → OpensAt setting.now node k
+        → Makes (paths_of setting.now) (makes_in (take (suc k) openings.now)) world.old.world
         (F.state files.old) (F.state files.new) }
     ensures opens { IfOk result (λ _. OpensOnly world.old.world world.new.world) }
-    ensures met { IsMetBy (open_files openings.now) result }
+    ensures met { (k : ℕ) → OpensAt setting.now node k
+        → IsMetBy (open_files (last_opened (suc k) openings.now)) result }
+    ensures turn { IfOk result (λ next. (k : ℕ) → OpensAt setting.now node k
+        → IsRest setting.now.plan.nodes.items next ⊎ OpensAt setting.now next (k + 1)) }
 {
     let place = setting.place(node);
     do_open(
@@ -168,6 +173,7 @@ fn open_all<F: Files>(
     requires runs { world.old.program ≡ setting.now.program.now }
     requires within { IsWithin setting.now.plan.nodes.items node statement }
     requires its { act_at (program_of setting.now) statement ≡ Some (open_files openings.now) }
+    requires begins { OpensAt setting.now node 0 }
     requires live { AreOpen (F.state files.old) handles.old }
     requires placed { ArePlaced (paths_of setting.now) (F.state files.old) handles.old world.old.world.files }
     ensures kept { world.new.program ≡ world.old.program }
@@ -176,9 +182,8 @@ fn open_all<F: Files>(
     ensures placed { AreLeft (paths_of setting.now) (F.state files.new) handles.new world.new.world.files result }
     ensures leads { (sink : SinkState) (budget : ℕ) → Leads setting.now budget step node
         (outside (F.state files.old) sink) (outside (F.state files.new) sink) world.old.world world.new.world result }
-    ensures touches { Makes (paths_of setting.now) (makes_in openings.now) world.old.world
-        (F.state files.old) (F.state files.new) }
-    ensures met { IsMetBy (open_files openings.now) result }
+    ensures reaches { Reaches (paths_of setting.now) (open_files openings.now) world.old.world
+        (F.state files.old) (F.state files.new) result }
 {
     let mut at = node;
     for _turn in 0..setting.plan.nodes.len() {
@@ -332,10 +337,8 @@ pub fn take_step<F: Files>(
         (outside (F.state files.old) sink) world.old.world steps steps node
         → Arrives (program_of setting.now) setting.now.graph.now (paths_of setting.now) budget start
         (outside (F.state files.new) sink) world.new.world step result }
-    ensures touches { Touches (paths_of setting.now) (makes_by (plain_act place.now.statement.now.act.now))
-        world.old.world
-        (F.state files.old) (F.state files.new) }
-    ensures met { IsMetBy (plain_act place.now.statement.now.act.now) result }
+    ensures reaches { Reaches (paths_of setting.now) (plain_act place.now.statement.now.act.now) world.old.world
+        (F.state files.old) (F.state files.new) result }
     ensures still { shows_first (plain_act place.now.statement.now.act.now) ≡ false
         → IfFailed result (world.new.world ≡ world.old.world) }
 {

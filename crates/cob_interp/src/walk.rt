@@ -12,7 +12,8 @@ ghost use Rattle.cob_interp.specs.Readying.{IsRefusal, Sees};
 ghost use Rattle.cob_interp.specs.Meeting.{IfFailed, IsMetBy, ShowsRest, is_failure, shows_first};
 ghost use Rattle.cob_plan.specs.Stepping.{IsRest};
 ghost use Rattle.cob_interp.specs.Rooms.{HasRoom, HasRoomFor, written_by};
-ghost use Rattle.cob_interp.specs.Touching.{Touches, makes_by, makes_none};
+ghost use Rattle.cob_interp.specs.Reached.{Reaches, last_of};
+ghost use Rattle.cob_interp.specs.Touching.{Touches, makes_none};
 ghost use Rattle.cob_interp.specs.Tracking.{AreLeft, AreOpen, ArePlaced, KeepsPlaces, Tracks};
 ghost use Rattle.cob_interp.specs.Walking.{as_result, TellsBySink, Flushes, MayFlush, Refuses};
 
@@ -30,7 +31,7 @@ use std::alloc::Global;
 const SHOWN_LIMIT: usize = 8192;
 
 /// Why a run halts: its end, or that the sink refused its text.
-#[derive(Clone, Copy, Debug, PartialEq, Eq)]
+#[derive(Clone, Copy)]
 pub enum Halt {
     End(RunEnd),
     Sink(MakeEnd),
@@ -171,7 +172,7 @@ fn make_room<F: Files>(
     ensures places { IfOk result (λ _. KeepsPlaces world.old.world.files world.new.world.files) }
     ensures room { IfOk result (λ _. HasRoomFor setting.now world.new.world
         (plain_act place.now.statement.now.act.now)) }
-    ensures met { IsMetBy (plain_act place.now.statement.now.act.now) result }
+    ensures met { IsMetBy (last_of 0 (plain_act place.now.statement.now.act.now)) result }
     ensures still { IfErr result (λ _. world.new.world ≡ world.old.world) }
 {
     match full_file(setting, place, world) {
@@ -206,10 +207,8 @@ fn take_roomy_step<F: Files>(
         (outside (F.state files.old) sink) world.old.world steps steps node
         → Arrives (program_of setting.now) setting.now.graph.now (paths_of setting.now) budget start
         (outside (F.state files.new) sink) world.new.world step result }
-    ensures touches { Touches (paths_of setting.now) (makes_by (plain_act place.now.statement.now.act.now))
-        world.old.world
-        (F.state files.old) (F.state files.new) }
-    ensures met { IsMetBy (plain_act place.now.statement.now.act.now) result }
+    ensures reaches { Reaches (paths_of setting.now) (plain_act place.now.statement.now.act.now) world.old.world
+        (F.state files.old) (F.state files.new) result }
     ensures still { shows_first (plain_act place.now.statement.now.act.now) ≡ false
         → IfFailed result (world.new.world.shown ≡ world.old.world.shown) }
 {

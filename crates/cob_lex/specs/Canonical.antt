@@ -1,22 +1,21 @@
 -- The canonical tokens of a text.
-use Rattle.std.specs.Prelude.{◌≡◌, ℕ, ◌+◌, ◌-◌, Bool, true, false, ◌||◌, ◌==◌, nat_le, min, if◌then◌else◌, List, [], ◌∷◌, map, length, take, drop, Option, Some, None, Result, Ok, Err}
+use Rattle.std.specs.Prelude.{ℕ, ◌-◌, Bool, ◌||◌, ◌==◌, min, if◌then◌else◌, List, ◌∷◌, map, length, take, drop, Option, Some, None, Result, Ok, Err}
 use Rattle.std.specs.List.{filter, position}
-use Rattle.std.specs.Option.{option_map, unwrap_or}
-use Rattle.std.specs.Global.{Vec}
 use Rattle.cob_lines.specs.declared.Mark.{Mark}
+use Rattle.cob_tree.specs.declared.keyword.Keyword.{Keyword}
 use Rattle.cob_tree.specs.declared.token.Num.{Num}
 use Rattle.cob_tree.specs.declared.token.Tok.{Tok}
 use Rattle.cob_tree.specs.declared.token.Tok.TheVariants as tok
 use Rattle.cob_tree.specs.declared.token.Token.{Token}
+use Rattle.cob_tree.specs.Keywords.{text_of}
 use Rattle.cob_lex.specs.declared.LexEnd.{LexEnd}
 use Rattle.cob_lex.specs.declared.LexEnd.TheVariants.{BadToken, Memory}
-use Rattle.cob_lex.specs.declared.word.Key.{Key}
 use Rattle.cob_lex.specs.declared.cut.Shape.{Shape}
 use Rattle.cob_lex.specs.declared.cut.Shape.TheVariants.{Word, Number, Padded, Literal, Symbol, Relation, Stop, PictureString}
 use Rattle.cob_lex.specs.declared.piece.Piece.{Piece}
 use Rattle.cob_lex.specs.declared.piece.Place.{Place}
 use Rattle.cob_lex.specs.Marks.{ch_at, is_digit, content}
-use Rattle.cob_lex.specs.Words.{name, raised}
+use Rattle.cob_lex.specs.Words.{raised}
 use Rattle.cob_lex.specs.Pieces.{place, raw_tokens}
 use Rattle.cob_lex.specs.Rows.{rewritten}
 
@@ -24,9 +23,10 @@ use Rattle.cob_lex.specs.Rows.{rewritten}
 abbrev pub characters : List Mark → List ℕ
 characters front = map (λ m. m.ch) front
 
--- a named word is written by its name, any other as it stands, in capitals
-abbrev pub written : Key → List Mark → List ℕ
-written word front = if length (name word) == 0 then raised front else name word
+-- a reserved word is written by its text, any other word as it stands, in capitals
+abbrev pub written : Option Keyword → List Mark → List ℕ
+written (Some keyword) front = text_of keyword
+written None front = raised front
 
 abbrev pub is_digit_mark : Mark → Bool
 is_digit_mark m = is_digit m.ch
@@ -52,7 +52,7 @@ scale None count = 0
 scale (Some k) count = min (count - k - 1) 18
 
 abbrev pub number : List ℕ → List Mark → Num
-number zeros front = record { sign = sign front; digits = zeros; scale = scale (point front) (length front) }
+number spelled front = record { sign = sign front; digits = spelled; scale = scale (point front) (length front) }
 
 -- what a token of this shape is, from its characters
 abbrev pub tok_of : Shape → List Mark → Tok

@@ -1,20 +1,20 @@
 -- The token or separator at the beginning of a text, and what it leaves for the next one.
-use Rattle.std.specs.Prelude.{ℕ, ◌+◌, ◌-◌, Bool, not, ◌&&◌, ◌||◌, ◌==◌, nat_lt, nat_le, if◌then◌else◌, List, [], ◌∷◌, length, take, drop, Option, Some, None, false}
+use Rattle.std.specs.Prelude.{ℕ, ◌+◌, ◌-◌, Bool, ◌&&◌, ◌||◌, ◌==◌, nat_le, if◌then◌else◌, List, length, take, drop, Option, Some, None, true, false}
 use Rattle.cob_lines.specs.declared.Mark.{Mark}
 use Rattle.cob_tree.specs.declared.token.Rel.{Rel}
 use Rattle.cob_tree.specs.declared.token.Rel.TheVariants.{Equal, Less, Greater, AtLeast, AtMost}
 use Rattle.cob_lex.specs.declared.mark.Class.{Class}
 use Rattle.cob_lex.specs.declared.mark.Class.TheVariants.{Space, Comma, Point, Plus, Single, EqualSign, LessSign, GreaterSign, QuotationMark, Run, Other}
-use Rattle.cob_lex.specs.declared.word.Key.{Key}
-use Rattle.cob_lex.specs.declared.word.Key.TheVariants.{Plain, Pic, Picture, Is}
+use Rattle.cob_tree.specs.declared.keyword.Keyword.{Keyword}
+use Rattle.cob_tree.specs.declared.keyword.Keyword.TheVariants.{Pic, Picture, Is}
 use Rattle.cob_lex.specs.declared.cut.Shape.{Shape}
-use Rattle.cob_lex.specs.declared.cut.Shape.TheVariants.{Word, Number, Padded, Literal, Symbol, Relation, Stop, PictureString}
+use Rattle.cob_lex.specs.declared.cut.Shape.TheVariants.{Word, Number, Literal, Symbol, Relation, Stop, PictureString}
 use Rattle.cob_lex.specs.declared.cut.Due.{Due}
 use Rattle.cob_lex.specs.declared.cut.Due.TheVariants.{Nothing, BehindPic, BehindIs}
 use Rattle.cob_lex.specs.declared.cut.State.{State}
 use Rattle.cob_lex.specs.declared.cut.Cut.{Cut}
 use Rattle.cob_lex.specs.Marks.{ch_at, is_digit, class_of, is_gap, ends_rightly, run_of, literal_len, content, solid_len, stripped}
-use Rattle.cob_lex.specs.Words.{same, key_of, is_word, is_unsigned, is_minus}
+use Rattle.cob_lex.specs.Words.{spelled_keyword, is_word, is_unsigned, is_minus}
 
 -- a separator
 abbrev pub gap : Cut
@@ -38,7 +38,7 @@ is_lone_hyphen front = length front == 1 && ch_at front 0 == 45
 abbrev pub run_token : Bool → List Mark → List Mark → Option Cut
 run_token free front text =
     if is_lone_hyphen front then single Symbol
-    else if is_word front then ended (Word (key_of front)) (length front) text
+    else if is_word front then ended (Word (spelled_keyword front)) (length front) text
     else if is_unsigned front || (free && is_minus front) then ended Number (length front) text
     else None
 
@@ -74,9 +74,13 @@ abbrev pub picture_token : List Mark → Option Cut
 picture_token front =
     if length (stripped front) == 0 then None else Some (token_of_len PictureString (length (stripped front)))
 
+abbrev pub is_the_word_is : Option Keyword → Bool
+is_the_word_is (Some Is) = true
+is_the_word_is _ = false
+
 -- the optional word IS before a picture
 abbrev pub is_is : List Mark → List Mark → Bool
-is_is front text = is_word front && same (key_of front) Is && ends_rightly (drop (length front) text)
+is_is front text = is_word front && is_the_word_is (spelled_keyword front) && ends_rightly (drop (length front) text)
 
 abbrev pub token_by : Class → Bool → List Mark → Option Cut
 token_by Space free text = None
@@ -94,7 +98,7 @@ token_by Other free text = None
 abbrev pub token_at : Due → Bool → List Mark → Option Cut
 token_at Nothing free text = token_by (class_of (ch_at text 0)) free text
 token_at BehindPic free text =
-    if is_is (run_of text) text then Some (token_of_len (Word Is) (length (run_of text)))
+    if is_is (run_of text) text then Some (token_of_len (Word (Some Is)) (length (run_of text)))
     else picture_token (take (solid_len text) text)
 token_at BehindIs free text = picture_token (take (solid_len text) text)
 
@@ -106,20 +110,21 @@ cut s text = if is_gap text then Some gap else token_at s.due s.free text
 abbrev pub is_opening : ℕ → Bool
 is_opening ch = ch == 32 || ch == 40
 
--- a token's word
-abbrev pub key : Shape → Key
-key (Word k) = k
-key _ = Plain
+-- the reserved word that a token is
+abbrev pub keyword : Shape → Option Keyword
+keyword (Word word) = word
+keyword _ = None
 
-abbrev pub due_behind : Due → Key → Due
-due_behind Nothing word = if same word Pic || same word Picture then BehindPic else Nothing
-due_behind BehindPic word = if same word Is then BehindIs else Nothing
-due_behind BehindIs word = Nothing
+abbrev pub due_behind : Due → Option Keyword → Due
+due_behind Nothing (Some Pic) = BehindPic
+due_behind Nothing (Some Picture) = BehindPic
+due_behind BehindPic (Some Is) = BehindIs
+due_behind _ _ = Nothing
 
 -- separators may stand between PIC, IS and the picture
 abbrev pub due_after : Due → Option Shape → Due
 due_after due None = due
-due_after due (Some shape) = due_behind due (key shape)
+due_after due (Some shape) = due_behind due (keyword shape)
 
 -- what holds behind a token or separator
 unfoldable pub after : State → Cut → List Mark → State

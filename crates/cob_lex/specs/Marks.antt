@@ -114,7 +114,7 @@ solid_len text = unwrap_or (first_space text) (length text)
 abbrev pub is_point_comma_semicolon : ℕ → Bool
 is_point_comma_semicolon ch = ch == 44 || ch == 46 || ch == 59
 
--- without a last point, comma or semicolon
+-- a text without a point, comma or semicolon at its end
 abbrev pub stripped : List Mark → List Mark
 stripped front =
     if is_point_comma_semicolon (ch_at front (length front - 1)) then take (length front - 1) front else front

@@ -2,21 +2,22 @@
 ghost use Rattle.std.specs.Prelude.{◌≡◌, ◌+◌, ◌-◌, ◌<◌, ◌≤◌, length, drop, take, false};
 ghost use Rattle.std.specs.Bool.{OnTrue};
 ghost use Rattle.cob_lex.specs.Marks.{ch_at, literal_len, solid_len};
-ghost use Rattle.cob_lex.specs.Cuts.{single, ended, is_lone_hyphen, run_token, plus_token, point_token, angle_token, is_literal, literal_token, picture_token, is_is, token_by, token_at, cut, is_opening, key, due_behind, due_after, after};
+ghost use Rattle.cob_lex.specs.Cuts.{single, ended, is_lone_hyphen, run_token, plus_token, point_token, angle_token, is_literal, literal_token, picture_token, is_the_word_is, is_is, token_by, token_at, cut, is_opening, keyword, due_behind, due_after, after};
 ghost use Rattle.cob_lex.specs.Bounds.{IsWithin};
 
 use crate::mark::{
     Class, ch_at, class_of, content_len, ends_rightly, inside, is_digit, is_gap, literal_len,
     run_of, solid_len, stripped, tail,
 };
-use crate::word::{Key, is_minus, is_unsigned, is_word, key_of};
+use crate::word::{is_minus, is_unsigned, is_word, spelled_keyword};
 use cob_lines::Mark;
-use cob_tree::Rel;
+use cob_tree::{Keyword, Rel};
 
 /// The kinds of raw tokens.
 #[derive(Clone, Copy)]
 pub enum Shape {
-    Word(Key),
+    /// A word, and the reserved word that it is.
+    Word(Option<Keyword>),
     Number,
     /// A number that gets a leading zero.
     Padded,
@@ -30,9 +31,9 @@ pub enum Shape {
 }
 
 impl Shape {
-    /// The word that the token is.
-    pub fn key(self) -> Key
-        ensures { result ≡ key self }
+    /// The reserved word that the token is.
+    pub fn keyword(self) -> Option<Keyword>
+        ensures { result ≡ keyword self }
     {
         match self {
             Shape::Word(word) => word,
@@ -42,7 +43,7 @@ impl Shape {
             | Shape::Symbol
             | Shape::Relation(_)
             | Shape::Stop
-            | Shape::PictureString => Key::Plain,
+            | Shape::PictureString => None,
         }
     }
 }
@@ -111,7 +112,7 @@ fn run_token(free: bool, front: &[Mark], text: &[Mark]) -> Option<Cut>
     if is_lone_hyphen(front) {
         single(Shape::Symbol)
     } else if is_word(front) {
-        ended(Shape::Word(key_of(front)), front.len(), text)
+        ended(Shape::Word(spelled_keyword(front)), front.len(), text)
     } else if is_unsigned(front) || (free && is_minus(front)) {
         ended(Shape::Number, front.len(), text)
     } else {
@@ -208,12 +209,18 @@ fn picture_at(text: &[Mark]) -> Option<Cut>
     picture_token(&text[..solid_len(text)])
 }
 
+fn is_the_word_is(word: Option<Keyword>) -> bool
+    ensures { result ≡ is_the_word_is word }
+{
+    matches!(word, Some(Keyword::Is))
+}
+
 fn is_is(front: &[Mark], text: &[Mark]) -> bool
     requires { length front.now ≤ length text.now }
     ensures value { result ≡ is_is front.now text.now }
     ensures some { OnTrue result (0 < length front.now) }
 {
-    is_word(front) && key_of(front).is(Key::Is) && ends_rightly(&text[front.len()..])
+    is_word(front) && is_the_word_is(spelled_keyword(front)) && ends_rightly(&text[front.len()..])
 }
 
 fn token_by(class: Class, free: bool, text: &[Mark]) -> Option<Cut>
@@ -242,7 +249,7 @@ fn picture_or_is(text: &[Mark]) -> Option<Cut>
     let front = run_of(text);
     if is_is(front, text) {
         Some(Cut {
-            shape: Some(Shape::Word(Key::Is)),
+            shape: Some(Shape::Word(Some(Keyword::Is))),
             length: front.len(),
         })
     } else {
@@ -257,25 +264,13 @@ fn is_opening(ch: u8) -> bool
 }
 
 impl Due {
-    fn behind(self, word: Key) -> Due
+    fn behind(self, word: Option<Keyword>) -> Due
         ensures { result ≡ due_behind self word }
     {
-        match self {
-            Due::Nothing => {
-                if word.is(Key::Pic) || word.is(Key::Picture) {
-                    Due::BehindPic
-                } else {
-                    Due::Nothing
-                }
-            }
-            Due::BehindPic => {
-                if word.is(Key::Is) {
-                    Due::BehindIs
-                } else {
-                    Due::Nothing
-                }
-            }
-            Due::BehindIs => Due::Nothing,
+        match (self, word) {
+            (Due::Nothing, Some(Keyword::Pic | Keyword::Picture)) => Due::BehindPic,
+            (Due::BehindPic, Some(Keyword::Is)) => Due::BehindIs,
+            _ => Due::Nothing,
         }
     }
 
@@ -284,7 +279,7 @@ impl Due {
     {
         match shape {
             None => self,
-            Some(shape) => self.behind(shape.key()),
+            Some(shape) => self.behind(shape.keyword()),
         }
     }
 }

@@ -25,7 +25,7 @@ use std::alloc::{AllocError, AllocFailed, Global};
 use token::tokens;
 
 /// Why a text has no canonical tokens.
-#[derive(Clone, Copy, Debug, PartialEq, Eq)]
+#[derive(Clone, Copy, PartialEq, Eq)]
 pub enum LexEnd {
     /// The first character of the first token that doesn't begin or end rightly.
     BadToken { line: u32, column: u32 },

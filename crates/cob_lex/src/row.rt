@@ -1,18 +1,17 @@
 //! The rewriting of words and relations.
 ghost use Rattle.std.specs.Prelude.{◌≡◌, ◌+◌, ◌<◌, ◌++◌, length, IfOk, OnOk, false};
-ghost use Rattle.cob_lex.specs.Rows.{fate_of, pair_of, alone, paired, row_of, row_at, head, key_at, shaped, fated, reworded, weakened, equal, comparison, compared_at, words_of, relation_or, related, is_stop, is_digit_alone, padded_one, padded, rewritten};
+ghost use Rattle.cob_lex.specs.Rows.{fate_of, pair_of, row_of, row_at, head, keyword_at, shaped, fated, reworded, weakened, equal, comparison, compared_at, words_of, relation_or, related, is_stop, is_digit_alone, padded_one, padded, rewritten};
 
 use crate::cut::Shape;
 use crate::piece::{Piece, behind};
-use crate::word::Key;
-use cob_tree::Rel;
+use cob_tree::{Keyword, Rel};
 use std::alloc::{AllocError, Global};
 
 /// What becomes of a token.
 #[derive(Clone, Copy)]
 pub enum Fate {
     Keep,
-    Becomes(Key),
+    Becomes(Keyword),
     Dropped,
 }
 
@@ -23,13 +22,6 @@ pub struct Row {
     pub words: usize,
 }
 
-/// The rest of a row of two words: its second word, and what the two become.
-#[derive(Clone, Copy)]
-pub struct Pair {
-    pub second: Key,
-    pub word: Key,
-}
-
 /// A relation that stands in so many words.
 #[derive(Clone, Copy)]
 pub struct Compared {
@@ -37,173 +29,73 @@ pub struct Compared {
     pub words: usize,
 }
 
-fn fate_of(word: Key) -> Fate
+/// What a row of one word makes of it.
+fn fate_of(word: Option<Keyword>) -> Fate
     ensures { result ≡ fate_of word }
 {
     match word {
-        Key::Picture => Fate::Becomes(Key::Pic),
-        Key::Through => Fate::Becomes(Key::Thru),
-        Key::In => Fate::Becomes(Key::Of),
-        Key::Id => Fate::Becomes(Key::Identification),
-        Key::Comp | Key::Computational => Fate::Becomes(Key::Binary),
-        Key::Comp3 | Key::Computational3 => Fate::Becomes(Key::PackedDecimal),
-        Key::Zeros | Key::Zeroes => Fate::Becomes(Key::Zero),
-        Key::Spaces => Fate::Becomes(Key::Space),
-        Key::Quotes => Fate::Becomes(Key::Quote),
-        Key::HighValues => Fate::Becomes(Key::HighValue),
-        Key::LowValues => Fate::Becomes(Key::LowValue),
-        Key::Values => Fate::Becomes(Key::Value),
-        Key::Is
-        | Key::Are
-        | Key::Than
-        | Key::Then
-        | Key::On
-        | Key::At
-        | Key::With
-        | Key::Mode
-        | Key::Contains
-        | Key::Character
-        | Key::Characters
-        | Key::Record
-        | Key::Records
-        | Key::Next
-        | Key::Usage
-        | Key::Sign => Fate::Dropped,
-        Key::Plain
-        | Key::RecordSize
-        | Key::File
-        | Key::Status
-        | Key::Go
-        | Key::To
-        | Key::Assign
-        | Key::End
-        | Key::Program
-        | Key::EndProgram
-        | Key::Pic
-        | Key::Thru
-        | Key::Of
-        | Key::Identification
-        | Key::Binary
-        | Key::PackedDecimal
-        | Key::Zero
-        | Key::Space
-        | Key::Quote
-        | Key::HighValue
-        | Key::LowValue
-        | Key::Value
-        | Key::Greater
-        | Key::Less
-        | Key::Equal
-        | Key::Or => Fate::Keep,
+        Some(Keyword::Picture) => Fate::Becomes(Keyword::Pic),
+        Some(Keyword::Through) => Fate::Becomes(Keyword::Thru),
+        Some(Keyword::In) => Fate::Becomes(Keyword::Of),
+        Some(Keyword::Id) => Fate::Becomes(Keyword::Identification),
+        Some(Keyword::Comp | Keyword::Computational) => Fate::Becomes(Keyword::Binary),
+        Some(Keyword::Comp3 | Keyword::Computational3) => Fate::Becomes(Keyword::PackedDecimal),
+        Some(Keyword::Zeros | Keyword::Zeroes) => Fate::Becomes(Keyword::Zero),
+        Some(Keyword::Spaces) => Fate::Becomes(Keyword::Space),
+        Some(Keyword::Quotes) => Fate::Becomes(Keyword::Quote),
+        Some(Keyword::HighValues) => Fate::Becomes(Keyword::HighValue),
+        Some(Keyword::LowValues) => Fate::Becomes(Keyword::LowValue),
+        Some(Keyword::Values) => Fate::Becomes(Keyword::Value),
+        Some(
+            Keyword::Is
+            | Keyword::Are
+            | Keyword::Than
+            | Keyword::Then
+            | Keyword::On
+            | Keyword::At
+            | Keyword::With
+            | Keyword::Mode
+            | Keyword::Contains
+            | Keyword::Character
+            | Keyword::Characters
+            | Keyword::Record
+            | Keyword::Records
+            | Keyword::Next
+            | Keyword::Usage
+            | Keyword::Sign,
+        ) => Fate::Dropped,
+        _ => Fate::Keep,
     }
 }
 
-fn pair_of(word: Key) -> Option<Pair>
-    ensures { result ≡ pair_of word }
+/// What two words become that are a row.
+fn pair_of(first: Option<Keyword>, second: Option<Keyword>) -> Option<Keyword>
+    ensures { result ≡ pair_of first second }
 {
-    match word {
-        Key::Record => Some(Pair {
-            second: Key::Contains,
-            word: Key::RecordSize,
-        }),
-        Key::File => Some(Pair {
-            second: Key::Status,
-            word: Key::Status,
-        }),
-        Key::Go => Some(Pair {
-            second: Key::To,
-            word: Key::Go,
-        }),
-        Key::Assign => Some(Pair {
-            second: Key::To,
-            word: Key::Assign,
-        }),
-        Key::End => Some(Pair {
-            second: Key::Program,
-            word: Key::EndProgram,
-        }),
-        Key::Plain
-        | Key::Contains
-        | Key::RecordSize
-        | Key::Status
-        | Key::To
-        | Key::Program
-        | Key::EndProgram
-        | Key::Picture
-        | Key::Pic
-        | Key::Through
-        | Key::Thru
-        | Key::In
-        | Key::Of
-        | Key::Id
-        | Key::Identification
-        | Key::Comp
-        | Key::Computational
-        | Key::Binary
-        | Key::Comp3
-        | Key::Computational3
-        | Key::PackedDecimal
-        | Key::Zeros
-        | Key::Zeroes
-        | Key::Zero
-        | Key::Spaces
-        | Key::Space
-        | Key::Quotes
-        | Key::Quote
-        | Key::HighValues
-        | Key::HighValue
-        | Key::LowValues
-        | Key::LowValue
-        | Key::Values
-        | Key::Value
-        | Key::Is
-        | Key::Are
-        | Key::Than
-        | Key::Then
-        | Key::On
-        | Key::At
-        | Key::With
-        | Key::Mode
-        | Key::Character
-        | Key::Characters
-        | Key::Records
-        | Key::Next
-        | Key::Usage
-        | Key::Sign
-        | Key::Greater
-        | Key::Less
-        | Key::Equal
-        | Key::Or => None,
-    }
-}
-
-fn alone(word: Key) -> Row
-    ensures value { result ≡ alone word }
-    ensures some { 0 < result.words }
-{
-    Row {
-        fate: fate_of(word),
-        words: 1,
+    match (first, second) {
+        (Some(Keyword::Record), Some(Keyword::Contains)) => Some(Keyword::RecordSize),
+        (Some(Keyword::File), Some(Keyword::Status)) => Some(Keyword::Status),
+        (Some(Keyword::Go), Some(Keyword::To)) => Some(Keyword::Go),
+        (Some(Keyword::Assign), Some(Keyword::To)) => Some(Keyword::Assign),
+        (Some(Keyword::End), Some(Keyword::Program)) => Some(Keyword::EndProgram),
+        _ => None,
     }
 }
 
 /// The row for a word and the token behind it.
-fn row_of(word: Key, next: Key) -> Row
+fn row_of(word: Option<Keyword>, next: Option<Keyword>) -> Row
     ensures value { result ≡ row_of word next }
     ensures some { 0 < result.words }
 {
-    match pair_of(word) {
-        None => alone(word),
-        Some(pair) => {
-            if pair.second.is(next) {
-                Row {
-                    fate: Fate::Becomes(pair.word),
-                    words: 2,
-                }
-            } else {
-                alone(word)
-            }
-        }
+    match pair_of(word, next) {
+        Some(pair) => Row {
+            fate: Fate::Becomes(pair),
+            words: 2,
+        },
+        None => Row {
+            fate: fate_of(word),
+            words: 1,
+        },
     }
 }
 
@@ -215,14 +107,14 @@ pub fn head(pieces: &[Piece]) -> Piece
     pieces[0]
 }
 
-/// The word at this place of the tokens, from 0.
-fn key_at(pieces: &[Piece], place: usize) -> Key
-    ensures { result ≡ key_at pieces.now place }
+/// The reserved word at this place of the tokens, from 0.
+fn keyword_at(pieces: &[Piece], place: usize) -> Option<Keyword>
+    ensures { result ≡ keyword_at pieces.now place }
 {
     if place < pieces.len() {
-        pieces[place].shape.key()
+        pieces[place].shape.keyword()
     } else {
-        Key::Plain
+        None
     }
 }
 
@@ -250,7 +142,7 @@ fn push_fated(done: &mut Vec<Piece>, fate: Fate, piece: Piece) -> Result<(), All
             Ok(())
         }
         Fate::Becomes(word) => {
-            done.push(piece.shaped(Shape::Word(word)))?;
+            done.push(piece.shaped(Shape::Word(Some(word))))?;
             Ok(())
         }
     }
@@ -261,7 +153,7 @@ fn row_at(pieces: &[Piece]) -> Row
     ensures value { result ≡ row_at pieces.now }
     ensures some { 0 < result.words }
 {
-    row_of(key_at(pieces, 0), key_at(pieces, 1))
+    row_of(keyword_at(pieces, 0), keyword_at(pieces, 1))
 }
 
 /// The tokens after the rows of words.
@@ -278,45 +170,61 @@ fn reworded(alloc: Global, pieces: &[Piece]) -> Result<Vec<Piece>, AllocError>
     Ok(done)
 }
 
-fn weakened(strict: Rel, weak: Rel, second: Key, third: Key, fourth: Key) -> Compared
+/// GREATER or LESS as it stands, or with OR EQUAL behind it.
+fn weakened(
+    strict: Rel,
+    weak: Rel,
+    second: Option<Keyword>,
+    third: Option<Keyword>,
+    fourth: Option<Keyword>,
+) -> Compared
     ensures value { result ≡ weakened strict weak second third fourth }
     ensures some { 0 < result.words }
 {
-    if second.is(Key::Or) && third.is(Key::Equal) {
-        Compared {
+    match (second, third, fourth) {
+        (Some(Keyword::Or), Some(Keyword::Equal), Some(Keyword::To)) => Compared {
             relation: weak,
-            words: if fourth.is(Key::To) { 4 } else { 3 },
-        }
-    } else {
-        Compared {
+            words: 4,
+        },
+        (Some(Keyword::Or), Some(Keyword::Equal), _) => Compared {
+            relation: weak,
+            words: 3,
+        },
+        _ => Compared {
             relation: strict,
             words: 1,
-        }
+        },
     }
 }
 
-fn equal(second: Key) -> Compared
+fn equal(second: Option<Keyword>) -> Compared
     ensures value { result ≡ equal second }
     ensures some { 0 < result.words }
 {
     Compared {
         relation: Rel::Equal,
-        words: if second.is(Key::To) { 2 } else { 1 },
+        words: if matches!(second, Some(Keyword::To)) {
+            2
+        } else {
+            1
+        },
     }
 }
 
-fn comparison(word: Key, second: Key, third: Key, fourth: Key) -> Option<Compared>
+fn comparison(
+    word: Option<Keyword>,
+    second: Option<Keyword>,
+    third: Option<Keyword>,
+    fourth: Option<Keyword>,
+) -> Option<Compared>
     ensures value { result ≡ comparison word second third fourth }
     ensures some { 0 < words_of result }
 {
-    if word.is(Key::Greater) {
-        Some(weakened(Rel::Greater, Rel::AtLeast, second, third, fourth))
-    } else if word.is(Key::Less) {
-        Some(weakened(Rel::Less, Rel::AtMost, second, third, fourth))
-    } else if word.is(Key::Equal) {
-        Some(equal(second))
-    } else {
-        None
+    match word {
+        Some(Keyword::Greater) => Some(weakened(Rel::Greater, Rel::AtLeast, second, third, fourth)),
+        Some(Keyword::Less) => Some(weakened(Rel::Less, Rel::AtMost, second, third, fourth)),
+        Some(Keyword::Equal) => Some(equal(second)),
+        _ => None,
     }
 }
 
@@ -325,10 +233,10 @@ fn compared_at(pieces: &[Piece]) -> Option<Compared>
     ensures some { 0 < words_of result }
 {
     comparison(
-        key_at(pieces, 0),
-        key_at(pieces, 1),
-        key_at(pieces, 2),
-        key_at(pieces, 3),
+        keyword_at(pieces, 0),
+        keyword_at(pieces, 1),
+        keyword_at(pieces, 2),
+        keyword_at(pieces, 3),
     )
 }
 

@@ -11,7 +11,7 @@ use cob_tree::Token;
 use std::alloc::Global;
 
 /// Why a source has no canonical tokens.
-#[derive(Clone, Copy, Debug, PartialEq, Eq)]
+#[derive(Clone, Copy, PartialEq, Eq)]
 pub enum ScanEnd {
     /// The first place that the reference format refuses.
     BadLine { line: u32, column: u32 },

@@ -8,9 +8,8 @@ use crate::cut::Shape;
 use crate::mark::{ch_at, half_behind, inside, is_digit, is_second, tail};
 use crate::piece::{Piece, behind};
 use crate::row::head;
-use crate::word::Key;
 use cob_lines::Mark;
-use cob_tree::{Bytes, Name, Num, Tok, Token};
+use cob_tree::{Bytes, Keyword, Name, Num, Tok, Token};
 use std::alloc::{AllocError, Global};
 
 fn characters(alloc: Global, front: &[Mark]) -> Result<Bytes, AllocError>
@@ -30,15 +29,13 @@ fn raised(alloc: Global, front: &[Mark]) -> Result<Name, AllocError>
     Ok(Name::of(alloc, bytes.as_slice())?)
 }
 
-/// A word as its name is written, or as it stands.
-fn written(alloc: Global, word: Key, front: &[Mark]) -> Result<Name, AllocError>
+/// A reserved word by its text, and any other as it stands, in capitals.
+fn written(alloc: Global, word: Option<Keyword>, front: &[Mark]) -> Result<Name, AllocError>
     ensures { IfOk result (λ name. name ≡ written word front.now) }
 {
-    let name = word.name();
-    if name.is_empty() {
-        Ok(raised(alloc, front)?)
-    } else {
-        Ok(Name::of(alloc, name)?)
+    match word {
+        Some(keyword) => Ok(Name::of(alloc, keyword.text())?),
+        None => Ok(raised(alloc, front)?),
     }
 }
 

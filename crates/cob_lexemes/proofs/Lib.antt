@@ -1,3 +1,4 @@
 pub mod StepLemmas
 pub mod PlaceLemmas
 pub mod WordLemmas
+mod LeadLemmas

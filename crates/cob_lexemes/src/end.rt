@@ -5,7 +5,7 @@ ghost use Rattle.cob_lexemes.specs.declared.end.ParseEnd.TheVariants.{Memory};
 use std::alloc::AllocError;
 
 /// Why nothing is parsed.
-#[derive(Debug, Drop)]
+#[derive(Drop)]
 pub enum ParseEnd {
     /// The line of the first token at which nothing goes on; at the end of the tokens the last one's, or 1.
     Syntax { line: u32 },

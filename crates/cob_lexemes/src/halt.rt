@@ -5,7 +5,7 @@ ghost use Rattle.cob_lexemes.specs.declared.halt.Halt.TheVariants.{Memory};
 use std::alloc::{AllocError, AllocFailed};
 
 /// Why nothing was read.
-#[derive(Debug, Drop)]
+#[derive(Drop)]
 pub enum Halt {
     Memory,
     /// At so many lexemes before the end nothing goes on.

@@ -13,7 +13,7 @@ use cob_tree::Keyword;
 fn same_key(first: Keyword, second: Keyword) -> bool
     ensures { result ≡ same_key first second }
 {
-    first.text() == second.text()
+    first == second
 }
 
 /// Whether a symbol is a reserved word.
@@ -57,8 +57,14 @@ pub fn behind(keyword: Keyword, lexemes: &[Lexeme]) -> Option<&[Lexeme]>
     ensures rest { IfSome result (λ rest. length rest.now < length lexemes.now) }
 {
     match next(lexemes) {
-        Some((lexeme, rest)) if is_word(keyword, &lexeme.symbol) => Some(rest),
-        _ => None,
+        None => None,
+        Some((first, rest)) => {
+            if is_word(keyword, &first.symbol) {
+                Some(rest)
+            } else {
+                None
+            }
+        }
     }
 }
 

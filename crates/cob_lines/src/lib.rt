@@ -22,7 +22,7 @@ pub const SOURCE_LIMIT: usize = 1_048_576;
 
 /// A character of the text, with the line and the column of the source in which it stands, both
 /// counted from 1. The space that stands for a line's end is in column 73.
-#[derive(Clone, Copy, Debug, PartialEq, Eq)]
+#[derive(Clone, Copy, PartialEq, Eq)]
 pub struct Mark {
     pub ch: u8,
     pub line: u32,
@@ -30,7 +30,7 @@ pub struct Mark {
 }
 
 /// Why a source has no text.
-#[derive(Clone, Copy, Debug, PartialEq, Eq)]
+#[derive(Clone, Copy, PartialEq, Eq)]
 pub enum TextEnd {
     /// The first place that the reference format refuses.
     BadLine { line: u32, column: u32 },

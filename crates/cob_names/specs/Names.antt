@@ -94,7 +94,3 @@ NamesFile l text place = names_file_at text (slice_get l.files place) ≡ true
 
 abbrev pub NamesRecord : Layout → Ref → ℕ → Type 0
 NamesRecord l r place = (place < length l.items) × (names_record l r place ≡ true)
-
--- a reference by the name alone
-abbrev pub alone : List ℕ → Ref
-alone text = record { name = text; of = [] }

@@ -4,7 +4,7 @@ ghost use Rattle.cob_names.specs.declared.found.Found.TheVariants.{Several};
 ghost use Rattle.cob_names.specs.Search.{found_and};
 
 /// What has a name.
-#[derive(Clone, Copy, Debug, PartialEq, Eq)]
+#[derive(Clone, Copy, PartialEq, Eq)]
 pub enum Found {
     Nothing,
     /// One alone, by its place.

@@ -1,6 +1,6 @@
 //! The kinds of things that names are asked for.
 /// What a name is asked for.
-#[derive(Clone, Copy, Debug, PartialEq, Eq)]
+#[derive(Clone, Copy, PartialEq, Eq)]
 pub enum Kind {
     Item,
     /// An 01 item of a file.

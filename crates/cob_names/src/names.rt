@@ -7,7 +7,7 @@ ghost use Rattle.cob_tree.specs.PrintStmt.{print_tree};
 ghost use Rattle.cob_data.specs.declared.layout.Layout.{Layout};
 ghost use Rattle.cob_data.specs.Answers.{IsAnswer};
 ghost use Rattle.cob_names.specs.declared.found.Found.{Found};
-ghost use Rattle.cob_names.specs.Names.{item_name, above, above_at, qualifies, file_above, IsFound, NamesItem, NamesFlag, NamesFile, NamesRecord, is_record, alone};
+ghost use Rattle.cob_names.specs.Names.{item_name, above, above_at, qualifies, file_above, IsFound, NamesItem, NamesFlag, NamesFile, NamesRecord, is_record};
 ghost use Rattle.cob_names.specs.Tables.{IsTable};
 ghost use Rattle.cob_names.specs.Search.{name_in, count_in, fits, NamesIn, HasFewPlaces, found_and};
 ghost use Rattle.cob_tree.specs.Limits.{token_limit};
@@ -183,13 +183,6 @@ impl<'a> Names<'a> {
         ensures { IsFound (NamesFlag self.now reference.now) result }
     {
         self.search(Kind::Flag, reference.name.get(), reference.of.get())
-    }
-
-    /// The condition-names of this name.
-    pub fn flag_named(&self, name: &[u8]) -> Found
-        ensures { IsFound (NamesFlag self.now (alone name.now)) result }
-    {
-        self.search(Kind::Flag, name, &[])
     }
 
     /// The files of this name.

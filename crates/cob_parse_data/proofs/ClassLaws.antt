@@ -26,6 +26,13 @@ use Rattle.reading.proofs.Lead.{Class, lead_syntax, lead_law}
 use Rattle.reading.proofs.Starts.{Begins, Starts, OneToken, starts_by_one}
 use Rattle.cob_parse_data.specs.Tokens.{number_symbol, pic_symbol, external_symbol, label_key, label_symbol, filler_key, described_symbol}
 
+-- What isn't there is no value. At each of the many words this is one step, where `cc` would be a search.
+abbrev none_of : (A : Type 0) → Option A
+none_of A = None
+
+no_value : {A P : Type 0} (x : A) → none_of A ≡ Some x → P
+no_value x e = absurd cc
+
 pub one_token : (takes : Symbol → Bool) → OneToken by_symbol takes
 one_token takes t mark e u = absurd cc
 
@@ -165,7 +172,7 @@ labels = words reads only
     only : (k : Keyword) (x : Label) → label_key k ≡ Some x → k ≡ print_label x
     only key.Standard x e = let same : label.Standard ≡ x = cc in ap print_label same
     only key.Omitted x e = let same : label.Omitted ≡ x = cc in ap print_label same
-    only _ x e = absurd cc
+    only _ x e = no_value x e
 
 abbrev pub spelled_described : Described → Symbol
 spelled_described (described.Name text) = Name text
@@ -180,7 +187,7 @@ describeds = record { reads = reads; only = only }
 
     only_key : (k : Keyword) (x : Described) → filler_key k ≡ Some x → Key k ≡ spelled_described x
     only_key key.Filler x e = let same : described.Filler ≡ x = cc in ap spelled_described same
-    only_key _ x e = absurd cc
+    only_key _ x e = no_value x e
 
     only : (y : Symbol) (x : Described) → described_symbol y ≡ Some x → y ≡ spelled_described x
     only (Name text) x e = let same : described.Name text ≡ x = cc in ap spelled_described same
@@ -205,7 +212,7 @@ consts = record { reads = reads; only = only }
     only_key key.Quote x e = let same : const.Quote ≡ x = cc in ap const_symbol same
     only_key key.HighValue x e = let same : const.HighValue ≡ x = cc in ap const_symbol same
     only_key key.LowValue x e = let same : const.LowValue ≡ x = cc in ap const_symbol same
-    only_key _ x e = absurd cc
+    only_key _ x e = no_value x e
 
     only : (y : Symbol) (x : Const) → const_as y ≡ Some x → y ≡ const_symbol x
     only (Number n) x e = let same : const.Number n ≡ x = cc in ap const_symbol same

@@ -1,7 +1,5 @@
--- For who reads on behind these divisions:
---   the divisions alone: `front_at`, its law `front_law` (FrontLaw), over marks of its own; `never_deep` (Outcomes)
---   with the word PROCEDURE, over the marks of the whole grammar: `before_procedure_at`, `before_procedure_law`,
---   `before_procedure_deepens` (BeforeProcedure); the reader has no room to differ in, so that it agrees with itself
+-- For who reads on behind these divisions: `front_at`, its law `front_law` (FrontLaw), over marks of its own, and `never_deep`
+-- (Outcomes).
 pub mod Parts
 pub mod ClassLaws
 pub mod ClausesLaw
@@ -14,5 +12,4 @@ pub mod ClauseLoop
 pub mod Outcomes
 pub mod ParseLemmas
 pub mod LinesLaw
-pub mod BeforeProcedure
 pub mod GoesOn

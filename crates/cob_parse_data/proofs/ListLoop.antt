@@ -1,20 +1,14 @@
 -- Lists read one item after the other, as a loop does.
-use Rattle.std.proofs.Common.{◌≡◌, ◌<◌, ◌≤◌, true, false, List, [], ◌∷◌, ◌++◌, length, Option, Result, Ok, Err, refl, sym, ap, subst, ◌∙◌, arith}
+use Rattle.std.proofs.Common.{◌≡◌, ◌<◌, ◌≤◌, true, false, List, [], ◌∷◌, ◌++◌, length, Option, Result, Ok, Err, refl, sym, ap, ◌∙◌, arith}
 use Rattle.std.proofs.lemmas.List.{length-map}
-use Rattle.std.specs.Result.{IsErrAnd}
 use Rattle.cob_tree.specs.Symbols.{Symbol, Sign}
 use Rattle.cob_lexemes.specs.declared.lexeme.Lexeme.{Lexeme}
 use Rattle.cob_lexemes.specs.declared.halt.Halt.{Halt}
 use Rattle.cob_lexemes.specs.declared.halt.Halt.TheVariants as halt
-use Rattle.cob_lexemes.specs.Steps.{signs, Fails, Gives}
+use Rattle.cob_lexemes.specs.Steps.{signs, Fails}
 use Rattle.reading.specs.Readers.{Fault, Stop, Deep, Reader, ◌>>=◌, seen, many, no_step}
 use Rattle.reading.proofs.Turns.{Turns, turns_start, turns_on, turns_end, turns_fail}
 use Rattle.cob_lexemes.specs.Classes.{here}
-
--- at the exit of a `?`
-pub gives_wrong : {X Y : Type 0} (view : X → Y) (r : Result X Halt) (read : Result Y Fault) (h : Halt) → IsErrAnd r (λ y. y ≡ h) → Fails h read → Gives view r read
-gives_wrong view (Ok x) read h e f = absurd e
-gives_wrong view (Err y) read h e f = subst (λ (z : Halt). Fails z read) (sym e) f
 
 -- a fault that is the whole's
 pub fails_whole : {A B : Type 0} (h : Halt) (read : Result A Fault) (all : Result B Fault) → ((d : Fault) → read ≡ Err d → all ≡ Err d) → Fails h read → Fails h all

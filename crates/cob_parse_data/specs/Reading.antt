@@ -246,7 +246,3 @@ make_front x = record { name = x.0; env = x.1.0; «data» = x.1.1 }
 
 abbrev pub front_at : Reader Sign Front
 front_at = headed (key.Identification ∷ key.Division ∷ []) (headed (key.ProgramId ∷ []) (seen make_front (seq named (seq (perhaps key.Environment env) (perhaps key.Data data_division)))))
-
--- the divisions, and the word behind them
-abbrev pub before_procedure_at : Reader Sign (Front × Unit {0})
-before_procedure_at = seq front_at (word key.Procedure)

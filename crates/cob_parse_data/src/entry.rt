@@ -21,7 +21,7 @@ fn constant_behind(alloc: Global, lexemes: &[Lexeme]) -> Result<(Const, &[Lexeme
     ensures gives { Gives (λ x. (x.0, signs x.1.now)) result (led key.Thru constant (signs lexemes.now)) }
     ensures rest { IfOk result (λ x. length x.1.now < length lexemes.now) }
 {
-    let rest = expect(Keyword::Thru, lexemes)?;
+    let rest = or_leave!(expect(Keyword::Thru, lexemes));
     const_at(alloc, rest)
 }
 
@@ -30,7 +30,7 @@ fn high_part(alloc: Global, lexemes: &[Lexeme]) -> Result<(Option<Const>, &[Lexe
     ensures rest { IfOk result (λ x. length x.1.now ≤ length lexemes.now) }
 {
     if stands(Keyword::Thru, lexemes) {
-        let (high, rest) = constant_behind(alloc, lexemes)?;
+        let (high, rest) = or_leave!(constant_behind(alloc, lexemes));
         Ok((Some(high), rest))
     } else {
         Ok((None, lexemes))
@@ -42,8 +42,8 @@ fn range(alloc: Global, lexemes: &[Lexeme]) -> Result<(Range, &[Lexeme]), Halt>
     ensures gives { Gives (λ x. (x.0, signs x.1.now)) result (range (signs lexemes.now)) }
     ensures rest { IfOk result (λ x. length x.1.now < length lexemes.now) }
 {
-    let (low, rest) = const_at(alloc, lexemes)?;
-    let (high, rest) = high_part(alloc, rest)?;
+    let (low, rest) = or_leave!(const_at(alloc, lexemes));
+    let (high, rest) = or_leave!(high_part(alloc, rest), low);
     Ok((Range { low, high }, rest))
 }
 
@@ -54,7 +54,7 @@ fn more_ranges(alloc: Global, lexemes: &[Lexeme]) -> Result<(Vec<Range>, &[Lexem
     let mut left = lexemes;
     let mut values = Vec::new(alloc);
     'values: while stands_constant(left) {
-        let (range, after) = range(alloc, left)?;
+        let (range, after) = or_leave!(range(alloc, left), values);
         values.push(range)?;
         left = after;
     }
@@ -66,8 +66,8 @@ fn ranges(alloc: Global, lexemes: &[Lexeme]) -> Result<(Vec<Range>, &[Lexeme]), 
     ensures gives { Gives (λ x. (x.0.items, signs x.1.now)) result (seen first_and ranges (signs lexemes.now)) }
     ensures rest { IfOk result (λ x. length x.1.now ≤ length lexemes.now) }
 {
-    let (first, rest) = range(alloc, lexemes)?;
-    let (mut ranges, rest) = more_ranges(alloc, rest)?;
+    let (first, rest) = or_leave!(range(alloc, lexemes));
+    let (mut ranges, rest) = or_leave!(more_ranges(alloc, rest), first);
     ranges.insert(0, first)?;
     Ok((ranges, rest))
 }
@@ -158,22 +158,22 @@ fn clause_behind(
 {
     match head {
         ClauseHead::Pic => {
-            let (text, rest) = picture_at(alloc, lexemes)?;
+            let (text, rest) = or_leave!(picture_at(alloc, lexemes));
             Ok((Clause::Pic(text), rest))
         }
         ClauseHead::Redefines => {
-            let (name, rest) = name_at(alloc, lexemes)?;
+            let (name, rest) = or_leave!(name_at(alloc, lexemes));
             Ok((Clause::Redefines(name), rest))
         }
         ClauseHead::Display => Ok((Clause::Display, lexemes)),
         ClauseHead::Binary => Ok((Clause::Binary, lexemes)),
         ClauseHead::PackedDecimal => Ok((Clause::PackedDecimal, lexemes)),
         ClauseHead::Leading => {
-            let rest = expect(Keyword::Separate, lexemes)?;
+            let rest = or_leave!(expect(Keyword::Separate, lexemes));
             Ok((Clause::LeadingSeparate, rest))
         }
         ClauseHead::Trailing => {
-            let rest = expect(Keyword::Separate, lexemes)?;
+            let rest = or_leave!(expect(Keyword::Separate, lexemes));
             Ok((Clause::TrailingSeparate, rest))
         }
         ClauseHead::Value => value_behind(alloc, lexemes),
@@ -185,7 +185,7 @@ fn value_behind(alloc: Global, lexemes: &[Lexeme]) -> Result<(Clause, &[Lexeme])
     ensures headed { IfOk result (λ x. clause_head_of x.0 ≡ head.Value) }
     ensures rest { IfOk result (λ x. length x.1.now ≤ length lexemes.now) }
 {
-    let (ranges, rest) = ranges(alloc, lexemes)?;
+    let (ranges, rest) = or_leave!(ranges(alloc, lexemes));
     let ranges = Many::of(ranges);
     Ok((Clause::Value(ranges), rest))
 }
@@ -197,7 +197,7 @@ fn clauses(alloc: Global, lexemes: &[Lexeme]) -> Result<(Vec<Clause>, &[Lexeme])
     let mut left = lexemes;
     let mut clauses = Vec::new(alloc);
     'clauses: while let Some((head, rest)) = fresh_head(clauses.as_slice(), left) {
-        let (clause, after) = clause_behind(alloc, head, rest)?;
+        let (clause, after) = or_leave!(clause_behind(alloc, head, rest), clauses);
         clauses.push(clause)?;
         left = after;
     }
@@ -209,10 +209,10 @@ fn entry(alloc: Global, lexemes: &[Lexeme]) -> Result<(Entry, &[Lexeme]), Halt>
     ensures gives { Gives (λ x. (x.0, signs x.1.now)) result (entry (signs lexemes.now)) }
     ensures rest { IfOk result (λ x. length x.1.now < length lexemes.now) }
 {
-    let ((line, level), rest) = level_at(alloc, lexemes)?;
-    let (name, rest) = described_in(alloc, rest)?;
-    let (clauses, rest) = clauses(alloc, rest)?;
-    let rest = stop(rest)?;
+    let ((line, level), rest) = or_leave!(level_at(alloc, lexemes));
+    let (name, rest) = or_leave!(described_in(alloc, rest), level);
+    let (clauses, rest) = or_leave!(clauses(alloc, rest), level, name);
+    let rest = or_leave!(stop(rest), level, name, clauses);
     let clauses = Many::of(clauses);
     Ok((
         Entry {
@@ -233,7 +233,7 @@ pub fn entries(alloc: Global, lexemes: &[Lexeme]) -> Result<(Vec<Entry>, &[Lexem
     let mut left = lexemes;
     let mut entries = Vec::new(alloc);
     'entries: while stands_number(left) {
-        let (entry, after) = entry(alloc, left)?;
+        let (entry, after) = or_leave!(entry(alloc, left), entries);
         entries.push(entry)?;
         left = after;
     }

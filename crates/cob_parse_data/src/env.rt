@@ -14,7 +14,7 @@ fn computer(alloc: Global, keyword: Keyword, lexemes: &[Lexeme]) -> Result<(Name
     ensures gives { Gives (λ x. (x.0, signs x.1.now)) result (computer keyword (signs lexemes.now)) }
     ensures rest { IfOk result (λ x. length x.1.now < length lexemes.now) }
 {
-    let rest = title(keyword, lexemes)?;
+    let rest = or_leave!(title(keyword, lexemes));
     named(alloc, rest)
 }
 
@@ -27,7 +27,7 @@ fn computer_part(
     ensures rest { IfOk result (λ x. length x.1.now ≤ length lexemes.now) }
 {
     if stands(keyword, lexemes) {
-        let (name, rest) = computer(alloc, keyword, lexemes)?;
+        let (name, rest) = or_leave!(computer(alloc, keyword, lexemes));
         Ok((Some(name), rest))
     } else {
         Ok((None, lexemes))
@@ -39,9 +39,9 @@ fn config(alloc: Global, lexemes: &[Lexeme]) -> Result<(Config, &[Lexeme]), Halt
     ensures gives { Gives (λ x. (x.0, signs x.1.now)) result (config (signs lexemes.now)) }
     ensures rest { IfOk result (λ x. length x.1.now < length lexemes.now) }
 {
-    let rest = heading(Keyword::Configuration, Keyword::Section, lexemes)?;
-    let (source, rest) = computer_part(alloc, Keyword::SourceComputer, rest)?;
-    let (object, rest) = computer_part(alloc, Keyword::ObjectComputer, rest)?;
+    let rest = or_leave!(heading(Keyword::Configuration, Keyword::Section, lexemes));
+    let (source, rest) = or_leave!(computer_part(alloc, Keyword::SourceComputer, rest));
+    let (object, rest) = or_leave!(computer_part(alloc, Keyword::ObjectComputer, rest), source);
     Ok((Config { source, object }, rest))
 }
 
@@ -50,7 +50,7 @@ fn config_part(alloc: Global, lexemes: &[Lexeme]) -> Result<(Option<Config>, &[L
     ensures rest { IfOk result (λ x. length x.1.now ≤ length lexemes.now) }
 {
     if stands(Keyword::Configuration, lexemes) {
-        let (config, rest) = config(alloc, lexemes)?;
+        let (config, rest) = or_leave!(config(alloc, lexemes));
         Ok((Some(config), rest))
     } else {
         Ok((None, lexemes))
@@ -62,9 +62,9 @@ fn io(alloc: Global, lexemes: &[Lexeme]) -> Result<(Io, &[Lexeme]), Halt>
     ensures gives { Gives (λ x. (x.0, signs x.1.now)) result (io (signs lexemes.now)) }
     ensures rest { IfOk result (λ x. length x.1.now < length lexemes.now) }
 {
-    let rest = heading(Keyword::InputOutput, Keyword::Section, lexemes)?;
-    let rest = title(Keyword::FileControl, rest)?;
-    let (selects, rest) = selects(alloc, rest)?;
+    let rest = or_leave!(heading(Keyword::InputOutput, Keyword::Section, lexemes));
+    let rest = or_leave!(title(Keyword::FileControl, rest));
+    let (selects, rest) = or_leave!(selects(alloc, rest));
     let selects = Many::of(selects);
     Ok((Io { selects }, rest))
 }
@@ -74,7 +74,7 @@ fn io_part(alloc: Global, lexemes: &[Lexeme]) -> Result<(Option<Io>, &[Lexeme]),
     ensures rest { IfOk result (λ x. length x.1.now ≤ length lexemes.now) }
 {
     if stands(Keyword::InputOutput, lexemes) {
-        let (io, rest) = io(alloc, lexemes)?;
+        let (io, rest) = or_leave!(io(alloc, lexemes));
         Ok((Some(io), rest))
     } else {
         Ok((None, lexemes))
@@ -86,9 +86,9 @@ fn env(alloc: Global, lexemes: &[Lexeme]) -> Result<(Env, &[Lexeme]), Halt>
     ensures gives { Gives (λ x. (x.0, signs x.1.now)) result (env (signs lexemes.now)) }
     ensures rest { IfOk result (λ x. length x.1.now < length lexemes.now) }
 {
-    let rest = heading(Keyword::Environment, Keyword::Division, lexemes)?;
-    let (config, rest) = config_part(alloc, rest)?;
-    let (io, rest) = io_part(alloc, rest)?;
+    let rest = or_leave!(heading(Keyword::Environment, Keyword::Division, lexemes));
+    let (config, rest) = or_leave!(config_part(alloc, rest));
+    let (io, rest) = or_leave!(io_part(alloc, rest), config);
     Ok((Env { config, io }, rest))
 }
 
@@ -98,7 +98,7 @@ pub fn env_part(alloc: Global, lexemes: &[Lexeme]) -> Result<(Option<Env>, &[Lex
     ensures rest { IfOk result (λ x. length x.1.now ≤ length lexemes.now) }
 {
     if stands(Keyword::Environment, lexemes) {
-        let (env, rest) = env(alloc, lexemes)?;
+        let (env, rest) = or_leave!(env(alloc, lexemes));
         Ok((Some(env), rest))
     } else {
         Ok((None, lexemes))

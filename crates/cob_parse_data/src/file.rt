@@ -25,7 +25,7 @@ fn more_names(alloc: Global, lexemes: &[Lexeme]) -> Result<(Vec<Name>, &[Lexeme]
     let mut left = lexemes;
     let mut names = Vec::new(alloc);
     'names: while stands_name(left) {
-        let (name, after) = name_at(alloc, left)?;
+        let (name, after) = or_leave!(name_at(alloc, left), names);
         names.push(name)?;
         left = after;
     }
@@ -37,8 +37,8 @@ fn names(alloc: Global, lexemes: &[Lexeme]) -> Result<(Vec<Name>, &[Lexeme]), Ha
     ensures gives { Gives (λ x. (x.0.items, signs x.1.now)) result (seen first_and names (signs lexemes.now)) }
     ensures rest { IfOk result (λ x. length x.1.now ≤ length lexemes.now) }
 {
-    let (first, rest) = name_at(alloc, lexemes)?;
-    let (mut names, rest) = more_names(alloc, rest)?;
+    let (first, rest) = or_leave!(name_at(alloc, lexemes));
+    let (mut names, rest) = or_leave!(more_names(alloc, rest), first);
     names.insert(0, first)?;
     Ok((names, rest))
 }
@@ -110,7 +110,7 @@ fn data_behind(alloc: Global, lexemes: &[Lexeme]) -> Result<(FdClause, &[Lexeme]
     ensures headed { IfOk result (λ x. fd_head_of x.0 ≡ head.Data) }
     ensures rest { IfOk result (λ x. length x.1.now ≤ length lexemes.now) }
 {
-    let (names, rest) = names(alloc, lexemes)?;
+    let (names, rest) = or_leave!(names(alloc, lexemes));
     let names = Many::of(names);
     Ok((FdClause::Data(names), rest))
 }
@@ -126,20 +126,20 @@ fn clause_behind(
 {
     match head {
         FdHead::Block => {
-            let (number, rest) = number_at(alloc, lexemes)?;
+            let (number, rest) = or_leave!(number_at(alloc, lexemes));
             Ok((FdClause::Block(number), rest))
         }
         FdHead::RecordSize => {
-            let (number, rest) = number_at(alloc, lexemes)?;
+            let (number, rest) = or_leave!(number_at(alloc, lexemes));
             Ok((FdClause::RecordSize(number), rest))
         }
         FdHead::Label => {
-            let (label, rest) = label_at(lexemes)?;
+            let (label, rest) = or_leave!(label_at(lexemes));
             Ok((FdClause::Label(label), rest))
         }
         FdHead::Data => data_behind(alloc, lexemes),
         FdHead::Recording => {
-            let (name, rest) = name_at(alloc, lexemes)?;
+            let (name, rest) = or_leave!(name_at(alloc, lexemes));
             Ok((FdClause::Recording(name), rest))
         }
     }
@@ -152,7 +152,7 @@ fn clauses(alloc: Global, lexemes: &[Lexeme]) -> Result<(Vec<FdClause>, &[Lexeme
     let mut left = lexemes;
     let mut clauses = Vec::new(alloc);
     'clauses: while let Some((head, rest)) = fresh_head(clauses.as_slice(), left) {
-        let (clause, after) = clause_behind(alloc, head, rest)?;
+        let (clause, after) = or_leave!(clause_behind(alloc, head, rest), clauses);
         clauses.push(clause)?;
         left = after;
     }
@@ -164,11 +164,11 @@ fn fd(alloc: Global, lexemes: &[Lexeme]) -> Result<(Fd, &[Lexeme]), Halt>
     ensures gives { Gives (λ x. (x.0, signs x.1.now)) result (fd (signs lexemes.now)) }
     ensures rest { IfOk result (λ x. length x.1.now < length lexemes.now) }
 {
-    let (line, rest) = line_of(Keyword::Fd, lexemes)?;
-    let (name, rest) = name_at(alloc, rest)?;
-    let (clauses, rest) = clauses(alloc, rest)?;
-    let rest = stop(rest)?;
-    let (entries, rest) = entries(alloc, rest)?;
+    let (line, rest) = or_leave!(line_of(Keyword::Fd, lexemes));
+    let (name, rest) = or_leave!(name_at(alloc, rest));
+    let (clauses, rest) = or_leave!(clauses(alloc, rest), name);
+    let rest = or_leave!(stop(rest), name, clauses);
+    let (entries, rest) = or_leave!(entries(alloc, rest), name, clauses);
     let clauses = Many::of(clauses);
     let entries = Many::of(entries);
     Ok((
@@ -189,7 +189,7 @@ fn fds(alloc: Global, lexemes: &[Lexeme]) -> Result<(Vec<Fd>, &[Lexeme]), Halt>
     let mut left = lexemes;
     let mut fds = Vec::new(alloc);
     'fds: while stands(Keyword::Fd, left) {
-        let (fd, after) = fd(alloc, left)?;
+        let (fd, after) = or_leave!(fd(alloc, left), fds);
         fds.push(fd)?;
         left = after;
     }
@@ -200,8 +200,8 @@ fn files(alloc: Global, lexemes: &[Lexeme]) -> Result<(Many<Fd>, &[Lexeme]), Hal
     ensures gives { Gives (λ x. (x.0, signs x.1.now)) result (files (signs lexemes.now)) }
     ensures rest { IfOk result (λ x. length x.1.now < length lexemes.now) }
 {
-    let rest = heading(Keyword::File, Keyword::Section, lexemes)?;
-    let (files, rest) = fds(alloc, rest)?;
+    let rest = or_leave!(heading(Keyword::File, Keyword::Section, lexemes));
+    let (files, rest) = or_leave!(fds(alloc, rest));
     Ok((Many::of(files), rest))
 }
 
@@ -210,7 +210,7 @@ fn files_part(alloc: Global, lexemes: &[Lexeme]) -> Result<(Option<Many<Fd>>, &[
     ensures rest { IfOk result (λ x. length x.1.now ≤ length lexemes.now) }
 {
     if stands(Keyword::File, lexemes) {
-        let (files, rest) = files(alloc, lexemes)?;
+        let (files, rest) = or_leave!(files(alloc, lexemes));
         Ok((Some(files), rest))
     } else {
         Ok((None, lexemes))
@@ -221,8 +221,8 @@ fn storage(alloc: Global, lexemes: &[Lexeme]) -> Result<(Many<Entry>, &[Lexeme])
     ensures gives { Gives (λ x. (x.0, signs x.1.now)) result (storage (signs lexemes.now)) }
     ensures rest { IfOk result (λ x. length x.1.now < length lexemes.now) }
 {
-    let rest = heading(Keyword::WorkingStorage, Keyword::Section, lexemes)?;
-    let (entries, rest) = entries(alloc, rest)?;
+    let rest = or_leave!(heading(Keyword::WorkingStorage, Keyword::Section, lexemes));
+    let (entries, rest) = or_leave!(entries(alloc, rest));
     Ok((Many::of(entries), rest))
 }
 
@@ -231,7 +231,7 @@ fn storage_part(alloc: Global, lexemes: &[Lexeme]) -> Result<(Option<Many<Entry>
     ensures rest { IfOk result (λ x. length x.1.now ≤ length lexemes.now) }
 {
     if stands(Keyword::WorkingStorage, lexemes) {
-        let (storage, rest) = storage(alloc, lexemes)?;
+        let (storage, rest) = or_leave!(storage(alloc, lexemes));
         Ok((Some(storage), rest))
     } else {
         Ok((None, lexemes))
@@ -242,9 +242,9 @@ fn data(alloc: Global, lexemes: &[Lexeme]) -> Result<(Data, &[Lexeme]), Halt>
     ensures gives { Gives (λ x. (x.0, signs x.1.now)) result (data_division (signs lexemes.now)) }
     ensures rest { IfOk result (λ x. length x.1.now < length lexemes.now) }
 {
-    let rest = heading(Keyword::Data, Keyword::Division, lexemes)?;
-    let (files, rest) = files_part(alloc, rest)?;
-    let (storage, rest) = storage_part(alloc, rest)?;
+    let rest = or_leave!(heading(Keyword::Data, Keyword::Division, lexemes));
+    let (files, rest) = or_leave!(files_part(alloc, rest));
+    let (storage, rest) = or_leave!(storage_part(alloc, rest), files);
     Ok((Data { files, storage }, rest))
 }
 
@@ -254,7 +254,7 @@ pub fn data_part(alloc: Global, lexemes: &[Lexeme]) -> Result<(Option<Data>, &[L
     ensures rest { IfOk result (λ x. length x.1.now ≤ length lexemes.now) }
 {
     if stands(Keyword::Data, lexemes) {
-        let (division, rest) = data(alloc, lexemes)?;
+        let (division, rest) = or_leave!(data(alloc, lexemes));
         Ok((Some(division), rest))
     } else {
         Ok((None, lexemes))

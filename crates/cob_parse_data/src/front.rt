@@ -1,12 +1,12 @@
 //! The divisions before PROCEDURE.
 ghost use Rattle.std.specs.Prelude.{◌≡◌, ◌<◌, length, IfOk};
 ghost use Rattle.cob_lexemes.specs.Steps.{signs, Gives};
-ghost use Rattle.cob_parse_data.specs.Reading.{front_at, before_procedure_at};
+ghost use Rattle.cob_parse_data.specs.Reading.{front_at};
 
 use crate::env::env_part;
 use crate::file::data_part;
 use crate::word::{heading, named, title};
-use cob_lexemes::{Halt, Lexeme, expect};
+use cob_lexemes::{Halt, Lexeme};
 use cob_tree::{Front, Keyword};
 use std::alloc::Global;
 
@@ -15,20 +15,10 @@ pub fn front_in(alloc: Global, lexemes: &[Lexeme]) -> Result<(Front, &[Lexeme]),
     ensures gives { Gives (λ x. (x.0, signs x.1.now)) result (front_at (signs lexemes.now)) }
     ensures rest { IfOk result (λ x. length x.1.now < length lexemes.now) }
 {
-    let rest = heading(Keyword::Identification, Keyword::Division, lexemes)?;
-    let rest = title(Keyword::ProgramId, rest)?;
-    let (name, rest) = named(alloc, rest)?;
-    let (env, rest) = env_part(alloc, rest)?;
-    let (data, rest) = data_part(alloc, rest)?;
+    let rest = or_leave!(heading(Keyword::Identification, Keyword::Division, lexemes));
+    let rest = or_leave!(title(Keyword::ProgramId, rest));
+    let (name, rest) = or_leave!(named(alloc, rest));
+    let (env, rest) = or_leave!(env_part(alloc, rest), name);
+    let (data, rest) = or_leave!(data_part(alloc, rest), name, env);
     Ok((Front { name, env, data }, rest))
-}
-
-/// The divisions before PROCEDURE and that word, and the lexemes behind it: how a program begins.
-pub fn before_procedure_in(alloc: Global, lexemes: &[Lexeme]) -> Result<(Front, &[Lexeme]), Halt>
-    ensures gives { Gives (λ x. ((x.0, tt), signs x.1.now)) result (before_procedure_at (signs lexemes.now)) }
-    ensures rest { IfOk result (λ x. length x.1.now < length lexemes.now) }
-{
-    let (front, rest) = front_in(alloc, lexemes)?;
-    let rest = expect(Keyword::Procedure, rest)?;
-    Ok((front, rest))
 }

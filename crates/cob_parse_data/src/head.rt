@@ -2,7 +2,7 @@
 ghost use Rattle.std.specs.Prelude.{◌≡◌};
 
 /// The reserved word that begins a clause of a SELECT entry.
-#[derive(Clone, Copy, Debug)]
+#[derive(Clone, Copy)]
 pub enum SelectHead {
     Organization,
     Access,
@@ -10,7 +10,7 @@ pub enum SelectHead {
 }
 
 /// The reserved word that begins a clause of a file description entry.
-#[derive(Clone, Copy, Debug)]
+#[derive(Clone, Copy)]
 pub enum FdHead {
     Block,
     RecordSize,
@@ -20,7 +20,7 @@ pub enum FdHead {
 }
 
 /// The reserved word that begins a clause of a data description entry.
-#[derive(Clone, Copy, Debug)]
+#[derive(Clone, Copy)]
 pub enum ClauseHead {
     Pic,
     Redefines,

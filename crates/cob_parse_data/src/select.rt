@@ -85,15 +85,15 @@ fn clause_behind(
 {
     match head {
         SelectHead::Organization => {
-            let rest = expect(Keyword::Sequential, lexemes)?;
+            let rest = or_leave!(expect(Keyword::Sequential, lexemes));
             Ok((SelClause::Organization, rest))
         }
         SelectHead::Access => {
-            let rest = expect(Keyword::Sequential, lexemes)?;
+            let rest = or_leave!(expect(Keyword::Sequential, lexemes));
             Ok((SelClause::Access, rest))
         }
         SelectHead::Status => {
-            let (name, rest) = name_at(alloc, lexemes)?;
+            let (name, rest) = or_leave!(name_at(alloc, lexemes));
             Ok((SelClause::Status(name), rest))
         }
     }
@@ -106,7 +106,7 @@ fn clauses(alloc: Global, lexemes: &[Lexeme]) -> Result<(Vec<SelClause>, &[Lexem
     let mut left = lexemes;
     let mut clauses = Vec::new(alloc);
     'clauses: while let Some((head, rest)) = fresh_head(clauses.as_slice(), left) {
-        let (clause, after) = clause_behind(alloc, head, rest)?;
+        let (clause, after) = or_leave!(clause_behind(alloc, head, rest), clauses);
         clauses.push(clause)?;
         left = after;
     }
@@ -118,12 +118,12 @@ fn select(alloc: Global, lexemes: &[Lexeme]) -> Result<(Select, &[Lexeme]), Halt
     ensures gives { Gives (λ x. (x.0, signs x.1.now)) result (select (signs lexemes.now)) }
     ensures rest { IfOk result (λ x. length x.1.now < length lexemes.now) }
 {
-    let (line, rest) = line_of(Keyword::Select, lexemes)?;
-    let (name, rest) = name_at(alloc, rest)?;
-    let rest = expect(Keyword::Assign, rest)?;
-    let (external, rest) = external_at(alloc, rest)?;
-    let (clauses, rest) = clauses(alloc, rest)?;
-    let rest = stop(rest)?;
+    let (line, rest) = or_leave!(line_of(Keyword::Select, lexemes));
+    let (name, rest) = or_leave!(name_at(alloc, rest));
+    let rest = or_leave!(expect(Keyword::Assign, rest), name);
+    let (external, rest) = or_leave!(external_at(alloc, rest), name);
+    let (clauses, rest) = or_leave!(clauses(alloc, rest), name, external);
+    let rest = or_leave!(stop(rest), name, external, clauses);
     let clauses = Many::of(clauses);
     Ok((
         Select {
@@ -144,7 +144,7 @@ pub fn selects(alloc: Global, lexemes: &[Lexeme]) -> Result<(Vec<Select>, &[Lexe
     let mut left = lexemes;
     let mut selects = Vec::new(alloc);
     'selects: while stands(Keyword::Select, left) {
-        let (select, after) = select(alloc, left)?;
+        let (select, after) = or_leave!(select(alloc, left), selects);
         selects.push(select)?;
         left = after;
     }

@@ -13,7 +13,7 @@ pub fn title(keyword: Keyword, lexemes: &[Lexeme]) -> Result<&[Lexeme], Halt>
     ensures gives { Gives (λ rest. (tt, signs rest.now)) result (heading (keyword ∷ []) (signs lexemes.now)) }
     ensures rest { IfOk result (λ rest. length rest.now < length lexemes.now) }
 {
-    let rest = expect(keyword, lexemes)?;
+    let rest = or_leave!(expect(keyword, lexemes));
     stop(rest)
 }
 
@@ -22,7 +22,7 @@ pub fn heading(first: Keyword, second: Keyword, lexemes: &[Lexeme]) -> Result<&[
     ensures gives { Gives (λ rest. (tt, signs rest.now)) result (heading (first ∷ second ∷ []) (signs lexemes.now)) }
     ensures rest { IfOk result (λ rest. length rest.now < length lexemes.now) }
 {
-    let rest = expect(first, lexemes)?;
+    let rest = or_leave!(expect(first, lexemes));
     title(second, rest)
 }
 
@@ -31,7 +31,7 @@ pub fn named(alloc: Global, lexemes: &[Lexeme]) -> Result<(Name, &[Lexeme]), Hal
     ensures gives { Gives (λ x. (x.0, signs x.1.now)) result (named (signs lexemes.now)) }
     ensures rest { IfOk result (λ x. length x.1.now < length lexemes.now) }
 {
-    let (name, rest) = name_at(alloc, lexemes)?;
-    let rest = stop(rest)?;
+    let (name, rest) = or_leave!(name_at(alloc, lexemes));
+    let rest = or_leave!(stop(rest), name);
     Ok((name, rest))
 }

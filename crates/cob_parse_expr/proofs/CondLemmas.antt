@@ -17,7 +17,7 @@ use Rattle.reading.proofs.Results.{ok_is, done}
 use Rattle.cob_parse_expr.specs.Alphabet.{grammar}
 use Rattle.cob_parse_expr.specs.Classes.{open_of, not_of, sign_of, scaling_of, bare_first}
 use Rattle.cob_parse_expr.specs.Reading.{primary_with, fact_with, factors_with, term_with, summands_with, opnd_at}
-use Rattle.cob_parse_expr.specs.CondReading.{Begun, whole, part, goes_on, begun_fact, head_with, begun_factors, begun_term, begun_summands, begun_expr, Asked, test_with, make_subject, subject_with, negated_with, plain_with, neg_with, negs_with, conj_with, conjs_with, cond_with}
+use Rattle.cob_parse_expr.specs.CondReading.{Begun, whole, part, goes_on, begun_fact, head_with, begun_factors, begun_term, begun_summands, begun_expr, Asked, test_with, make_subject, subject_with, further_with, negated_with, plain_with, neg_with, negs_with, conj_with, conjs_with, cond_with}
 use Rattle.cob_parse_expr.specs.CondSteps.{from_fact, make_value, subject_behind, subject_after, negated_neg, plain_neg_at, last_neg, last_conj}
 use Rattle.cob_lexemes.specs.declared.halt.Halt.{Halt}
 use Rattle.cob_lexemes.specs.Steps.{behind_word, Leads, Lacks, Fails}
@@ -159,6 +159,13 @@ module _ (paren : Reader Sign Cond) (inner : Reader Sign Expr) where
   no_not_is ts none = go (plain_with paren inner ts) refl
     where
       go : (r : Result (((Rel × Expr) ⊎ Simple) × List Sign) Fault) → plain_with paren inner ts ≡ r → neg_with paren inner ts ≡ plain_neg_at paren inner ts
+      go (Err d) e = rw (none.stands, e) refl
+      go (Ok x) e = rw (none.stands, e) refl
+
+  pub further_is : (ts : List Sign) → Lacks not_of ts → further_with paren inner ts ≡ subject_with paren inner ts
+  further_is ts none = go (subject_with paren inner ts) refl
+    where
+      go : (r : Result (Simple × List Sign) Fault) → subject_with paren inner ts ≡ r → further_with paren inner ts ≡ subject_with paren inner ts
       go (Err d) e = rw (none.stands, e) refl
       go (Ok x) e = rw (none.stands, e) refl
 

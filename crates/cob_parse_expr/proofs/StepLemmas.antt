@@ -1,13 +1,14 @@
 -- What functions return of what stands in parentheses is what readers give.
-use Rattle.std.proofs.Common.{◌≡◌, ◌≢◌, ℕ, zero, suc, ◌-◌, Bool, true, false, List, [], ◌∷◌, length, map, Option, Some, None, Result, Ok, Err, refl, sym, ap, subst, ◌∙◌, arith}
+use Rattle.std.proofs.Common.{◌≡◌, ◌≢◌, ℕ, zero, suc, ◌-◌, ◌⊎◌, inl, inr, Bool, true, false, ◌&&◌, List, [], ◌∷◌, length, map, Option, Some, None, is_some, Result, Ok, Err, refl, sym, ap, subst, ◌∙◌, arith}
 use Rattle.cob_tree.specs.Symbols.{Sign}
 use Rattle.cob_tree.specs.Cond.{Cond}
 use Rattle.cob_tree.specs.Cues.{NotRelates}
 use Rattle.cob_tree.specs.Takes.{takes_cond}
-use Rattle.reading.specs.Readers.{Fault, Stop, Deep, Reader, ◌>>=◌, lead, branch, seen, stands, need, closed, left_on, full}
+use Rattle.reading.specs.Readers.{Fault, Stop, Deep, Reader, ◌>>=◌, lead_as, lead, seq, branch, seen, choose, stands, need, closed, left_on, full}
+use Rattle.reading.proofs.Results.{done, ok_is}
 use Rattle.cob_lexemes.specs.declared.halt.Halt.{Halt}
 use Rattle.cob_lexemes.specs.declared.halt.Halt.TheVariants as halt
-use Rattle.cob_parse_expr.specs.Classes.{open_of, close_of}
+use Rattle.cob_parse_expr.specs.Classes.{open_of, close_of, not_of}
 use Rattle.cob_parse_expr.specs.Reading.{second, expr_goes, group_at, expr_at}
 use Rattle.cob_parse_expr.specs.CondReading.{cond_goes, paren_at, cond_at}
 use Rattle.cob_parse_expr.specs.CondSteps.{unclosed}
@@ -16,6 +17,81 @@ use Rattle.cob_lexemes.specs.Steps.{behind_word, Leads, Lacks, Fails}
 pub bare : {A : Type 0} (xs : List A) → map second (map behind_word xs) ≡ xs
 bare [] = refl
 bare (x ∷ xs) = ap (λ (z : List _). x ∷ z) (bare xs)
+
+-- ---- memory is wanted where reading what is there fails
+
+pub memory_alone : {A B : Type 0} (h : Halt) (x : A) (read : Result B Fault) → Fails h (done x) → Fails h read
+memory_alone halt.Memory x read f = tt
+memory_alone (halt.Stop n) x read f = absurd cc
+memory_alone (halt.Deep n) x read f = absurd cc
+
+-- ---- one after the other
+
+module _ {A B C : Type 0} (r : Reader Sign A) (s : Reader Sign B) (make : A × B → C) (ts : List Sign) where
+  pub seq_first : (h : Halt) → Fails h (r ts) → Fails h (seen make (seq r s) ts)
+  seq_first halt.Memory f = tt
+  seq_first (halt.Stop n) f = rw f refl
+  seq_first (halt.Deep n) f = rw f refl
+
+  pub seq_second : (h : Halt) (us : List Sign) (a : A) → r ts ≡ Ok (a, us) → Fails h (s us) → Fails h (seen make (seq r s) ts)
+  seq_second halt.Memory us a e f = tt
+  seq_second (halt.Stop n) us a e f = rw (e, f) refl
+  seq_second (halt.Deep n) us a e f = rw (e, f) refl
+
+  pub seq_read : (us vs : List Sign) (a : A) (b : B) (c : C) → r ts ≡ Ok (a, us) → s us ≡ Ok (b, vs) → c ≡ make (a, b) → seen make (seq r s) ts ≡ Ok (c, vs)
+  seq_read us vs a b c e e' made = rw (e, e') (ap (λ (z : C). done (z, vs)) (sym made))
+
+-- ---- one of two
+
+module _ {A B C : Type 0} (make : A ⊎ B → C) (test : List Sign → Bool) (r : Reader Sign A) (s : Reader Sign B) (ts : List Sign) where
+  pub left_fails : (h : Halt) → test ts ≡ true → Fails h (r ts) → Fails h (seen make (choose test r s) ts)
+  left_fails halt.Memory e f = tt
+  left_fails (halt.Stop n) e f = rw (e, f) refl
+  left_fails (halt.Deep n) e f = rw (e, f) refl
+
+  pub left_read : (us : List Sign) (a : A) (c : C) → test ts ≡ true → r ts ≡ Ok (a, us) → c ≡ make (inl a) → seen make (choose test r s) ts ≡ Ok (c, us)
+  left_read us a c e er made = rw (e, er) (ap (λ (z : C). done (z, us)) (sym made))
+
+  pub right_fails : (h : Halt) → test ts ≡ false → Fails h (s ts) → Fails h (seen make (choose test r s) ts)
+  right_fails halt.Memory e f = tt
+  right_fails (halt.Stop n) e f = rw (e, f) refl
+  right_fails (halt.Deep n) e f = rw (e, f) refl
+
+  pub right_read : (us : List Sign) (b : B) (c : C) → test ts ≡ false → s ts ≡ Ok (b, us) → c ≡ make (inr b) → seen make (choose test r s) ts ≡ Ok (c, us)
+  right_read us b c e es made = rw (e, es) (ap (λ (z : C). done (z, us)) (sym made))
+
+-- ---- behind a token
+
+module _ {K B : Type 0} (class : Sign → Option K) (r : K → Reader Sign B) (x : K) (ts rest : List Sign) (lead : Leads class x ts rest) where
+  pub branch_fails : (h : Halt) → Fails h (r x rest) → Fails h (branch class r ts)
+  branch_fails halt.Memory f = tt
+  branch_fails (halt.Stop n) f = rw (lead.reads, f) refl
+  branch_fails (halt.Deep n) f = rw (lead.reads, f) refl
+
+  pub branch_read : (us : List Sign) (b : B) → r x rest ≡ Ok (b, us) → branch class r ts ≡ Ok ((x, b), us)
+  branch_read us b e = rw (lead.reads, e) refl
+
+-- ---- a condition that isn't closed
+
+pub unclosed_on : (takes : Bool) (ts rest : List Sign) → Leads not_of tt ts rest → takes ≡ true → unclosed takes ts ≡ length rest
+unclosed_on takes [] rest lead e = absurd cc
+unclosed_on takes (t ∷ ts) rest lead e = rw (lead.stands, e) (ap length (go (not_of t) lead.reads))
+  where
+    go : (o : Option (Unit {0})) → lead_as o t ts ≡ Ok (tt, rest) → ts ≡ rest
+    go None e = absurd cc
+    go (Some x) e = ap (λ (z : Unit {0} × List Sign). z.1) (ok_is (x, ts) (tt, rest) e)
+
+pub unclosed_off : (takes : Bool) (ts : List Sign) → takes ≡ false → unclosed takes ts ≡ length ts
+unclosed_off takes [] e = refl
+unclosed_off takes (t ∷ ts) e = rw e (go (is_some (not_of t)))
+  where
+    go : (b : Bool) → left_on (b && false) ts ≡ suc (length ts)
+    go true = refl
+    go false = refl
+
+pub unclosed_lacks : (takes : Bool) (ts : List Sign) → Lacks not_of ts → unclosed takes ts ≡ length ts
+unclosed_lacks takes [] none = refl
+unclosed_lacks takes (t ∷ ts) none = rw none.stands refl
 
 -- ---- what stands in parentheses
 

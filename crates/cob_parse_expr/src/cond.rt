@@ -63,8 +63,14 @@ fn subject_after(
     ensures rest { IfOk result (λ x. length x.2.now ≤ length lexemes.now) }
 {
     match one_alone(cond) {
-        Ok(expr) => subject_behind(alloc, grouped(alloc, expr)?, lexemes, room),
-        Err(cond) => Ok((parenthesised(alloc, cond)?, false, lexemes)),
+        Ok(expr) => {
+            let first = or_leave!(grouped(alloc, expr));
+            subject_behind(alloc, first, lexemes, room)
+        }
+        Err(cond) => {
+            let simple = or_leave!(parenthesised(alloc, cond));
+            Ok((simple, false, lexemes))
+        }
     }
 }
 
@@ -110,12 +116,15 @@ fn negated(alloc: Global, lexemes: &[Lexeme], room: u32) -> Result<(Neg, bool, &
     ensures takes { IfOk result (λ x. x.1 ≡ takes_neg (plain_neg x.0) NotRelates) }
     ensures rest { IfOk result (λ x. length x.2.now ≤ length lexemes.now) }
 {
-    if relation_in(lexemes).is_some() {
-        let (rel, right, rest) = or_leave!(compared(alloc, lexemes, room));
-        Ok((bare_relation(true, rel, right), false, rest))
-    } else {
-        let (simple, takes_not, rest) = or_leave!(further(alloc, lexemes, room));
-        Ok((Neg::of(true, simple), takes_not, rest))
+    match relation_in(lexemes) {
+        Some(_) => {
+            let (rel, right, rest) = or_leave!(compared(alloc, lexemes, room));
+            Ok((bare_relation(true, rel, right), false, rest))
+        }
+        None => {
+            let (simple, takes_not, rest) = or_leave!(further(alloc, lexemes, room));
+            Ok((Neg::of(true, simple), takes_not, rest))
+        }
     }
 }
 
@@ -125,12 +134,15 @@ fn plain(alloc: Global, lexemes: &[Lexeme], room: u32) -> Result<(Neg, bool, &[L
     ensures takes { IfOk result (λ x. x.1 ≡ takes_neg (plain_neg x.0) NotRelates) }
     ensures rest { IfOk result (λ x. length x.2.now ≤ length lexemes.now) }
 {
-    if relation_in(lexemes).is_some() {
-        let (rel, right, rest) = or_leave!(compared(alloc, lexemes, room));
-        Ok((bare_relation(false, rel, right), false, rest))
-    } else {
-        let (simple, takes_not, rest) = or_leave!(subject(alloc, lexemes, room));
-        Ok((Neg::of(false, simple), takes_not, rest))
+    match relation_in(lexemes) {
+        Some(_) => {
+            let (rel, right, rest) = or_leave!(compared(alloc, lexemes, room));
+            Ok((bare_relation(false, rel, right), false, rest))
+        }
+        None => {
+            let (simple, takes_not, rest) = or_leave!(subject(alloc, lexemes, room));
+            Ok((Neg::of(false, simple), takes_not, rest))
+        }
     }
 }
 
@@ -162,7 +174,7 @@ fn negs(
     let mut takes_not = before;
     let mut negs = Vec::new(alloc);
     'negs: while let Some(rest) = behind(Mark::And, left) {
-        let (neg, takes, after) = neg(alloc, rest, room)?;
+        let (neg, takes, after) = or_leave!(neg(alloc, rest, room), negs);
         negs.push(neg)?;
         takes_not = takes;
         left = after;
@@ -197,7 +209,7 @@ fn conjs(
     let mut takes_not = before;
     let mut conjs = Vec::new(alloc);
     'conjs: while let Some(rest) = behind(Mark::Or, left) {
-        let (conj, takes, after) = conj(alloc, rest, room)?;
+        let (conj, takes, after) = or_leave!(conj(alloc, rest, room), conjs);
         conjs.push(conj)?;
         takes_not = takes;
         left = after;

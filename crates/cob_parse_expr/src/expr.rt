@@ -22,9 +22,12 @@ pub fn group(alloc: Global, lexemes: &[Lexeme], room: u32) -> Result<(Expr, &[Le
     if room == 0 {
         return Err(Halt::Deep(lexemes.len()));
     }
-    let (expr, rest) = expr_in(alloc, rest, room - 1)?;
+    let (expr, rest) = or_leave!(expr_in(alloc, rest, room - 1));
     match behind(Mark::Close, rest) {
-        None => Err(Halt::Stop(rest.len())),
+        None => {
+            drop(expr);
+            Err(Halt::Stop(rest.len()))
+        }
         Some(rest) => Ok((expr, rest)),
     }
 }
@@ -36,11 +39,17 @@ fn primary(alloc: Global, lexemes: &[Lexeme], room: u32) -> Result<(Primary, &[L
 {
     match behind(Mark::Open, lexemes) {
         Some(_) => {
-            let (expr, rest) = group(alloc, lexemes, room)?;
-            Ok((Primary::Expr(Box::new(alloc, expr)?), rest))
+            let (expr, rest) = or_leave!(group(alloc, lexemes, room));
+            match Box::new(alloc, expr) {
+                Ok(expr) => Ok((Primary::Expr(expr), rest)),
+                Err(failed) => {
+                    drop(failed);
+                    Err(Halt::Memory)
+                }
+            }
         }
         None => {
-            let (opnd, rest) = opnd_in(alloc, lexemes)?;
+            let (opnd, rest) = or_leave!(opnd_in(alloc, lexemes));
             Ok((Primary::Opnd(opnd), rest))
         }
     }
@@ -54,11 +63,11 @@ pub fn fact_in(alloc: Global, lexemes: &[Lexeme], room: u32) -> Result<(Fact, &[
 {
     match sign_in(lexemes) {
         Some((sign, rest)) => {
-            let (prim, rest) = primary(alloc, rest, room)?;
+            let (prim, rest) = or_leave!(primary(alloc, rest, room));
             Ok((Fact::of(Some(sign), prim), rest))
         }
         None => {
-            let (prim, rest) = primary(alloc, lexemes, room)?;
+            let (prim, rest) = or_leave!(primary(alloc, lexemes, room));
             Ok((Fact::of(None, prim), rest))
         }
     }
@@ -77,7 +86,7 @@ pub fn factors_in(
     let mut left = lexemes;
     let mut factors = Vec::new(alloc);
     'factors: while let Some((scaling, rest)) = scaling_in(left) {
-        let (fact, after) = fact_in(alloc, rest, room)?;
+        let (fact, after) = or_leave!(fact_in(alloc, rest, room), factors);
         factors.push((scaling, fact))?;
         left = after;
     }
@@ -89,8 +98,8 @@ fn term(alloc: Global, lexemes: &[Lexeme], room: u32) -> Result<(Term, &[Lexeme]
     ensures gives { Gives (λ x. (plain_term x.0, signs x.1.now)) result (term_with (group_at room) (signs lexemes.now)) }
     ensures rest { IfOk result (λ x. length x.1.now ≤ length lexemes.now) }
 {
-    let (first, rest) = fact_in(alloc, lexemes, room)?;
-    let (others, rest) = factors_in(alloc, rest, room)?;
+    let (first, rest) = or_leave!(fact_in(alloc, lexemes, room));
+    let (others, rest) = or_leave!(factors_in(alloc, rest, room), first);
     Ok((Term::of(first, others), rest))
 }
 
@@ -107,7 +116,7 @@ pub fn summands_in(
     let mut left = lexemes;
     let mut summands = Vec::new(alloc);
     'summands: while let Some((sign, rest)) = sign_in(left) {
-        let (term, after) = term(alloc, rest, room)?;
+        let (term, after) = or_leave!(term(alloc, rest, room), summands);
         summands.push((sign, term))?;
         left = after;
     }
@@ -120,7 +129,7 @@ pub fn expr_in(alloc: Global, lexemes: &[Lexeme], room: u32) -> Result<(Expr, &[
     ensures gives { Gives (λ x. (plain_expr x.0, signs x.1.now)) result (expr_at room (signs lexemes.now)) }
     ensures rest { IfOk result (λ x. length x.1.now ≤ length lexemes.now) }
 {
-    let (first, rest) = term(alloc, lexemes, room)?;
-    let (others, rest) = summands_in(alloc, rest, room)?;
+    let (first, rest) = or_leave!(term(alloc, lexemes, room));
+    let (others, rest) = or_leave!(summands_in(alloc, rest, room), first);
     Ok((Expr::of(first, others), rest))
 }

@@ -8,7 +8,7 @@ ghost use Rattle.cob_lexemes.specs.Steps.{signs, Gives, behind_word};
 use crate::class::{Mark, behind, constant_in, name_in};
 use cob_lexemes::{Halt, Lexeme};
 use cob_tree::{Const, Many, Name, Opnd, Ref};
-use std::alloc::Global;
+use std::alloc::{AllocError, Global};
 
 /// A name.
 pub fn name_at(alloc: Global, lexemes: &[Lexeme]) -> Result<(Name, &[Lexeme]), Halt>
@@ -17,7 +17,10 @@ pub fn name_at(alloc: Global, lexemes: &[Lexeme]) -> Result<(Name, &[Lexeme]), H
 {
     match name_in(lexemes) {
         None => Err(Halt::Stop(lexemes.len())),
-        Some((name, rest)) => Ok((Name::of(alloc, name.get())?, rest)),
+        Some((name, rest)) => match Name::of(alloc, name.get()) {
+            Ok(name) => Ok((name, rest)),
+            Err(AllocError) => Err(Halt::Memory),
+        },
     }
 }
 
@@ -29,7 +32,7 @@ fn qualifiers(alloc: Global, lexemes: &[Lexeme]) -> Result<(Vec<Name>, &[Lexeme]
     let mut left = lexemes;
     let mut names = Vec::new(alloc);
     'names: while let Some(rest) = behind(Mark::Of, left) {
-        let (name, after) = name_at(alloc, rest)?;
+        let (name, after) = or_leave!(name_at(alloc, rest), names);
         names.push(name)?;
         left = after;
     }
@@ -41,8 +44,8 @@ pub fn ref_in(alloc: Global, lexemes: &[Lexeme]) -> Result<(Ref, &[Lexeme]), Hal
     ensures gives { Gives (λ x. (x.0, signs x.1.now)) result (ref_at (signs lexemes.now)) }
     ensures rest { IfOk result (λ x. length x.1.now < length lexemes.now) }
 {
-    let (name, rest) = name_at(alloc, lexemes)?;
-    let (of, rest) = qualifiers(alloc, rest)?;
+    let (name, rest) = or_leave!(name_at(alloc, lexemes));
+    let (of, rest) = or_leave!(qualifiers(alloc, rest), name);
     let of = Many::of(of);
     Ok((Ref { name, of }, rest))
 }
@@ -65,11 +68,11 @@ pub fn opnd_in(alloc: Global, lexemes: &[Lexeme]) -> Result<(Opnd, &[Lexeme]), H
 {
     match name_in(lexemes) {
         Some(_) => {
-            let (item, rest) = ref_in(alloc, lexemes)?;
+            let (item, rest) = or_leave!(ref_in(alloc, lexemes));
             Ok((Opnd::Ref(item), rest))
         }
         None => {
-            let (constant, rest) = const_at(alloc, lexemes)?;
+            let (constant, rest) = or_leave!(const_at(alloc, lexemes));
             Ok((Opnd::Const(constant), rest))
         }
     }

@@ -1,5 +1,5 @@
 -- What may go on with NOT.
-use Rattle.std.proofs.Common.{◌≡◌, ◌||◌, Bool, true, false, List, [], ◌∷◌, ◌++◌, Option, Some, None, refl, sym, ap, ◌∙◌}
+use Rattle.std.proofs.Common.{◌≡◌, ◌||◌, ◌&&◌, not, Bool, true, false, List, [], ◌∷◌, ◌++◌, Option, Some, None, refl, sym, ap, ◌∙◌}
 use Rattle.cob_tree.specs.declared.operand.Opnd.{Opnd}
 use Rattle.cob_tree.specs.declared.operand.Opnd.TheVariants as opnd
 use Rattle.cob_tree.specs.declared.stmt.Subject.{Subject}
@@ -10,13 +10,13 @@ use Rattle.cob_tree.specs.Cond as cond
 use Rattle.cob_tree.specs.PrintExpr.{one_alone}
 use Rattle.cob_tree.specs.Cues.{Cue, is, NotRelates, NotTests, NotSize, NotAtEnd, Size, EndAdd, EndSubtract, EndMultiply, EndDivide, EndCompute}
 use Rattle.cob_tree.specs.Cues as cue
-use Rattle.cob_tree.specs.Stmt.{Sel, any, range, choice, Loop, times, until, Stmt, Verb, move, set, display, perform_range, go, exit, continue, stop_run, open_, close, write, stmts_of, left_out, given, Tail, MkTail, whens_of, When}
+use Rattle.cob_tree.specs.Stmt.{Sel, any, range, choice, Loop, times, until, Stmt, Verb, move, set, display, perform_range, go, exit, continue, stop_run, open_, close, write, if_, Stmts, stmts_of, Phrase, left_out, given, Tail, MkTail, whens_of, When}
 use Rattle.cob_tree.specs.Takes.{takes_opnds, takes_simple, takes_negs, takes_conjs, takes_cond, takes_thru, takes_sel, takes_loop, takes_stmts, takes_stmt, takes_phrase, takes_tail, takes_whens, takes_when, takes_verb}
 use Rattle.cob_parse_expr.proofs.ExprLaws.{expr_never}
 use Rattle.cob_parse_expr.proofs.CondLaws.{cond_never}
 use Rattle.cob_parse_verb.specs.Heads.{Arithmetic, add_to, add_giving, subtract_from, subtract_giving, multiply_by, multiply_giving, divide_into, divide_giving, compute, if_head, evaluate_head, perform_head, with_tail, verb_start, takes_done, takes_arithmetic, takes_behind}
 use Rattle.cob_parse_verb.specs.Listed.{takes_listed}
-use Rattle.cob_parse_proc.specs.StmtSteps.{may, tail_may}
+use Rattle.cob_parse_proc.specs.StmtSteps.{may, phrase_may, tail_may}
 
 pub or_nothing : (b : Bool) → (b || false) ≡ b
 or_nothing true = refl
@@ -181,3 +181,8 @@ arithmetic_may (multiply_giving o p rs) t = behind_tail (takes_arithmetic (multi
 arithmetic_may (divide_into o rs) t = behind_tail (takes_arithmetic (divide_into o rs)) (is EndDivide) refl refl refl refl t
 arithmetic_may (divide_giving o way p rs r) t = behind_tail (takes_arithmetic (divide_giving o way p rs r)) (is EndDivide) refl refl refl refl t
 arithmetic_may (compute rs e) t = behind_tail (takes_arithmetic (compute rs e)) (is EndCompute) refl refl refl refl t
+
+pub if_may : (test : Cond) (ss : Stmts) (other : Phrase) (ended : Bool) → may (takes_verb (if_ test ss other ended)) ≡ (not ended && phrase_may other (may (takes_stmts ss)))
+if_may test ss other true = refl
+if_may test ss left_out false = may_more (λ c. takes_stmts ss c || false) ∙ may_more (takes_stmts ss)
+if_may test ss (given os) false = may_more (takes_stmts os)

@@ -1,13 +1,14 @@
 -- What the functions that read statements return, step by step, is what readers give.
-use Rattle.std.proofs.Common.{◌≡◌, ◌≢◌, ℕ, zero, suc, ◌-◌, ◌+◌, Bool, true, false, List, length, Option, Some, None, Result, Ok, Err, refl, sym, ap, subst, ◌∙◌, arith}
+use Rattle.std.proofs.Common.{◌≡◌, ◌≢◌, ℕ, zero, suc, ◌-◌, ◌+◌, Bool, true, false, List, [], ◌∷◌, length, Option, Some, None, Result, Ok, Err, refl, sym, ap, subst, ◌∙◌, arith}
 use Rattle.cob_tree.specs.declared.keyword.Keyword.{Keyword}
 use Rattle.cob_tree.specs.declared.keyword.Keyword.TheVariants as word
 use Rattle.cob_tree.specs.Symbols.{Sign}
 use Rattle.cob_tree.specs.Cues.{Starts, Whens, NotRelates}
+use Rattle.cob_tree.specs.Cond.{Cond}
 use Rattle.cob_tree.specs.Stmt.{Sel, Stmt, MkStmt, Verb, Stmts, Phrase, phrase_of, Tail, MkTail, When, MkWhen}
 use Rattle.cob_tree.specs.Stmt as stmt
 use Rattle.cob_tree.specs.Takes.{takes_stmts, takes_verb}
-use Rattle.reading.specs.Readers.{Fault, Stop, Reader, ◌>>=◌, optional_on, optional, behind, both_behind}
+use Rattle.reading.specs.Readers.{Fault, Stop, Reader, ◌>>=◌, optional_on, optional, behind_on, behind, both_behind_on, both_behind}
 use Rattle.reading.proofs.Results.{ok_is}
 use Rattle.cob_lexemes.specs.declared.halt.Halt.{Halt}
 use Rattle.cob_lexemes.specs.declared.halt.Halt.TheVariants as halt
@@ -19,8 +20,8 @@ use Rattle.cob_parse_verb.specs.Reading.{head_at}
 use Rattle.cob_parse_verb.specs.Turning.{choices_at}
 use Rattle.cob_parse_verb.proofs.HeadLaws.{law_of_heads}
 use Rattle.cob_parse_proc.specs.Reading.{here, one_word, error_with, when_with, stmt_with, stmts_at}
-use Rattle.cob_parse_proc.specs.StmtSteps.{may, tail_may, left_at, list_at, full_at, behind_error, end_at, tail_at, branches_at, chosen_at, cases_at, body_at, ends_at, verb_at, verb_may, on_line}
-use Rattle.cob_parse_proc.proofs.NotLemmas.{sels_take, done_may, arithmetic_may}
+use Rattle.cob_parse_proc.specs.StmtSteps.{Branches, may, tail_may, branches_may, if_of, left_at, list_at, full_at, behind_error, end_at, tail_at, branches_at, chosen_at, cases_at, body_at, ends_at, verb_at, verb_may, on_line}
+use Rattle.cob_parse_proc.proofs.NotLemmas.{sels_take, done_may, arithmetic_may, if_may}
 use Rattle.cob_parse_proc.proofs.VerbSteps.{error_is, stmt_is, when_is}
 use Rattle.cob_parse_proc.proofs.StmtLoops.{listed}
 
@@ -190,6 +191,27 @@ module _ (inner : Reader Sign Stmts) where
 
 pub sum_takes : (a : Arithmetic) (t : Tail) (v : Verb) (takes : Bool) → v ≡ with_tail a t → takes ≡ tail_may t → takes ≡ may (takes_verb v)
 sum_takes a t v takes ev e = e ∙ sym (ap (λ (z : Verb). may (takes_verb z)) ev ∙ arithmetic_may a t)
+
+pub if_takes : (test : Cond) (b : Branches) (v : Verb) (takes : Bool) → v ≡ if_of test b → takes ≡ branches_may b → takes ≡ may (takes_verb v)
+if_takes test b v takes ev e = e ∙ sym (ap (λ (z : Verb). may (takes_verb z)) ev ∙ if_may test b.0.0 b.0.1 b.1)
+
+-- ---- two words
+
+pub both_some : {T K K' : Type 0} (first : T → Option K) (second : T → Option K') (ts us : List T) → Some us ≡ behind first ts → behind second us ≡ both_behind first second ts
+both_some first second [] us e = absurd cc
+both_some {T} {K} first second (t ∷ ts) us e = go (first t) e
+  where
+    go : (o : Option K) → Some us ≡ behind_on o ts → behind second us ≡ both_behind_on o second ts
+    go None e = absurd cc
+    go (Some x) e = let same : us ≡ ts = cc in ap (behind second) same
+
+pub both_none : {T K K' : Type 0} (first : T → Option K) (second : T → Option K') (ts : List T) → None ≡ behind first ts → None ≡ both_behind first second ts
+both_none first second [] e = refl
+both_none {T} {K} first second (t ∷ ts) e = go (first t) e
+  where
+    go : (o : Option K) → None ≡ behind_on o ts → None ≡ both_behind_on o second ts
+    go None e = refl
+    go (Some x) e = absurd cc
 
 -- ---- statements
 

@@ -25,10 +25,13 @@ fn sentence(alloc: Global, lexemes: &[Lexeme]) -> Result<(Sentence, &[Lexeme]), 
     ensures gives { Gives (λ x. (plain_sentence x.0, signs x.1.now)) result (sentence_at limit (signs lexemes.now)) }
     ensures rest { IfOk result (λ x. length x.1.now < length lexemes.now) }
 {
-    let (stmts, takes_not, rest) = stmts_in(alloc, lexemes, 64)?;
+    let (stmts, takes_not, rest) = or_leave!(stmts_in(alloc, lexemes, 64));
     match behind_stop(rest) {
         Some(rest) => Ok((sentence_of(stmts), rest)),
-        None => Err(Halt::Stop(left_at(takes_not, rest))),
+        None => {
+            drop(stmts);
+            Err(Halt::Stop(left_at(takes_not, rest)))
+        }
     }
 }
 
@@ -40,7 +43,7 @@ pub fn sentences(alloc: Global, lexemes: &[Lexeme]) -> Result<(Vec<Sentence>, &[
     let mut left = lexemes;
     let mut sentences = Vec::new(alloc);
     'sentences: while stands_start(left) {
-        let (sentence, after) = sentence(alloc, left)?;
+        let (sentence, after) = or_leave!(sentence(alloc, left), sentences);
         sentences.push(sentence)?;
         left = after;
     }
@@ -52,8 +55,8 @@ fn behind_name(alloc: Global, lexemes: &[Lexeme]) -> Result<(Vec<Sentence>, &[Le
     ensures gives { Gives (λ x. (map plain_sentence x.0.items, signs x.1.now)) result (behind_name limit (signs lexemes.now)) }
     ensures rest { IfOk result (λ x. length x.1.now ≤ length lexemes.now) }
 {
-    let rest = stop(lexemes)?;
-    let (sentences, rest) = sentences(alloc, rest)?;
+    let rest = or_leave!(stop(lexemes));
+    let (sentences, rest) = or_leave!(sentences(alloc, rest));
     Ok((sentences, rest))
 }
 
@@ -61,8 +64,8 @@ fn paragraph(alloc: Global, lexemes: &[Lexeme]) -> Result<(Paragraph, &[Lexeme])
     ensures gives { Gives (λ x. (plain_paragraph x.0, signs x.1.now)) result (paragraph_at limit (signs lexemes.now)) }
     ensures rest { IfOk result (λ x. length x.1.now < length lexemes.now) }
 {
-    let ((line, name), rest) = name_on_line(alloc, lexemes)?;
-    let (sentences, rest) = behind_name(alloc, rest)?;
+    let ((line, name), rest) = or_leave!(name_on_line(alloc, lexemes));
+    let (sentences, rest) = or_leave!(behind_name(alloc, rest), name);
     let sentences = Many::of(sentences);
     Ok((
         Paragraph {
@@ -82,7 +85,7 @@ pub fn paragraphs(alloc: Global, lexemes: &[Lexeme]) -> Result<(Vec<Paragraph>, 
     let mut left = lexemes;
     let mut paragraphs = Vec::new(alloc);
     'paragraphs: while stands_name(left) {
-        let (paragraph, after) = paragraph(alloc, left)?;
+        let (paragraph, after) = or_leave!(paragraph(alloc, left), paragraphs);
         paragraphs.push(paragraph)?;
         left = after;
     }

@@ -60,7 +60,7 @@ fn phrase_in<'a>(
 {
     match opened {
         Some(rest) => {
-            let (stmts, takes_not, rest) = stmts_in(alloc, rest, room)?;
+            let (stmts, takes_not, rest) = or_leave!(stmts_in(alloc, rest, room));
             Ok((Some(stmts), takes_not, rest))
         }
         None => Ok((None, takes_not, lexemes)),
@@ -79,8 +79,10 @@ fn tail_in(
     ensures takes { IfOk result (λ x. x.1 ≡ tail_may (plain_tail x.0)) }
     ensures rest { IfOk result (λ x. length x.2.now ≤ length lexemes.now) }
 {
-    let (size, _, rest) = phrase_in(alloc, behind_size(lexemes)?, true, lexemes, room)?;
-    let (not_size, takes_not, rest) = phrase_in(alloc, behind_not_size(rest)?, true, rest, room)?;
+    let opened = or_leave!(behind_size(lexemes));
+    let (size, _, rest) = or_leave!(phrase_in(alloc, opened, true, lexemes, room));
+    let opened = or_leave!(behind_not_size(rest), size);
+    let (not_size, takes_not, rest) = or_leave!(phrase_in(alloc, opened, true, rest, room), size);
     let (is_ended, rest) = ended(end, rest);
     Ok((
         tail(size, not_size, is_ended),
@@ -101,9 +103,9 @@ fn branches_in(
     ensures takes { IfOk result (λ x. x.1 ≡ branches_may (plain_branches x.0)) }
     ensures rest { IfOk result (λ x. length x.2.now ≤ length lexemes.now) }
 {
-    let (yes, takes_not, rest) = list_in(alloc, takes_not, lexemes, room)?;
+    let (yes, takes_not, rest) = or_leave!(list_in(alloc, takes_not, lexemes, room));
     let opened = behind(Keyword::Else, rest);
-    let (other, takes_not, rest) = phrase_in(alloc, opened, takes_not, rest, room)?;
+    let (other, takes_not, rest) = or_leave!(phrase_in(alloc, opened, takes_not, rest, room), yes);
     let (is_ended, rest) = ended(Keyword::EndIf, rest);
     Ok((
         Branches {
@@ -123,8 +125,8 @@ fn when_in(alloc: Global, lexemes: &[Lexeme], room: u32) -> Result<(When, bool, 
     ensures takes { IfOk result (λ x. x.1 ≡ may (takes_when (plain_when x.0))) }
     ensures rest { IfOk result (λ x. length x.2.now < length lexemes.now) }
 {
-    let (choices, takes_not, rest) = choices_in(alloc, lexemes, room)?;
-    let (body, takes_not, rest) = list_in(alloc, takes_not, rest, room)?;
+    let (choices, takes_not, rest) = or_leave!(choices_in(alloc, lexemes, room));
+    let (body, takes_not, rest) = or_leave!(list_in(alloc, takes_not, rest, room), choices);
     Ok((when(choices, body), takes_not, rest))
 }
 
@@ -140,14 +142,14 @@ fn whens_in(
     ensures rest { IfOk result (λ x. length x.3.now ≤ length lexemes.now) }
 {
     let mut whens = with_room(alloc)?;
-    let (first, mut takes_not, mut left) = when_in(alloc, lexemes, room)?;
+    let (first, mut takes_not, mut left) = or_leave!(when_in(alloc, lexemes, room), whens);
     whens.push(first)?;
     'whens: while when_begins(left) {
         if let Some(rest) = both_behind(Keyword::When, Keyword::Other, left) {
-            let (other, takes_not, rest) = stmts_in(alloc, rest, room)?;
+            let (other, takes_not, rest) = or_leave!(stmts_in(alloc, rest, room), whens);
             return Ok((whens, Some(other), takes_not, rest));
         }
-        let (when, takes, rest) = when_in(alloc, left, room)?;
+        let (when, takes, rest) = or_leave!(when_in(alloc, left, room), whens);
         whens.push(when)?;
         takes_not = takes;
         left = rest;
@@ -165,7 +167,7 @@ fn cases_in(alloc: Global, lexemes: &[Lexeme], room: u32) -> Result<(Cases, bool
     if !when_begins(lexemes) {
         return Err(Halt::Stop(lexemes.len()));
     }
-    let (whens, other, takes_not, rest) = whens_in(alloc, lexemes, room)?;
+    let (whens, other, takes_not, rest) = or_leave!(whens_in(alloc, lexemes, room));
     let (is_ended, rest) = ended(Keyword::EndEvaluate, rest);
     Ok((
         Cases {
@@ -190,10 +192,13 @@ fn body_in(
     ensures takes { IfOk result (λ x. x.1 ≡ false) }
     ensures rest { IfOk result (λ x. length x.2.now ≤ length lexemes.now) }
 {
-    let (body, takes_not, rest) = list_in(alloc, takes_not, lexemes, room)?;
+    let (body, takes_not, rest) = or_leave!(list_in(alloc, takes_not, lexemes, room));
     match behind(Keyword::EndPerform, rest) {
         Some(rest) => Ok((body, false, rest)),
-        None => Err(Halt::Stop(left_at(takes_not, rest))),
+        None => {
+            drop(body);
+            Err(Halt::Stop(left_at(takes_not, rest)))
+        }
     }
 }
 
@@ -205,9 +210,9 @@ fn ends_in(alloc: Global, lexemes: &[Lexeme], room: u32) -> Result<(Ends, bool, 
     ensures rest { IfOk result (λ x. length x.2.now ≤ length lexemes.now) }
 {
     let opened = behind(Keyword::End, lexemes);
-    let (end, _, rest) = phrase_in(alloc, opened, true, lexemes, room)?;
+    let (end, _, rest) = or_leave!(phrase_in(alloc, opened, true, lexemes, room));
     let opened = both_behind(Keyword::Not, Keyword::End, rest);
-    let (not_end, takes_not, rest) = phrase_in(alloc, opened, true, rest, room)?;
+    let (not_end, takes_not, rest) = or_leave!(phrase_in(alloc, opened, true, rest, room), end);
     let (is_ended, rest) = ended(Keyword::EndRead, rest);
     Ok((
         Ends {

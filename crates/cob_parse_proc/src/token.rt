@@ -11,7 +11,7 @@ ghost use Rattle.cob_parse_verb.specs.Words.{start_key};
 ghost use Rattle.cob_parse_proc.specs.Reading.{here, one_word};
 ghost use Rattle.cob_parse_proc.specs.StmtSteps.{full_at, left_at, behind_error, end_at};
 
-use cob_lexemes::{Halt, Lexeme, Symbol, behind, expect, is_word, next};
+use cob_lexemes::{Halt, Lexeme, Symbol, behind, expect, next};
 use cob_parse_verb::start_of;
 use cob_tree::Keyword;
 
@@ -30,9 +30,9 @@ pub fn both_behind(first: Keyword, second: Keyword, lexemes: &[Lexeme]) -> Optio
     ensures cut { option_map (λ rest. signs rest.now) result ≡ both_behind (one_word first) (one_word second) (signs lexemes.now) }
     ensures rest { IfSome result (λ rest. length rest.now < length lexemes.now) }
 {
-    match next(lexemes) {
-        Some((lexeme, rest)) if is_word(first, &lexeme.symbol) => behind(second, rest),
-        _ => None,
+    match behind(first, lexemes) {
+        Some(rest) => behind(second, rest),
+        None => None,
     }
 }
 
@@ -43,7 +43,10 @@ pub fn behind_size(lexemes: &[Lexeme]) -> Result<Option<&[Lexeme]>, Halt>
 {
     match behind(Keyword::Size, lexemes) {
         None => Ok(None),
-        Some(rest) => Ok(Some(expect(Keyword::Error, rest)?)),
+        Some(rest) => {
+            let rest = or_leave!(expect(Keyword::Error, rest));
+            Ok(Some(rest))
+        }
     }
 }
 
@@ -54,7 +57,10 @@ pub fn behind_not_size(lexemes: &[Lexeme]) -> Result<Option<&[Lexeme]>, Halt>
 {
     match both_behind(Keyword::Not, Keyword::Size, lexemes) {
         None => Ok(None),
-        Some(rest) => Ok(Some(expect(Keyword::Error, rest)?)),
+        Some(rest) => {
+            let rest = or_leave!(expect(Keyword::Error, rest));
+            Ok(Some(rest))
+        }
     }
 }
 

@@ -5,7 +5,7 @@ use Rattle.cob_tree.specs.declared.keyword.Keyword.TheVariants as key
 use Rattle.cob_tree.specs.declared.token.Num.{Num}
 use Rattle.cob_tree.specs.declared.token.Rel.{Rel}
 use Rattle.cob_tree.specs.Symbols.{Symbol, Key, Name, Number, Text, Mark, Relation, Pic, Stop, Sign}
-use Rattle.cob_tree.specs.Cues.{Cue, is, mark_cue, key_cue, not_cue, Names, Constants, Signs, Scales, Relates, NotRelates, NotTests, NotSize, NotAtEnd, Throughs, Givings, Modes, Loops, Whens}
+use Rattle.cob_tree.specs.Cues.{Cue, is, mark_cue, key_cue, not_cue, Names, Constants, Signs, Scales, Relates, NotRelates, NotTests, NotSize, NotAtEnd, Givings, Modes, Loops, Whens}
 use Rattle.cob_tree.specs.Takes.{begins_opnd, begins_loop}
 use Rattle.reading.specs.Readers.{stands}
 use Rattle.reading.specs.Printing.{begins, on_mark, ahead, peek_on}
@@ -38,9 +38,6 @@ modes_ahead (t ∷ ts) = told Modes mode_key same refl refl refl refl refl refl 
 
 pub givings_ahead : (ts : List Sign) → begins grammar (is Givings) ts ≡ stands (the word.Giving) ts
 givings_ahead = told_stands Givings word.Giving (own_cue_tells word.Giving)
-
-pub thrus_ahead : (ts : List Sign) → begins grammar (is Throughs) ts ≡ stands (the word.Thru) ts
-thrus_ahead = told_stands Throughs word.Thru (own_cue_tells word.Thru)
 
 pub whens_ahead : (ts : List Sign) → begins grammar (is Whens) ts ≡ stands (the word.When) ts
 whens_ahead = told_stands Whens word.When (own_cue_tells word.When)

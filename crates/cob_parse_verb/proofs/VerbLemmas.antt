@@ -1,10 +1,11 @@
 -- What the functions that read statements return, step by step, is what their readers give.
-use Rattle.std.proofs.Common.{◌≡◌, ℕ, inl, inr, Bool, true, false, not, ◌||◌, ◌&&◌, List, [], ◌∷◌, ◌++◌, Option, Some, None, Result, Ok, Err, refl, sym, ap, subst, ◌∙◌}
+use Rattle.std.proofs.Common.{◌≡◌, ℕ, inl, inr, Bool, true, false, not, ◌||◌, ◌&&◌, List, [], ◌∷◌, ◌++◌, Option, Some, None, is_some, Result, Ok, Err, refl, sym, ap, subst, ◌∙◌}
 use Rattle.cob_tree.specs.declared.operand.Const.{Const}
 use Rattle.cob_tree.specs.declared.operand.Opnd.{Opnd}
 use Rattle.cob_tree.specs.declared.operand.Opnd.TheVariants as opnd
 use Rattle.cob_tree.specs.declared.operand.Recv.{Recv}
 use Rattle.cob_tree.specs.declared.operand.Ref.{Ref}
+use Rattle.cob_tree.specs.declared.stmt.Way.TheVariants.{Into}
 use Rattle.cob_tree.specs.Symbols.{Sign}
 use Rattle.cob_tree.specs.Cues.{is, NotRelates, Givings, Whens}
 use Rattle.cob_tree.specs.Expr.{Expr}
@@ -16,7 +17,7 @@ use Rattle.reading.specs.Readers.{Fault, Reader, ◌>>=◌, lead_as, lead, seen,
 use Rattle.reading.specs.Printing.{begins}
 use Rattle.cob_parse_expr.specs.Alphabet.{grammar}
 use Rattle.cob_parse_expr.specs.Classes.{name_of, const_of}
-use Rattle.cob_parse_expr.specs.Reading.{qualifiers_at, opnd_at, expr_at}
+use Rattle.cob_parse_expr.specs.Reading.{qualifiers_at, ref_at, opnd_at, expr_at}
 use Rattle.cob_parse_expr.specs.CondReading.{cond_at}
 use Rattle.cob_lexemes.specs.declared.halt.Halt.{Halt}
 use Rattle.cob_lexemes.specs.Steps.{Leads, Lacks, Fails}
@@ -24,14 +25,14 @@ use Rattle.cob_lexemes.proofs.StepLemmas.{fails_first, fails_second}
 use Rattle.cob_parse_expr.proofs.CondLemmas.{no_not}
 use Rattle.reading.proofs.Results.{ok_is}
 use Rattle.cob_parse_verb.specs.Words as word
-use Rattle.cob_parse_verb.specs.Heads.{Arithmetic, add_to, add_giving, subtract_from, subtract_giving, multiply_by, multiply_giving, divide_into, divide_giving, compute, takes_arithmetic, done, takes_behind}
+use Rattle.cob_parse_verb.specs.Heads.{Arithmetic, add_to, add_giving, subtract_from, subtract_giving, multiply_by, multiply_giving, divide_into, divide_giving, compute, takes_arithmetic, arithmetic, done, takes_behind}
 use Rattle.cob_parse_verb.specs.Listed.{takes_listed}
-use Rattle.cob_parse_verb.specs.Lists.{recvs_at}
+use Rattle.cob_parse_verb.specs.Lists.{recv_at, recvs_at}
 use Rattle.cob_parse_verb.specs.Procedure.{procedure}
 use Rattle.cob_parse_verb.specs.Targets.{Target, receivers, may_give, item_of, giving_at, target_at, given_at}
 use Rattle.cob_parse_verb.specs.Sums.{make_divide, by_part, divide_at}
 use Rattle.cob_parse_verb.specs.Targets as targets
-use Rattle.cob_parse_verb.specs.Turning.{turns, follows_name, through_at, Ranged, ranged_at, named_at, unnamed_at, make_perform, perform_at, sel_at}
+use Rattle.cob_parse_verb.specs.Turning.{varying_at, turns, follows_name, through_at, Ranged, ranged_at, named_at, unnamed_at, make_perform, perform_at, sel_at}
 use Rattle.cob_parse_verb.specs.VerbSteps.{Aim, all_of, one_of, aim_at, make_ranged, counted_at, sel_behind}
 use Rattle.cob_parse_verb.specs.Words.{the}
 use Rattle.cob_parse_verb.proofs.TargetLaws.{opnds_never, recvs_never}
@@ -93,6 +94,33 @@ pub last_taken : (xs : List Sel) (x : Sel) → takes_listed takes_sel (is Whens)
 last_taken [] x = or_nothing (takes_sel x NotRelates)
 last_taken (y ∷ []) x = last_taken [] x
 last_taken (y ∷ z ∷ xs) x = last_taken (z ∷ xs) x
+
+-- ---- a receiver
+
+abbrev read_recv : Ref → Bool → List Sign → Result (Recv × List Sign) Fault
+read_recv r b ts = Ok (record { item = r; rounded = b }, ts)
+
+pub rounded_on : (ts us rest : List Sign) (r : Ref) → ref_at ts ≡ Ok (r, us) → Leads (the word.Rounded) tt us rest → recv_at ts ≡ Ok (record { item = r; rounded = true }, rest)
+rounded_on ts [] rest r e l = absurd cc
+rounded_on ts (u ∷ us) rest r e l = go (the word.Rounded u) refl l.reads
+  where
+    go : (o : Option (Unit {0})) → the word.Rounded u ≡ o → lead_as o u us ≡ Ok (tt, rest) → recv_at ts ≡ Ok (record { item = r; rounded = true }, rest)
+    go None eo er = absurd cc
+    go (Some x) eo er = rw (e, eo) (ap (λ (z : Unit {0} × List Sign). read_recv r true z.1) (ok_is (x, us) (tt, rest) er))
+
+pub rounded_off : (ts us : List Sign) (r : Ref) → ref_at ts ≡ Ok (r, us) → Lacks (the word.Rounded) us → recv_at ts ≡ Ok (record { item = r; rounded = false }, us)
+rounded_off ts [] r e l = rw e refl
+rounded_off ts (u ∷ us) r e l = go (the word.Rounded u) refl l.stands
+  where
+    go : (o : Option (Unit {0})) → the word.Rounded u ≡ o → is_some o ≡ false → recv_at ts ≡ Ok (record { item = r; rounded = false }, u ∷ us)
+    go None eo es = rw (e, eo) refl
+    go (Some x) eo es = absurd cc
+
+-- ---- VARYING
+
+pub varying_read : (ts a b d f g : List Sign) (r : Ref) (from by : Opnd) → ref_at ts ≡ Ok (r, a) → lead (the word.From) a ≡ Ok (tt, b) → opnd_at b ≡ Ok (from, d) → lead (the word.By) d ≡ Ok (tt, f) → opnd_at f ≡ Ok (by, g)
+    → varying_at ts ≡ Ok (record { item = r; from = from; by = by }, g)
+varying_read ts a b d f g r from by e1 e2 e3 e4 e5 = rw (e1, e2, e3, e4, e5) refl
 
 -- ---- receivers, or an operand and GIVING
 
@@ -156,6 +184,21 @@ module _ {B : Type 0} (r : Reader Sign B) where
 
 -- ---- DIVIDE
 
+abbrev into_made : Opnd → Target (List Recv × Option Ref) → Arithmetic
+into_made o t = make_divide (o, inl (tt, t))
+
+abbrev into_read : Opnd → Result (Target (List Recv × Option Ref) × List Sign) Fault → Result (Arithmetic × List Sign) Fault
+into_read o read = read >>= λ t. Ok (into_made o t.0, t.1)
+
+pub into_all : (ts us : List Sign) (o : Opnd) (rs : List Recv) (made : Arithmetic) → aim_at ts ≡ Ok (all_of rs, us) → made ≡ divide_into o rs → seen (λ t. make_divide (o, inl (tt, t))) (target_at given_at) ts ≡ Ok (made, us)
+into_all ts us o rs made e same = ap (into_read o) (target_all given_at ts us rs e) ∙ ap (λ (z : Arithmetic). Ok (z, us)) (sym same)
+
+pub into_one : (ts us vs : List Sign) (o p : Opnd) (g : List Recv × Option Ref) (made : Arithmetic) → aim_at ts ≡ Ok (one_of p, us) → giving_at given_at us ≡ Ok ((tt, g), vs) → made ≡ divide_giving o Into p g.0 g.1 → seen (λ t. make_divide (o, inl (tt, t))) (target_at given_at) ts ≡ Ok (made, vs)
+into_one ts us vs o p g made e eg same = ap (into_read o) (target_one given_at ts us vs p g e eg) ∙ ap (λ (z : Arithmetic). Ok (z, vs)) (sym same)
+
+pub into_fails : (h : Halt) (ts : List Sign) (o : Opnd) → Fails h (target_at given_at ts) → Fails h (seen (λ t. make_divide (o, inl (tt, t))) (target_at given_at) ts)
+into_fails h ts o f = fails_first h (target_at given_at ts) (λ t. Ok (into_made o t.0, t.1)) f
+
 pub division_into : (ts us rest : List Sign) (o : Opnd) → opnd_at ts ≡ Ok (o, us) → Leads (the word.Into) tt us rest → divide_at ts ≡ seen (λ t. make_divide (o, inl (tt, t))) (target_at given_at) rest
 division_into ts us rest o e l = go (target_at given_at rest) refl
   where
@@ -169,6 +212,14 @@ division_by ts us o e l = go (by_part us) refl
     go : (read : Result (_ × List Sign) Fault) → by_part us ≡ read → divide_at ts ≡ seen (λ p. make_divide (o, inr p)) by_part us
     go (Err f) er = rw (e, l.stands, er) refl
     go (Ok x) er = rw (e, l.stands, er) refl
+
+-- ---- arithmetic statements as heads
+
+pub sum_fails : (r : Reader Sign Arithmetic) (ts : List Sign) (h : Halt) → Fails h (r ts) → Fails h (seen arithmetic r ts)
+sum_fails r ts h f = fails_first h (r ts) (λ a. Ok (arithmetic a.0, a.1)) f
+
+pub sum_read : (r : Reader Sign Arithmetic) (ts us : List Sign) (a : Arithmetic) → r ts ≡ Ok (a, us) → seen arithmetic r ts ≡ Ok (arithmetic a, us)
+sum_read r ts us a e = rw e refl
 
 -- ---- PERFORM
 

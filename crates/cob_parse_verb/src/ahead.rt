@@ -1,6 +1,6 @@
 //! What the next tokens say before they are read.
 ghost use Rattle.std.specs.Prelude.{◌≡◌};
-ghost use Rattle.cob_tree.specs.Cues.{is, Throughs, Givings, Names, Modes, Whens};
+ghost use Rattle.cob_tree.specs.Cues.{is, Givings, Names, Modes, Whens};
 ghost use Rattle.cob_tree.specs.Takes.{begins_opnd, begins_loop};
 ghost use Rattle.reading.specs.Printing.{begins};
 ghost use Rattle.cob_parse_expr.specs.Alphabet.{grammar};
@@ -43,14 +43,6 @@ pub fn giving_begins(lexemes: &[Lexeme]) -> bool
     ensures { result ≡ begins grammar (is Givings) (signs lexemes.now) }
 {
     stands(Keyword::Giving, lexemes)
-}
-
-/// Whether THRU does.
-#[tactic(auto, using(crate::proofs::AheadLemmas::thrus_ahead))]
-pub fn thru_begins(lexemes: &[Lexeme]) -> bool
-    ensures { result ≡ begins grammar (is Throughs) (signs lexemes.now) }
-{
-    stands(Keyword::Thru, lexemes)
 }
 
 /// Whether WHEN does.

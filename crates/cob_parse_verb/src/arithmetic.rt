@@ -345,11 +345,15 @@ fn divide_into_in(
     ensures gives { Gives (λ x. (plain_arithmetic x.0, signs x.1.now)) result (seen (λ t. make_divide (divisor, inl (tt, t))) (target_at given_at) (signs lexemes.now)) }
     ensures rest { IfOk result (λ x. length x.1.now ≤ length lexemes.now) }
 {
-    let (aim, rest) = aim_in(alloc, lexemes)?;
+    let (aim, rest) = or_leave!(aim_in(alloc, lexemes), divisor);
     match aim {
         Aim::Receivers(into) => Ok((divided_into(divisor, into), rest)),
         Aim::Operand(second) => {
-            let (giving, remainder, rest) = giving_remainder_in(alloc, rest)?;
+            let (giving, remainder, rest) = or_leave!(
+                giving_remainder_in(alloc, rest),
+                divisor,
+                second
+            );
             Ok((divided(divisor, Way::Into, second, giving, remainder), rest))
         }
     }

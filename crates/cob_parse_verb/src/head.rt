@@ -46,7 +46,6 @@ fn if_in(alloc: Global, lexemes: &[Lexeme], room: u32) -> Result<(Head, bool, &[
 
 // The arithmetic statements as heads.
 
-#[tactic(auto, using(crate::proofs::VerbLemmas::arithmetic_never))]
 fn add_head(alloc: Global, lexemes: &[Lexeme]) -> Result<(Head, bool, &[Lexeme]), Halt>
     ensures gives { Gives (λ x. (plain_head x.0, signs x.2.now)) result (seen arithmetic add_at (signs lexemes.now)) }
     ensures takes { IfOk result (λ x. x.1 ≡ takes_behind (plain_head x.0) NotRelates) }
@@ -56,7 +55,6 @@ fn add_head(alloc: Global, lexemes: &[Lexeme]) -> Result<(Head, bool, &[Lexeme])
     Ok((Head::Arithmetic(sum), false, rest))
 }
 
-#[tactic(auto, using(crate::proofs::VerbLemmas::arithmetic_never))]
 fn subtract_head(alloc: Global, lexemes: &[Lexeme]) -> Result<(Head, bool, &[Lexeme]), Halt>
     ensures gives { Gives (λ x. (plain_head x.0, signs x.2.now)) result (seen arithmetic subtract_at (signs lexemes.now)) }
     ensures takes { IfOk result (λ x. x.1 ≡ takes_behind (plain_head x.0) NotRelates) }
@@ -66,7 +64,6 @@ fn subtract_head(alloc: Global, lexemes: &[Lexeme]) -> Result<(Head, bool, &[Lex
     Ok((Head::Arithmetic(sum), false, rest))
 }
 
-#[tactic(auto, using(crate::proofs::VerbLemmas::arithmetic_never))]
 fn multiply_head(alloc: Global, lexemes: &[Lexeme]) -> Result<(Head, bool, &[Lexeme]), Halt>
     ensures gives { Gives (λ x. (plain_head x.0, signs x.2.now)) result (seen arithmetic multiply_at (signs lexemes.now)) }
     ensures takes { IfOk result (λ x. x.1 ≡ takes_behind (plain_head x.0) NotRelates) }
@@ -76,7 +73,6 @@ fn multiply_head(alloc: Global, lexemes: &[Lexeme]) -> Result<(Head, bool, &[Lex
     Ok((Head::Arithmetic(sum), false, rest))
 }
 
-#[tactic(auto, using(crate::proofs::VerbLemmas::arithmetic_never))]
 fn divide_head(alloc: Global, lexemes: &[Lexeme]) -> Result<(Head, bool, &[Lexeme]), Halt>
     ensures gives { Gives (λ x. (plain_head x.0, signs x.2.now)) result (seen arithmetic divide_at (signs lexemes.now)) }
     ensures takes { IfOk result (λ x. x.1 ≡ takes_behind (plain_head x.0) NotRelates) }
@@ -86,7 +82,6 @@ fn divide_head(alloc: Global, lexemes: &[Lexeme]) -> Result<(Head, bool, &[Lexem
     Ok((Head::Arithmetic(sum), false, rest))
 }
 
-#[tactic(auto, using(crate::proofs::VerbLemmas::arithmetic_never))]
 fn compute_head(
     alloc: Global,
     lexemes: &[Lexeme],

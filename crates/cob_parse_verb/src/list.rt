@@ -16,11 +16,11 @@ pub fn names_in(alloc: Global, lexemes: &[Lexeme]) -> Result<(Vec<Name>, &[Lexem
     ensures gives { Gives (λ x. (x.0.items, signs x.1.now)) result (names_at (signs lexemes.now)) }
     ensures rest { IfOk result (λ x. length x.1.now ≤ length lexemes.now) }
 {
-    let (first, mut left) = name_at(alloc, lexemes)?;
+    let (first, mut left) = or_leave!(name_at(alloc, lexemes));
     let mut names = Vec::new(alloc);
     names.push(first)?;
     'names: while name_begins(left) {
-        let (name, after) = name_at(alloc, left)?;
+        let (name, after) = or_leave!(name_at(alloc, left), names);
         names.push(name)?;
         left = after;
     }
@@ -31,11 +31,11 @@ pub fn refs_in(alloc: Global, lexemes: &[Lexeme]) -> Result<(Vec<Ref>, &[Lexeme]
     ensures gives { Gives (λ x. (x.0.items, signs x.1.now)) result (refs_at (signs lexemes.now)) }
     ensures rest { IfOk result (λ x. length x.1.now ≤ length lexemes.now) }
 {
-    let (first, mut left) = ref_in(alloc, lexemes)?;
+    let (first, mut left) = or_leave!(ref_in(alloc, lexemes));
     let mut items = Vec::new(alloc);
     items.push(first)?;
     'items: while name_begins(left) {
-        let (item, after) = ref_in(alloc, left)?;
+        let (item, after) = or_leave!(ref_in(alloc, left), items);
         items.push(item)?;
         left = after;
     }
@@ -46,11 +46,11 @@ pub fn opnds_in(alloc: Global, lexemes: &[Lexeme]) -> Result<(Vec<Opnd>, &[Lexem
     ensures gives { Gives (λ x. (x.0.items, signs x.1.now)) result (opnds_at (signs lexemes.now)) }
     ensures rest { IfOk result (λ x. length x.1.now ≤ length lexemes.now) }
 {
-    let (first, mut left) = opnd_in(alloc, lexemes)?;
+    let (first, mut left) = or_leave!(opnd_in(alloc, lexemes));
     let mut opnds = Vec::new(alloc);
     opnds.push(first)?;
     'opnds: while operand_begins(left) {
-        let (opnd, after) = opnd_in(alloc, left)?;
+        let (opnd, after) = or_leave!(opnd_in(alloc, left), opnds);
         opnds.push(opnd)?;
         left = after;
     }
@@ -62,7 +62,7 @@ fn recv_in(alloc: Global, lexemes: &[Lexeme]) -> Result<(Recv, &[Lexeme]), Halt>
     ensures gives { Gives (λ x. (x.0, signs x.1.now)) result (recv_at (signs lexemes.now)) }
     ensures rest { IfOk result (λ x. length x.1.now < length lexemes.now) }
 {
-    let (item, rest) = ref_in(alloc, lexemes)?;
+    let (item, rest) = or_leave!(ref_in(alloc, lexemes));
     match behind(Keyword::Rounded, rest) {
         Some(rest) => Ok((
             Recv {
@@ -85,11 +85,11 @@ pub fn recvs_in(alloc: Global, lexemes: &[Lexeme]) -> Result<(Vec<Recv>, &[Lexem
     ensures gives { Gives (λ x. (x.0.items, signs x.1.now)) result (recvs_at (signs lexemes.now)) }
     ensures rest { IfOk result (λ x. length x.1.now ≤ length lexemes.now) }
 {
-    let (first, mut left) = recv_in(alloc, lexemes)?;
+    let (first, mut left) = or_leave!(recv_in(alloc, lexemes));
     let mut recvs = Vec::new(alloc);
     recvs.push(first)?;
     'recvs: while name_begins(left) {
-        let (recv, after) = recv_in(alloc, left)?;
+        let (recv, after) = or_leave!(recv_in(alloc, left), recvs);
         recvs.push(recv)?;
         left = after;
     }
@@ -101,8 +101,8 @@ fn opens_in(alloc: Global, lexemes: &[Lexeme]) -> Result<(Opens, &[Lexeme]), Hal
     ensures gives { Gives (λ x. (x.0, signs x.1.now)) result (opens_at (signs lexemes.now)) }
     ensures rest { IfOk result (λ x. length x.1.now < length lexemes.now) }
 {
-    let (mode, rest) = mode_in(lexemes)?;
-    let (files, rest) = names_in(alloc, rest)?;
+    let (mode, rest) = or_leave!(mode_in(lexemes));
+    let (files, rest) = or_leave!(names_in(alloc, rest));
     let files = Many::of(files);
     Ok((Opens { mode, files }, rest))
 }
@@ -111,11 +111,11 @@ pub fn files_in(alloc: Global, lexemes: &[Lexeme]) -> Result<(Vec<Opens>, &[Lexe
     ensures gives { Gives (λ x. (x.0.items, signs x.1.now)) result (files_at (signs lexemes.now)) }
     ensures rest { IfOk result (λ x. length x.1.now ≤ length lexemes.now) }
 {
-    let (first, mut left) = opens_in(alloc, lexemes)?;
+    let (first, mut left) = or_leave!(opens_in(alloc, lexemes));
     let mut files = Vec::new(alloc);
     files.push(first)?;
     'files: while mode_begins(left) {
-        let (opens, after) = opens_in(alloc, left)?;
+        let (opens, after) = or_leave!(opens_in(alloc, left), files);
         files.push(opens)?;
         left = after;
     }

@@ -65,7 +65,7 @@ fn sel_behind(
     };
     match one_alone(cond) {
         Ok(low) => {
-            let (high, rest) = expr_in(alloc, rest, room)?;
+            let (high, rest) = or_leave!(expr_in(alloc, rest, room), low);
             Ok((range(low, high), false, rest))
         }
         Err(cond) => Ok((choice(cond), takes_not, lexemes)),

@@ -107,11 +107,11 @@ pub fn target_in(alloc: Global, lexemes: &[Lexeme]) -> Result<(Target, &[Lexeme]
     ensures gives { Gives (λ x. (plain_target x.0, signs x.1.now)) result (target_at recvs_at (signs lexemes.now)) }
     ensures rest { IfOk result (λ x. length x.1.now ≤ length lexemes.now) }
 {
-    let (aim, rest) = aim_in(alloc, lexemes)?;
+    let (aim, rest) = or_leave!(aim_in(alloc, lexemes));
     match aim {
         Aim::Receivers(recvs) => Ok((Target::Receivers(recvs), rest)),
         Aim::Operand(opnd) => {
-            let (giving, rest) = giving_in(alloc, rest)?;
+            let (giving, rest) = or_leave!(giving_in(alloc, rest), opnd);
             Ok((Target::Giving(opnd, giving), rest))
         }
     }

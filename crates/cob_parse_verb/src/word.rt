@@ -5,7 +5,7 @@ ghost use Rattle.cob_parse_verb.specs.Words.{start_key};
 use cob_tree::Keyword;
 
 /// A reserved word with which a statement begins.
-#[derive(Clone, Copy, Debug, PartialEq, Eq)]
+#[derive(Clone, Copy, PartialEq, Eq)]
 pub enum Start {
     Move,
     Set,
@@ -29,7 +29,7 @@ pub enum Start {
 }
 
 /// The first word of a statement, and its line.
-#[derive(Clone, Copy, Debug, PartialEq, Eq)]
+#[derive(Clone, Copy, PartialEq, Eq)]
 pub struct Begin {
     pub line: u32,
     pub start: Start,

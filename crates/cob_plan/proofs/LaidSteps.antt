@@ -1,11 +1,14 @@
 -- Each node of a program with its copies written in leads to where a step begins, to the last node, or onward to a node of
 -- its statement.
-use Rattle.std.proofs.Common.{◌≡◌, ◌≤◌, ℕ, zero, suc, ◌+◌, ◌-◌, if◌then◌else◌, ◌⊎◌, inl, inr, Bool, true, false, List, [], ◌∷◌, ◌++◌, length, length-append, Option, Some, refl, sym, subst, arith}
+use Rattle.std.proofs.Common.{◌≡◌, ◌≤◌, ℕ, zero, suc, ◌+◌, ◌-◌, if◌then◌else◌, ◌⊎◌, inl, inr, Bool, true, false, List, [], ◌∷◌, ◌++◌, length, length-append, Option, Some, None, refl, sym, subst, ◌∙◌, arith}
 use Rattle.std.specs.Prelude.{is_some}
+use Rattle.std.proofs.lemmas.Bool.{false≢true}
+use Rattle.std.proofs.lemmas.Option.{same_Some, none-some}
 use Rattle.cob_program.specs.declared.act.Opening.{Opening}
 use Rattle.cob_program.specs.Logic.{Test, numbers, texts, member, numeric, always, Logic, all_of, any_of, not_, test, Logics, no_logics, more_logics, logics_of}
 use Rattle.cob_program.specs.Act.{Turns, once, times, until, varying, MkStmt, Stmts, no_stmts, more_stmts, Phrase, left_out, given, Act, move, arith as arithmetic, if_, evaluate, perform, go, nothing, stop, open_files, close_files, read, write, show, Whens, no_whens, more_whens, MkWhen, Body, range, inline, Program}
 use Rattle.cob_runs.specs.declared.action.Action.{Action}
+use Rattle.cob_runs.specs.declared.action.Action.TheVariants as action
 use Rattle.cob_runs.specs.Acts.{has_status}
 use Rattle.cob_runs.specs.Steps.{body_at as body_of_para}
 use Rattle.cob_runs.specs.Effects.{act_at}
@@ -119,6 +122,17 @@ module _ (c : Copied) (number : ℕ) where
     act_begun (perform body turns) x w laid = absurd laid
     act_begun (read f into end_ fine) x w laid = absurd laid
 
+-- ---- files that are opened
+
+-- the place, in its statement's list, of the file that a node with these ways on opens
+abbrev pub opened_by : Action → Option ℕ
+opened_by (action.Open k) = Some k
+opened_by _ = None
+
+abbrev pub opened_at : List (Action × ℕ) → Option ℕ
+opened_at [] = None
+opened_at (x ∷ xs) = opened_by x.0
+
 -- ---- where nodes lead
 
 -- the nodes by their numbers, and the number behind them
@@ -140,8 +154,22 @@ module _ (p : Program) (get : ℕ → Option Noded) (final : ℕ) where
   AllGo number from [] = Unit {0}
   AllGo number from (x ∷ xs) = Goes number from x.1 × AllGo number from xs
 
+  -- No step goes on there, or it is the node that opens the file behind one of an OPEN.
+  abbrev pub NextOpens : ℕ → ℕ → Type 0
+  NextOpens k to = Rests to ⊎ ((x : Noded) × (get to ≡ Some x) × (opened_at x.out ≡ Some (k + 1)))
+
+  abbrev pub AllOpen : ℕ → List (Action × ℕ) → Type 0
+  AllOpen k [] = Unit {0}
+  AllOpen k (x ∷ xs) = NextOpens k x.1 × AllOpen k xs
+
+  -- a step begins with an OPEN's first file, and each leads to the next
+  pub record OpensOn (x : Noded) : Type 0 where
+    pub first : x.starts ≡ true → (k : ℕ) → opened_at x.out ≡ Some k → k ≡ 0
+    pub next : (k : ℕ) → opened_at x.out ≡ Some k → AllOpen k x.out
+
   pub record IsLed (n : ℕ) (x : Noded) : Type 0 where
     pub goes : AllGo x.statement (n + 1) x.out
+    pub opens : OpensOn x
     pub act : Act
     pub its : act_at p x.statement ≡ Some act
 
@@ -197,8 +225,31 @@ module _ (p : Program) (get : ℕ → Option Noded) (final : ℕ) where
   }
 
   module _ (c : Copied) (number : ℕ) (a : Act) (its : act_at p number ≡ Some a) where
-    own : (at : ℕ) (b : Bool) (out : List (Action × ℕ)) → AllGo number (at + 1) out → IsLed at (node c number b out)
-    own at b out g = record { goes = g; act = a; its = its }
+    -- a node that opens no file
+    own : (at : ℕ) (b : Bool) (out : List (Action × ℕ)) → AllGo number (at + 1) out → opened_at out ≡ None →
+        IsLed at (node c number b out)
+    own at b out g none = record {
+      goes = g;
+      act = a;
+      its = its;
+      opens = record {
+        first = λ s k e. absurd (none-some k (sym none ∙ e));
+        next = λ k e. absurd (none-some k (sym none ∙ e));
+      };
+    }
+
+    -- one that opens a file
+    own_open : (at : ℕ) (b : Bool) (k : ℕ) (out : List (Action × ℕ)) → AllGo number (at + 1) out → (b ≡ true → k ≡ 0) →
+        opened_at out ≡ Some k → AllOpen k out → IsLed at (node c number b out)
+    own_open at b k out g first is on = record {
+      goes = g;
+      act = a;
+      its = its;
+      opens = record {
+        first = λ s j e. subst (λ (i : ℕ). i ≡ 0) (same_Some k j (sym is ∙ e)) (first s);
+        next = λ j e. subst (λ (i : ℕ). AllOpen i out) (same_Some k j (sym is ∙ e)) on;
+      };
+    }
 
     here : (at from : ℕ) (b : Bool) (out : List (Action × ℕ)) (xs : List Noded) → from ≤ at →
         Stands at (node c number b out ∷ xs) → Goes number from at
@@ -206,11 +257,11 @@ module _ (p : Program) (get : ℕ → Option Noded) (final : ℕ) where
 
     test_led : (at : ℕ) (b : Bool) (t : Test) (k tr fa : ℕ) → Goes number (at + 1) tr → Goes number (at + 1) fa →
         IsLed at (node c number b (test_edges c number t k tr fa))
-    test_led at b (numbers x r y) k tr fa t u = own at b _ (t, (u, tt))
-    test_led at b (texts x r y) k tr fa t u = own at b _ (t, (u, tt))
-    test_led at b (member place ps) k tr fa t u = own at b _ (t, (u, tt))
-    test_led at b (numeric place) k tr fa t u = own at b _ (t, (u, tt))
-    test_led at b always k tr fa t u = own at b _ (t, tt)
+    test_led at b (numbers x r y) k tr fa t u = own at b _ (t, (u, tt)) refl
+    test_led at b (texts x r y) k tr fa t u = own at b _ (t, (u, tt)) refl
+    test_led at b (member place ps) k tr fa t u = own at b _ (t, (u, tt)) refl
+    test_led at b (numeric place) k tr fa t u = own at b _ (t, (u, tt)) refl
+    test_led at b always k tr fa t u = own at b _ (t, tt) refl
 
     -- the first node of a condition
     mutual
@@ -314,13 +365,29 @@ module _ (p : Program) (get : ℕ → Option Noded) (final : ℕ) where
       open_goes [] k at next s r = goes_to_rest number (at + 1) next r
       open_goes (o ∷ os) k at next s r = here (at + 1) (at + 1) false _ _ (omega arith) s
 
+      open_next : (os : List Opening) (k at next : ℕ) →
+          Stands (at + 1) (open_nodes c number false os (k + 1) (at + 1) next) → Rests next →
+          NextOpens k (behind c number os at next)
+      open_next [] k at next s r = inl r
+      open_next (o ∷ os) k at next s r = inr (_, s.each.0, refl)
+
+      bad_opens : (file k next : ℕ) → NextOpens k next → NextOpens k (bad_to c number file next)
+      bad_opens file k next g = by_status (has_status c.layout file)
+        where
+          by_status : (b : Bool) → NextOpens k (if b then next else c.final)
+          by_status true = g
+          by_status false = inl last
+
       open_led : (b : Bool) (os : List Opening) (k at next : ℕ) → Stands at (open_nodes c number b os k at next) →
-          Rests next → AreLed at (open_nodes c number b os k at next)
-      open_led b [] k at next s r = none_led at
-      open_led b (o ∷ os) k at next s r =
+          Rests next → (b ≡ true → k ≡ 0) → AreLed at (open_nodes c number b os k at next)
+      open_led b [] k at next s r first = none_led at
+      open_led b (o ∷ os) k at next s r first =
           let later = rest_of at _ _ s in
           let g = open_goes os (k + 1) at next later r in
-          more_led at _ _ (own at b _ (g, (bad_goes o.file (at + 1) _ g, tt))) (open_led false os (k + 1) (at + 1) next later r)
+          let h = open_next os k at next later r in
+          more_led at _ _
+          (own_open at b k _ (g, (bad_goes o.file (at + 1) _ g, tt)) first refl (h, (bad_opens o.file k _ h, tt)))
+          (open_led false os (k + 1) (at + 1) next later r (λ e. absurd (false≢true e)))
 
       close_goes : (fs : List ℕ) (k at next : ℕ) → Stands (at + 1) (close_nodes c number false fs k (at + 1) next) →
           Rests next → Goes number (at + 1) (behind c number fs at next)
@@ -333,7 +400,7 @@ module _ (p : Program) (get : ℕ → Option Noded) (final : ℕ) where
       close_led b (f ∷ fs) k at next s r =
           let later = rest_of at _ _ s in
           let g = close_goes fs (k + 1) at next later r in
-          more_led at _ _ (own at b _ (g, (bad_goes f (at + 1) _ g, tt))) (close_led false fs (k + 1) (at + 1) next later r)
+          more_led at _ _ (own at b _ (g, (bad_goes f (at + 1) _ g, tt)) refl) (close_led false fs (k + 1) (at + 1) next later r)
 
       read_led : (file : ℕ) (into : Bool) (at end_ fine next : ℕ) →
           Stands at (read_nodes c number file into at end_ fine next) → Rests end_ → Rests fine → Rests next →
@@ -345,7 +412,7 @@ module _ (p : Program) (get : ℕ → Option Noded) (final : ℕ) where
               goes_to_rest number (at + 1) end_ e,
               (bad_goes file (at + 1) next (goes_to_rest number (at + 1) next n), tt),
             ),
-          ))
+          ) refl)
       read_led file true at end_ fine next s e i n =
           more_led at _ _ (own at true _ (
             here (at + 1) (at + 1) false _ _ (omega arith) (rest_of at _ _ s),
@@ -353,18 +420,18 @@ module _ (p : Program) (get : ℕ → Option Noded) (final : ℕ) where
               goes_to_rest number (at + 1) end_ e,
               (bad_goes file (at + 1) next (goes_to_rest number (at + 1) next n), tt),
             ),
-          ))
-          (one_led (at + 1) _ (own (at + 1) false _ (goes_to_rest number (at + 1 + 1) fine i, tt)))
+          ) refl)
+          (one_led (at + 1) _ (own (at + 1) false _ (goes_to_rest number (at + 1 + 1) fine i, tt) refl))
 
       write_led : (file : ℕ) (from : Bool) (at next : ℕ) → Stands at (write_nodes c number file from at next) → Rests next →
           AreLed at (write_nodes c number file from at next)
       write_led file false at next s n =
           let g = goes_to_rest number (at + 1) next n in
-          one_led at _ (own at true _ (g, (bad_goes file (at + 1) next g, tt)))
+          one_led at _ (own at true _ (g, (bad_goes file (at + 1) next g, tt)) refl)
       write_led file true at next s n =
           let g = goes_to_rest number (at + 1 + 1) next n in
-          more_led at _ _ (own at true _ (here (at + 1) (at + 1) false _ _ (omega arith) (rest_of at _ _ s), tt))
-          (one_led (at + 1) _ (own (at + 1) false _ (g, (bad_goes file (at + 1 + 1) next g, tt))))
+          more_led at _ _ (own at true _ (here (at + 1) (at + 1) false _ _ (omega arith) (rest_of at _ _ s), tt) refl)
+          (one_led (at + 1) _ (own (at + 1) false _ (g, (bad_goes file (at + 1 + 1) next g, tt)) refl))
 
     -- ---- loops
 
@@ -390,35 +457,35 @@ module _ (p : Program) (get : ℕ → Option Noded) (final : ℕ) where
     before_led : (turns : Turns) (x : LaidBody) (at next : ℕ) → IsWellFormedTurns turns → Before turns x at next →
         Rests (first_of_body x (body_at turns at) (body_next turns at x next)) → Rests next →
         AreLed at (loop_before c number turns x at next)
-    before_led once x at next w s f n = one_led at _ (own at true _ (goes_to_rest number (at + 1) _ f, tt))
+    before_led once x at next w s f n = one_led at _ (own at true _ (goes_to_rest number (at + 1) _ f, tt) refl)
     before_led (times v) x at next w s f n =
         let second = begins (at + 1) _ (rest_of at _ _ s) refl in
-        more_led at _ _ (own at true _ (goes_to_rest number (at + 1) _ second, tt))
+        more_led at _ _ (own at true _ (goes_to_rest number (at + 1) _ second, tt) refl)
         (one_led (at + 1) _ (own (at + 1) true _
-        (goes_to_rest number (at + 1 + 1) _ f, (goes_to_rest number (at + 1 + 1) next n, tt))))
+        (goes_to_rest number (at + 1 + 1) _ f, (goes_to_rest number (at + 1 + 1) next n, tt)) refl))
     before_led (until false t) x at next w s f n =
         let tests = rest_of at _ _ s in
-        more_led at _ _ (own at true _ (goes_to_rest number (at + 1) _ (tests_rest t 0 (at + 1) _ _ w tests), tt))
+        more_led at _ _ (own at true _ (goes_to_rest number (at + 1) _ (tests_rest t 0 (at + 1) _ _ w tests), tt) refl)
         (tests_led true t 0 (at + 1) next _ tests n f)
-    before_led (until true t) x at next w s f n = one_led at _ (own at true _ (goes_to_rest number (at + 1) _ f, tt))
+    before_led (until true t) x at next w s f n = one_led at _ (own at true _ (goes_to_rest number (at + 1) _ f, tt) refl)
     before_led (varying false i from by t) x at next w s f n =
         let tests = rest_of at _ _ s in
-        more_led at _ _ (own at true _ (goes_to_rest number (at + 1) _ (tests_rest t 0 (at + 1) _ _ w tests), tt))
+        more_led at _ _ (own at true _ (goes_to_rest number (at + 1) _ (tests_rest t 0 (at + 1) _ _ w tests), tt) refl)
         (tests_led true t 0 (at + 1) next _ tests n f)
     before_led (varying true i from by t) x at next w s f n =
-        one_led at _ (own at true _ (goes_to_rest number (at + 1) _ f, tt))
+        one_led at _ (own at true _ (goes_to_rest number (at + 1) _ f, tt) refl)
 
     behind_led : (turns : Turns) (x : LaidBody) (at next : ℕ) → IsWellFormedTurns turns → Before turns x at next →
         Behind turns x at next → Rests (first_of_body x (body_at turns at) (body_next turns at x next)) → Rests next →
         AreLed (body_at turns at + body_size x) (loop_behind c number turns x at next)
     behind_led once x at next w s q f n = none_led _
     behind_led (times v) x at next w s q f n =
-        one_led _ _ (own _ true _ (goes_to_rest number _ (at + 1) (begins (at + 1) _ (rest_of at _ _ s) refl), tt))
+        one_led _ _ (own _ true _ (goes_to_rest number _ (at + 1) (begins (at + 1) _ (rest_of at _ _ s) refl), tt) refl)
     behind_led (until false t) x at next w s q f n = none_led _
     behind_led (until true t) x at next w s q f n = tests_led true t 0 _ next _ q n f
     behind_led (varying false i from by t) x at next w s q f n =
         one_led _ _ (own _ true _
-        (goes_to_rest number _ (at + 1) (tests_rest t 0 (at + 1) _ _ w (rest_of at _ _ s)), tt))
+        (goes_to_rest number _ (at + 1) (tests_rest t 0 (at + 1) _ _ w (rest_of at _ _ s)), tt) refl)
     behind_led (varying true i from by t) x at next w s q f n =
         let tests = at + 1 + body_size x in
         let augment = augment_at (varying true i from by t) at x in
@@ -427,7 +494,7 @@ module _ (p : Program) (get : ℕ → Option Noded) (final : ℕ) where
         append_led tests augment ns _ size
         (tests_led true t 0 tests next augment (in_front tests ns _ q) n
         (begins augment _ (at_back tests augment ns _ size q) refl))
-        (one_led augment _ (own augment true _ (goes_to_rest number (augment + 1) _ f, tt)))
+        (one_led augment _ (own augment true _ (goes_to_rest number (augment + 1) _ f, tt) refl))
 
   -- ---- three lists, one behind the other
 
@@ -694,22 +761,22 @@ module _ (p : Program) (get : ℕ → Option Noded) (final : ℕ) where
           Rests next → AreLed at (act_nodes c number x at next)
       act_led c lo hi (move v places) x number at next l its w k s n =
           led_as_laid c number at next x moving l (λ _. one_led at _
-          (own c number (move v places) its at true _ (goes_to_rest number (at + 1) next n, tt))) s
+          (own c number (move v places) its at true _ (goes_to_rest number (at + 1) next n, tt) refl)) s
       act_led c lo hi (show xs) x number at next l its w k s n =
           led_as_laid c number at next x showing l (λ _. one_led at _
-          (own c number (show xs) its at true _ (goes_to_rest number (at + 1) next n, tt))) s
+          (own c number (show xs) its at true _ (goes_to_rest number (at + 1) next n, tt) refl)) s
       act_led c lo hi nothing x number at next l its w k s n =
           led_as_laid c number at next x skipping l (λ _. one_led at _
-          (own c number nothing its at true _ (goes_to_rest number (at + 1) next n, tt))) s
+          (own c number nothing its at true _ (goes_to_rest number (at + 1) next n, tt) refl)) s
       act_led c lo hi (go to) x number at next l its w k s n =
           led_as_laid c number at next x (going to) l.0 (λ _. one_led at _
-          (own c number (go to) its at true _ (goes_to_rest number (at + 1) (c.para to) (k.para to), tt))) s
+          (own c number (go to) its at true _ (goes_to_rest number (at + 1) (c.para to) (k.para to), tt) refl)) s
       act_led c lo hi stop x number at next l its w k s n =
           led_as_laid c number at next x ending l (λ _. one_led at _
-          (own c number stop its at true _ (goes_to_rest number (at + 1) c.final k.last, tt))) s
+          (own c number stop its at true _ (goes_to_rest number (at + 1) c.final k.last, tt) refl)) s
       act_led c lo hi (open_files os) x number at next l its w k s n =
           led_as_laid c number at next x (opening os) l
-          (λ t. open_led c number (open_files os) its k.last true os 0 at next t n) s
+          (λ t. open_led c number (open_files os) its k.last true os 0 at next t n (λ _. refl)) s
       act_led c lo hi (close_files fs) x number at next l its w k s n =
           led_as_laid c number at next x (closing fs) l
           (λ t. close_led c number (close_files fs) its k.last true fs 0 at next t n) s
@@ -728,7 +795,7 @@ module _ (p : Program) (get : ℕ → Option Noded) (final : ℕ) where
           (own c number (arithmetic sum ts remainder size fine) its at true _ (
             goes_to_rest number (at + 1) _ (list_rests c lo hi fine v last next l.1 w.1 its_list n),
             size_goes c lo hi number size u (at + 1) next (at + 1) l.0 w.0 its_phrase n,
-          ))
+          ) refl)
           (append_led (at + 1) last ns ms long (phrase_led c lo hi size u (at + 1) next l.0 w.0 k its_phrase n)
           (list_led c lo hi fine v last next l.1 w.1 k its_list n))
       act_led c lo hi (if_ t held other) (deciding u xs ys) number at next l its w k s n =
@@ -762,7 +829,7 @@ module _ (p : Program) (get : ℕ → Option Noded) (final : ℕ) where
             whens_go c lo hi number (evaluate ws other) its ws xs 0 (at + 1) no_when next (at + 1) (omega arith) l.0 w.0
                 its_whens o n,
             tt,
-          ))
+          ) refl)
           (append_led (at + 1) last ns ms long
           (whens_led c lo hi number (evaluate ws other) its ws xs 0 (at + 1) no_when next l.0 w.0 k its_whens o n)
           (list_led c lo hi other ys last next l.1 w.1 k its_list n))

@@ -2,7 +2,7 @@
 use Rattle.std.proofs.Common.{◌≡◌, ◌≤◌, ◌<◌, ◌==◌, ◌⊎◌, inl, inr, ℕ, zero, suc, ◌+◌, Bool, true, false, List, [], ◌∷◌, ◌++◌, length, length-append, Option, Some, None, refl, sym, ap, subst, ◌∙◌, eq-eqb, arith}
 use Rattle.std.specs.Prelude.{slice_get, Contains, ◌||◌}
 use Rattle.std.proofs.lemmas.List.{length-map}
-use Rattle.std.proofs.lemmas.Option.{same_Some, none-some, slice_get_within}
+use Rattle.std.proofs.lemmas.Option.{same_Some, none-some, slice_get_cases, slice_get_within}
 use Rattle.cob_program.specs.Act.{Act, Program}
 use Rattle.cob_runs.specs.declared.action.Action.{Action}
 use Rattle.cob_runs.specs.Effects.{act_at}
@@ -13,14 +13,16 @@ use Rattle.cob_graph.specs.Graphs.{as_node, final_node, final_of, main_copy, all
 use Rattle.cob_graph.specs.Lookup.{node_at}
 use Rattle.cob_graph.specs.WellFormed.{IsWellFormed}
 use Rattle.cob_graph.proofs.Lengths.{length-paras}
+use Rattle.cob_plan.specs.declared.node.Op.{Op}
+use Rattle.cob_plan.specs.declared.node.Op.TheVariants as op
 use Rattle.cob_plan.specs.declared.node.PlanNode.{PlanNode}
 use Rattle.cob_plan.specs.declared.statement.Statement.{Statement}
 use Rattle.cob_plan.specs.Listing.{plain_statements, listed}
-use Rattle.cob_plan.specs.Plan.{ArePlanNodes}
+use Rattle.cob_plan.specs.Plan.{ArePlanNodes, op_edges}
 use Rattle.cob_plan.specs.Fitting.{IsFitting}
 use Rattle.cob_plan.specs.Nodes.{IsNoded, AreNoded}
-use Rattle.cob_plan.specs.Stepping.{IsListed, rests_in, IsRest, IsWithin, LeadsOn, OpLeadsOn, HasSteps}
-use Rattle.cob_plan.proofs.LaidSteps.{Rests, IsOf, Goes, AllGo, IsLed, EachLed, step_nodes, program_led, program_begins}
+use Rattle.cob_plan.specs.Stepping.{IsListed, rests_in, IsRest, IsWithin, LeadsOn, OpLeadsOn, OpensInTurn, HasSteps, file_opened}
+use Rattle.cob_plan.proofs.LaidSteps.{Rests, IsOf, Goes, AllGo, opened_at, NextOpens, AllOpen, IsLed, EachLed, step_nodes, program_led, program_begins}
 use Rattle.cob_plan.proofs.Listings.{is_listed}
 use Rattle.cob_plan.proofs.Planned.{laid_fits, node_fits}
 
@@ -50,6 +52,31 @@ module _ (p : Program) (get : ℕ → Option Noded) (final : ℕ) where
   goes_out number from (x ∷ out) a to h (zero, l, e) =
       subst (Goes p get final number from) (ap (λ (y : Action × ℕ). y.1) e) h.0
   goes_out number from (x ∷ out) a to h (suc k, l, e) = goes_out number from out a to h.1 (k, omega (arith, l), e)
+
+  opens_out : (k : ℕ) (out : List (Action × ℕ)) (a : Action) (to : ℕ) → AllOpen p get final k out →
+      Contains out (a, to) → NextOpens p get final k to
+  opens_out k [] a to h (j, l, e) = absurd (omega (arith, l))
+  opens_out k (x ∷ out) a to h (zero, l, e) = subst (NextOpens p get final k) (ap (λ (y : Action × ℕ). y.1) e) h.0
+  opens_out k (x ∷ out) a to h (suc j, l, e) = opens_out k out a to h.1 (j, omega (arith, l), e)
+
+-- an operation and its ways on tell the same file
+opened_by_op : (o : Op) → opened_at (op_edges o) ≡ file_opened o
+opened_by_op (op.Skip to) = refl
+opened_by_op (op.Assign to) = refl
+opened_by_op (op.Show to) = refl
+opened_by_op (op.SetCount to) = refl
+opened_by_op (op.CountDown to) = refl
+opened_by_op (op.Compute fine None) = refl
+opened_by_op (op.Compute fine (Some size)) = refl
+opened_by_op (op.Test k held other) = refl
+opened_by_op (op.Open k fine bad) = refl
+opened_by_op (op.Close k fine bad) = refl
+opened_by_op (op.Read found end bad) = refl
+opened_by_op (op.Write fine bad) = refl
+opened_by_op op.Final = refl
+
+opened_in : (s : PlanNode) (x : Noded) → IsNoded x s → opened_at x.out ≡ file_opened s.op
+opened_in s x is = subst (λ (out : List (Action × ℕ)). opened_at out ≡ file_opened s.op) is.edges (opened_by_op s.op)
 
 -- ---- plans
 
@@ -176,6 +203,35 @@ module _ (p : Program) (g : Graph) (kept : IsWellFormed p) (graph : IsGraph p g)
       let own = own_laid i s e (omega (arith, l, counted, many)) in
       node_fits p own.0 s (laid_fits p g kept graph i own.0 own.1) own.2 a its
 
+  -- ---- files that are opened
+
+  plan_at : (i : ℕ) (y : Noded) → get (suc i) ≡ Some y → (s : PlanNode) × (slice_get nodes i ≡ Some s)
+  plan_at i y laid = elim (slice_get_cases nodes i).1 [
+    | inl there ↦ (there.0, there.2)
+    | inr past ↦ absurd (omega (arith, past.0, slice_get_within steps i y laid, counted, many))
+  ]
+
+  opens_there : (k to : ℕ) → NextOpens p get final k to →
+      IsRest nodes to ⊎ ((x : PlanNode) × (node_at nodes to ≡ Some x) × (file_opened x.op ≡ Some (k + 1)))
+  opens_there k to (inl r) = inl (is_rest to r)
+  opens_there k zero (inr (y, laid, e)) = absurd (none-some y laid)
+  opens_there k (suc i) (inr (y, laid, e)) =
+      let found = plan_at i y laid in
+      inr (found.0, found.1, sym (opened_in found.0 y (same_laid i found.0 y found.1 laid)) ∙ e)
+
+  node_opens : (n : ℕ) (s : PlanNode) → node_at nodes n ≡ Some s → n < length nodes → OpensInTurn nodes n s
+  node_opens zero s e l = absurd (none-some s e)
+  node_opens (suc i) s e l =
+      let own = own_laid i s e (omega (arith, l, counted, many)) in
+      let led = led_there i own.0 own.1 in
+      let same = opened_in s own.0 own.2 in
+      record {
+        first = λ starts k is. led.opens.first (sym own.2.starts ∙ starts) k (same ∙ is);
+        next = λ k is a to out.
+            let there = subst (λ (es : List (Action × ℕ)). Contains es (a, to)) own.2.edges out in
+            opens_there k to (opens_out p get final k own.0.out a to (led.opens.next k (same ∙ is)) there);
+      }
+
   module _ (statements : List Statement) (is : plain_statements statements ≡ listed p) where
     node_listed : (n : ℕ) (s : PlanNode) → node_at nodes n ≡ Some s → n < length nodes →
         IsListed statements s.statement
@@ -192,4 +248,5 @@ module _ (p : Program) (g : Graph) (kept : IsWellFormed p) (graph : IsGraph p g)
       leads = node_leads;
       listed = node_listed;
       fits = node_does;
+      opens = node_opens;
     }

@@ -1,10 +1,11 @@
 -- How the nodes of a plan make up steps: from a node at which one begins, onward among the nodes of its statement.
-use Rattle.std.specs.Prelude.{◌≡◌, ◌≤◌, ◌<◌, ◌⊎◌, ◌==◌, ◌||◌, ℕ, suc, Bool, true, List, length, Contains, slice_get, Option, Some, None}
+use Rattle.std.specs.Prelude.{◌≡◌, ◌+◌, ◌≤◌, ◌<◌, ◌⊎◌, ◌==◌, ◌||◌, ℕ, suc, Bool, true, List, length, Contains, slice_get, Option, Some, None}
 use Rattle.cob_program.specs.Act.{Act, Program}
 use Rattle.cob_runs.specs.declared.action.Action.{Action}
 use Rattle.cob_runs.specs.Effects.{act_at}
 use Rattle.cob_graph.specs.Lookup.{node_at}
 use Rattle.cob_plan.specs.declared.node.Op.{Op}
+use Rattle.cob_plan.specs.declared.node.Op.TheVariants as op
 use Rattle.cob_plan.specs.declared.node.PlanNode.{PlanNode}
 use Rattle.cob_plan.specs.declared.statement.Statement.{Statement}
 use Rattle.cob_plan.specs.Plan.{op_edges}
@@ -46,6 +47,18 @@ module _ (nodes : List PlanNode) where
   abbrev pub OpLeadsOn : ℕ → ℕ → Op → Type 0
   OpLeadsOn from statement o = (a : Action) (to : ℕ) → Contains (op_edges o) (a, to) → LeadsOn statement (suc from) to
 
+-- the place, in its statement's list, of the file that an operation opens
+abbrev pub file_opened : Op → Option ℕ
+file_opened (op.Open k fine bad) = Some k
+file_opened _ = None
+
+-- The files of an OPEN are opened in turn: a step begins with the first of them, and a node that opens one leads to where
+-- no step goes on, or to the node that opens the next one.
+pub record OpensInTurn (nodes : List PlanNode) (n : ℕ) (s : PlanNode) : Type 0 where
+  pub first : s.starts ≡ true → (k : ℕ) → file_opened s.op ≡ Some k → k ≡ 0
+  pub next : (k : ℕ) → file_opened s.op ≡ Some k → (a : Action) (to : ℕ) → Contains (op_edges s.op) (a, to)
+      → IsRest nodes to ⊎ ((x : PlanNode) × (node_at nodes to ≡ Some x) × (file_opened x.op ≡ Some (k + 1)))
+
 -- A step begins at the first node, if it isn't the last one too; each node but the last has its statement, does a part of
 -- it, and leads onward.
 pub record HasSteps (p : Program) (nodes : List PlanNode) (statements : List Statement) : Type 0 where
@@ -54,3 +67,4 @@ pub record HasSteps (p : Program) (nodes : List PlanNode) (statements : List Sta
   pub listed : (n : ℕ) (s : PlanNode) → node_at nodes n ≡ Some s → n < length nodes → IsListed statements s.statement
   pub fits : (n : ℕ) (s : PlanNode) → node_at nodes n ≡ Some s → n < length nodes → (a : Act) → act_at p s.statement ≡ Some a
       → IsFitting p s a
+  pub opens : (n : ℕ) (s : PlanNode) → node_at nodes n ≡ Some s → n < length nodes → OpensInTurn nodes n s

@@ -1,5 +1,6 @@
 //! Arithmetic, and what VARYING adds.
 ghost use Rattle.std.specs.Prelude.{◌≡◌, ℕ, length, None, true, false};
+ghost use Rattle.cob_tree.specs.Forms.{is_number_form};
 ghost use Rattle.cob_program.specs.Act as act;
 ghost use Rattle.cob_program.specs.ActView.{plain_act, plain_turns, plain_program, plain_phrase};
 ghost use Rattle.cob_program.specs.SumView.{plain_sum};
@@ -7,7 +8,6 @@ ghost use Rattle.cob_runs.specs.Acts.{compute, augment};
 ghost use Rattle.cob_runs.specs.Steps.{is_given};
 ghost use Rattle.cob_runs.specs.Effects.{met, not_taken, edge_computed};
 ghost use Rattle.cob_calc.specs.Arithmetic.{CanCompute};
-ghost use Rattle.cob_runs.specs.Deciding.{is_number_form};
 ghost use Rattle.cob_runs.specs.Contents.{form_at};
 ghost use Rattle.cob_world.specs.Needs.{IsNumber};
 ghost use Rattle.cob_world.specs.Doing.{CanTurn, CanDoAct};

@@ -1,10 +1,9 @@
 //! Why a statement doesn't go on.
-use cob_store::MoveEnd;
 use cob_tree::Kind;
 use std::alloc::AllocError;
 
 /// Why a statement doesn't go on: it meets a fault, nothing handles a status, or memory ran out.
-#[derive(Clone, Copy, Debug, PartialEq, Eq)]
+#[derive(Clone, Copy, PartialEq, Eq)]
 pub enum DoEnd {
     Fault(Kind),
     Stop(u8),

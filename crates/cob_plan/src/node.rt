@@ -2,7 +2,7 @@
 
 /// What is done at a node of the graph, and the numbers of the nodes to which it leads. The number of a test, or of a
 /// file in its statement's list, counts from 0.
-#[derive(Clone, Copy, Debug, PartialEq, Eq)]
+#[derive(Clone, Copy)]
 pub enum Op {
     Skip { to: u32 },
     /// A MOVE, the setting of VARYING, READ's INTO, WRITE's FROM.
@@ -21,7 +21,7 @@ pub enum Op {
 }
 
 /// A node: its statement's number, whether a step begins there, and what is done.
-#[derive(Clone, Copy, Debug, PartialEq, Eq)]
+#[derive(Clone, Copy)]
 pub struct PlanNode {
     pub statement: u32,
     pub starts: bool,

@@ -71,14 +71,14 @@ pub enum Act {
 }
 
 /// A file that is opened.
-#[derive(Clone, Copy, Debug)]
+#[derive(Clone, Copy)]
 pub struct Opening {
     pub file: u32,
     pub output: bool,
 }
 
 /// What a receiver gets: the common value, its own value plus or minus it, times it, or divided by it.
-#[derive(Clone, Copy, Debug, PartialEq, Eq)]
+#[derive(Clone, Copy, PartialEq, Eq)]
 pub enum How {
     Whole,
     Plus,
@@ -88,7 +88,7 @@ pub enum How {
 }
 
 /// A receiver.
-#[derive(Clone, Copy, Debug)]
+#[derive(Clone, Copy)]
 pub struct Target {
     pub item: u32,
     pub how: How,

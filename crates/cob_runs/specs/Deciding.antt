@@ -9,6 +9,7 @@ use Rattle.cob_tree.specs.declared.form.Form.{Form}
 use Rattle.cob_tree.specs.declared.form.Form.TheVariants as form
 use Rattle.cob_tree.specs.declared.token.Rel.{Rel}
 use Rattle.cob_tree.specs.declared.token.Rel.TheVariants as rel
+use Rattle.cob_tree.specs.Forms.{is_number_form}
 use Rattle.cob_data.specs.declared.layout.Layout.{Layout}
 use Rattle.cob_data.specs.declared.layout.Pair.{Pair}
 use Rattle.cob_data.specs.declared.layout.Sender.{Sender}
@@ -62,10 +63,6 @@ text_order a b = bytes_order (fitted (max (length a) (length b)) a) (fitted (max
 abbrev pub form_length : Form → ℕ → ℕ
 form_length (form.Number digits scale signed kept) n = digits
 form_length f n = n
-
-abbrev pub is_number_form : Form → Bool
-is_number_form (form.Number digits scale signed kept) = true
-is_number_form _ = false
 
 module _ (l : Layout) (storage : List ℕ) where
   abbrev pub decided : Rel → Option Scaled → Option Scaled → Result Bool Kind

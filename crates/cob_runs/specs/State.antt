@@ -1,8 +1,8 @@
 -- How a run stands: what it works on, what it has still to do, and its outcome.
 use Rattle.std.specs.Prelude.{ℕ, Bool, List, [], ◌∷◌, ◌++◌, Option, ℤ}
-use Rattle.cob_meaning.specs.declared.straight.Outcome.{Outcome}
-use Rattle.cob_meaning.specs.declared.straight.Outcome.TheVariants.{Going}
 use Rattle.cob_program.specs.Act.{Stmts, Body, Turns}
+use Rattle.cob_runs.specs.declared.outcome.Outcome.{Outcome}
+use Rattle.cob_runs.specs.declared.outcome.Outcome.TheVariants.{Going}
 use Rattle.cob_runs.specs.Files.{File}
 
 -- Storage; the count of each PERFORM with TIMES, by its statement's number, if it has one; the files; the text that is

@@ -1,7 +1,7 @@
 //! Cells of an analysis, and the actions of a graph's edges.
 /// A cell of the analysis: an item that is a number, or a text of at most 18 bytes, or where `item` is None the counter
 /// of a PERFORM with TIMES.
-#[derive(Clone, Copy, Debug, PartialEq, Eq)]
+#[derive(Clone, Copy, PartialEq, Eq)]
 pub struct Cell {
     pub item: Option<u32>,
     pub digits: u32,

@@ -5,7 +5,7 @@ use Rattle.std.proofs.lemmas.Bool.{eqb-true}
 use Rattle.std.proofs.lemmas.List.{length-map, length-reverse}
 use Rattle.cob_program.specs.declared.act.Stmt as declared_stmt
 use Rattle.cob_program.specs.Act.{Program, Para, no_stmts}
-use Rattle.cob_meaning.specs.declared.straight.Outcome.TheVariants.{Going, Ended}
+use Rattle.cob_runs.specs.declared.outcome.Outcome.TheVariants.{Going, Ended}
 use Rattle.cob_runs.specs.Files.{Choice}
 use Rattle.cob_runs.specs.State.{World, Doing, rest, paras, state}
 use Rattle.cob_runs.specs.Steps.{body_at, begun, entered, settled_on}

@@ -6,11 +6,11 @@ use Rattle.std.specs.Result.{OnOk}
 use Rattle.cob_tree.specs.declared.fault.Kind.{Kind}
 use Rattle.cob_data.specs.declared.layout.Layout.{Layout}
 use Rattle.cob_data.specs.declared.layout.Sender.{Sender}
-use Rattle.cob_meaning.specs.declared.straight.Outcome.{Outcome}
-use Rattle.cob_meaning.specs.declared.straight.Outcome.TheVariants.{Going, Ended, IoStop, Fault}
 use Rattle.cob_program.specs.Logic.{Logic, logics_of}
 use Rattle.cob_program.specs.Act.{Turns, once, times, until, varying, Stmt, MkStmt, Stmts, no_stmts, more_stmts, Phrase, left_out, given, Act, arith, if_, evaluate, perform, go, nothing, stop, open_files, close_files, read, write, Whens, no_whens, more_whens, MkWhen, Body, range, inline, Para, Program}
 use Rattle.cob_program.specs.Act as act
+use Rattle.cob_runs.specs.declared.outcome.Outcome.{Outcome}
+use Rattle.cob_runs.specs.declared.outcome.Outcome.TheVariants.{Going, Ended, IoStop, Fault}
 use Rattle.cob_runs.specs.Faults.{◌>>=◌}
 use Rattle.cob_runs.specs.Files.{Choice}
 use Rattle.cob_runs.specs.Deciding.{some_holds, logic_holds}

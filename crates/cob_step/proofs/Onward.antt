@@ -2,10 +2,10 @@
 use Rattle.std.proofs.Common.{◌≡◌, ap, ◌∙◌, sym, refl, List, ◌∷◌, Result, Ok, Err}
 use Rattle.std.specs.Result.{OnOk}
 use Rattle.cob_tree.specs.declared.fault.Kind.{Kind}
-use Rattle.cob_meaning.specs.declared.straight.Outcome.{Outcome}
-use Rattle.cob_meaning.specs.declared.straight.Outcome.TheVariants.{Going, Fault}
 use Rattle.cob_store.specs.declared.end.MoveEnd.{MoveEnd}
 use Rattle.cob_store.specs.declared.end.MoveEnd.TheVariants as end
+use Rattle.cob_runs.specs.declared.outcome.Outcome.{Outcome}
+use Rattle.cob_runs.specs.declared.outcome.Outcome.TheVariants.{Going, Fault}
 use Rattle.cob_runs.specs.Faults.{◌>>=◌}
 use Rattle.cob_program.specs.Act.{Program}
 use Rattle.cob_runs.specs.Files.{Choice}

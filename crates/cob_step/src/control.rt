@@ -10,8 +10,8 @@ ghost use Rattle.cob_runs.specs.Steps.{body_at, entered, settled, settled_on, go
 ghost use Rattle.cob_step.specs.Views.{plain_doing, plain_control};
 ghost use Rattle.cob_step.specs.Settling.{Begins};
 
-use cob_meaning::Outcome;
 use cob_program::{Body, Program, Stmt, Turns};
+use cob_runs::Outcome;
 use std::alloc::{AllocError, Global};
 
 /// Something that is still to be done.

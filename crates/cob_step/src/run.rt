@@ -14,8 +14,8 @@ ghost use Rattle.cob_step.specs.Ready.{CanDoNext, IsReady};
 ghost use Rattle.cob_step.specs.Views.{plain_doing, plain_control, plain_run};
 
 use crate::control::{Control, Todo};
-use cob_meaning::Outcome;
 use cob_program::Program;
+use cob_runs::Outcome;
 use cob_store::MoveEnd;
 use cob_tree::{Bytes, Kind};
 use cob_world::{Contents, World};

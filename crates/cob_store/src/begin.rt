@@ -8,8 +8,8 @@ ghost use Rattle.cob_items.specs.WellFormed.{HasWellFormedItems, IsWellFormedIte
 use crate::end::MoveEnd;
 use crate::moves::{moved_in, room};
 use cob_data::{Item, Layout, Sender};
-use cob_meaning::Outcome;
 use cob_program::Program;
+use cob_runs::Outcome;
 use std::alloc::{AllocError, Global};
 
 // Puts the constant of an item's VALUE.

@@ -3,7 +3,7 @@ use cob_tree::Kind;
 use std::alloc::AllocError;
 
 /// Why a MOVE ends: it meets a fault, or memory runs out.
-#[derive(Clone, Copy, Debug, PartialEq, Eq)]
+#[derive(Clone, Copy, PartialEq, Eq)]
 pub enum MoveEnd {
     Fault(Kind),
     Memory,

@@ -14,3 +14,4 @@ pub use begin::{is_over, start};
 pub use end::MoveEnd;
 pub use moves::after_move;
 pub use shows::push_line;
+pub use texts::{write_fill, write_text};

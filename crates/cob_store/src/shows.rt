@@ -10,7 +10,7 @@ use cob_data::{Layout, Sender};
 use cob_items::{bytes_at, item_at, number_in};
 use cob_tree::{Form, Num};
 use dec_num::Scaled;
-use std::alloc::{AllocError, Global};
+use std::alloc::AllocError;
 
 // ---- numbers
 

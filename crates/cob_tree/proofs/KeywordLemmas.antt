@@ -1,5 +1,5 @@
 -- Each reserved word is found by its text.
-use Rattle.std.proofs.Common.{◌≡◌, ℕ, true, false, List, [], ◌∷◌, refl, ap, ◌∙◌, sym, cond}
+use Rattle.std.proofs.Common.{◌≡◌, ℕ, true, false, List, [], ◌∷◌, Option, is_some, refl, ap, ◌∙◌, sym, cond}
 use Rattle.std.specs.Prelude.{None, Some, IfSome}
 use Rattle.std.proofs.lemmas.Slice.Eq.{bytes_eq-Decides}
 use Rattle.std.specs.Str.{bytes_eq}
@@ -161,6 +161,10 @@ among-written name (k ∷ ks) =
 -- no reserved word is overlooked
 pub reserved-found : (name : List ℕ) → keyword_of name ≡ None → IsReserved name → ⊥
 reserved-found name none (k, e) = cc (none, sym (ap keyword_of e), keyword_of-text k)
+
+pub reserved-found-as : (name : List ℕ) (r : Option Keyword) → r ≡ keyword_of name → is_some r ≡ false → IsReserved name → ⊥
+reserved-found-as name None e none reserved = reserved-found name (sym e) reserved
+reserved-found-as name (Some k) e none reserved = absurd cc
 
 -- no two are written alike
 pub texts-differ : (a b : Keyword) → text_of a ≡ text_of b → a ≡ b

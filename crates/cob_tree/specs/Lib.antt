@@ -15,4 +15,5 @@ pub mod PrintStmt
 pub mod Shaped
 pub mod Pictures
 pub mod PictureForms
+pub mod Forms
 pub mod Limits

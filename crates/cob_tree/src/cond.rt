@@ -31,7 +31,7 @@ pub struct Neg {
 }
 
 /// What a sign condition asks.
-#[derive(Clone, Copy, Debug, PartialEq, Eq)]
+#[derive(Clone, Copy, PartialEq, Eq)]
 pub enum SignTest {
     Positive,
     Negative,

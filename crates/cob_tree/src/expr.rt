@@ -6,14 +6,14 @@ ghost use Rattle.cob_tree.specs.ExprView.{plain_expr, plain_term, plain_fact, pl
 use crate::operand::Opnd;
 
 /// `+` or `-`, before an operand or between two terms.
-#[derive(Clone, Copy, Debug, PartialEq, Eq)]
+#[derive(Clone, Copy, PartialEq, Eq)]
 pub enum Sign {
     Plus,
     Minus,
 }
 
 /// `*` or `/`, between two factors.
-#[derive(Clone, Copy, Debug, PartialEq, Eq)]
+#[derive(Clone, Copy, PartialEq, Eq)]
 pub enum Scaling {
     Times,
     Over,

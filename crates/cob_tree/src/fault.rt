@@ -1,7 +1,7 @@
 //! Faults that a run can meet.
 /// The kinds of fault that a statement without a phrase for them can meet (ISO 1989:1985, the rules on size
 /// errors, MOVE and class conditions).
-#[derive(Clone, Copy, Debug, PartialEq, Eq)]
+#[derive(Clone, Copy, PartialEq, Eq)]
 pub enum Kind {
     /// A result exceeds what its receiver can hold.
     Size,
@@ -14,7 +14,7 @@ pub enum Kind {
 }
 
 /// A statement that may meet a fault of this kind. Statements are numbered from 1 in source order.
-#[derive(Clone, Copy, Debug, PartialEq, Eq)]
+#[derive(Clone, Copy, PartialEq, Eq)]
 pub struct Open {
     pub statement: u32,
     pub kind: Kind,

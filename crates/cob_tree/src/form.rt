@@ -6,7 +6,7 @@ use std::alloc::{AllocError, Global};
 
 /// How an item's number is kept (ISO 1989:1985, USAGE and SIGN). `Leading` and `Trailing` are DISPLAY with a
 /// separate sign byte.
-#[derive(Clone, Copy, Debug, PartialEq, Eq)]
+#[derive(Clone, Copy, PartialEq, Eq)]
 pub enum Usage {
     Display,
     Leading,

@@ -87,7 +87,7 @@ pub enum FdClause {
 }
 
 /// What LABEL RECORDS are.
-#[derive(Clone, Copy, Debug, PartialEq, Eq)]
+#[derive(Clone, Copy, PartialEq, Eq)]
 pub enum Label {
     Standard,
     Omitted,

@@ -6,7 +6,7 @@ ghost use Rattle.cob_tree.specs.Keywords.{text_of, keyword_among, keyword_of, Is
 /// A reserved word: one that stands in the grammar, or that is rewritten or dropped before the grammar is
 /// read. Some are own to this reader, as `ID`, `COMP-3` and `RECORDING`; some only stand for two words of the
 /// language, as `RECORD-SIZE` and `END-PROGRAM`.
-#[derive(Clone, Copy, Debug, PartialEq, Eq)]
+#[derive(Clone, Copy, PartialEq, Eq)]
 pub enum Keyword {
     Access,
     Add,
@@ -450,7 +450,6 @@ fn keyword_among(name: &[u8], keywords: &[Keyword]) -> Option<Keyword>
 }
 
 /// The reserved word that a name in capitals is.
-#[tactic(auto, unfolding(crate::specs::Keywords::keyword_of))]
 pub fn keyword_of(name: &[u8]) -> Option<Keyword>
     ensures value { result ≡ keyword_of name.now }
     ensures reserved { IfSome result (λ keyword. text_of keyword ≡ name.now) }

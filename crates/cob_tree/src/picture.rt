@@ -14,7 +14,7 @@ use crate::symbol::{
 use std::alloc::{AllocError, AllocFailed, Global};
 
 /// Why a picture has no form.
-#[derive(Clone, Copy, Debug, PartialEq, Eq)]
+#[derive(Clone, Copy, PartialEq, Eq)]
 pub enum PicEnd {
     /// The picture isn't allowed.
     Bad,

@@ -140,7 +140,7 @@ pub struct When {
 }
 
 /// Whether the first operand of DIVIDE divides the second, or the second the first.
-#[derive(Clone, Copy, Debug, PartialEq, Eq)]
+#[derive(Clone, Copy, PartialEq, Eq)]
 pub enum Way {
     Into,
     By,
@@ -169,7 +169,7 @@ pub struct Opens {
 }
 
 /// How files are opened.
-#[derive(Clone, Copy, Debug, PartialEq, Eq)]
+#[derive(Clone, Copy, PartialEq, Eq)]
 pub enum Mode {
     Input,
     Output,
@@ -187,7 +187,7 @@ pub enum Loop {
 }
 
 /// Where a loop tests.
-#[derive(Clone, Copy, Debug, PartialEq, Eq)]
+#[derive(Clone, Copy, PartialEq, Eq)]
 pub enum Place {
     Before,
     After,

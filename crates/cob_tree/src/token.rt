@@ -27,7 +27,7 @@ impl Num {
 }
 
 /// The relations `=`, `<`, `>`, `>=` and `<=`, in this order.
-#[derive(Clone, Copy, Debug, PartialEq, Eq)]
+#[derive(Clone, Copy, PartialEq, Eq)]
 pub enum Rel {
     Equal,
     Less,

@@ -1,5 +1,5 @@
 -- How many statements stand in a tree's statements, those in their lists among them. By this the functions over them end.
-use Rattle.std.proofs.Common.{◌≡◌, ℕ, zero, suc, ◌+◌, ◌<◌, ◌≤◌, List, [], ◌∷◌, length, get_or, drop, map, refl, sym, ap, ◌∙◌, arith}
+use Rattle.std.proofs.Common.{◌≡◌, ℕ, zero, suc, ◌+◌, ◌<◌, ◌≤◌, List, [], ◌∷◌, length, get_or, map, refl, sym, ap, ◌∙◌, arith}
 use Rattle.cob_tree.specs.declared.stmt.Stmt as declared_stmt
 use Rattle.cob_tree.specs.declared.stmt.Stmt.{out-Stmt}
 use Rattle.cob_tree.specs.declared.stmt.When as declared_when

@@ -1,12 +1,12 @@
 -- A verb in two parts: what is judged before its lists of statements, and these lists.
-use Rattle.std.specs.Prelude.{ℕ, map, Option, None, Some}
+use Rattle.std.specs.Prelude.{ℕ, map, Option}
 use Rattle.std.specs.Option.{option_copied}
 use Rattle.cob_tree.specs.Stmt as tree
 use Rattle.cob_tree.specs.StmtView as tree_view
 use Rattle.cob_program.specs.Logic.{Logic}
 use Rattle.cob_program.specs.LogicView.{plain_logic}
 use Rattle.cob_program.specs.Act.{Turns, Phrase, Whens, Act, arith, if_, evaluate, perform, nothing, stop, read, inline}
-use Rattle.cob_program.specs.ActView.{plain_act, plain_turns}
+use Rattle.cob_program.specs.ActView.{plain_act, plain_phrase, plain_whens, plain_turns}
 use Rattle.cob_typed_exprs.specs.Judged.{Judged, sound, seen_as}
 use Rattle.cob_typed_exprs.specs.Scope.{Scope}
 use Rattle.cob_typed_conds.specs.Conditions.{walk_cond}
@@ -20,7 +20,7 @@ use Rattle.cob_typed.specs.declared.heads.Head as declared_head
 use Rattle.cob_typed.specs.declared.heads.Head.TheVariants as variant
 use Rattle.cob_typed.specs.declared.heads.Lists as declared_lists
 use Rattle.cob_typed.specs.declared.heads.TypedLists as declared_typed
-use Rattle.cob_typed.specs.Lists.{plain_phrase, plain_whens, tree_phrase}
+use Rattle.cob_typed.specs.Lists.{tree_phrase}
 use Rattle.cob_typed.specs.Statements.{Numbered, numbered, ◌>>>◌, stmts_if, turns_of, range_act, go_act, typed_phrase, typed_whens}
 
 -- what a verb is before its lists: all of it, an arithmetic statement's work, IF's test, what EVALUATE looks at, how
@@ -127,7 +127,7 @@ plain_head (variant.Turned t) = turned (plain_turns t)
 plain_head (variant.Reads file into) = reads file into
 
 abbrev pub plain_lists : declared_typed.TypedLists → TypedLists
-plain_lists l = record { whens = plain_whens l.whens; first = plain_phrase l.first; second = plain_phrase l.second }
+plain_lists l = record { whens = plain_whens l.whens.items; first = plain_phrase l.first; second = plain_phrase l.second }
 
 abbrev pub tree_lists : declared_lists.Lists → Lists
 tree_lists l = record {

@@ -1,4 +1,4 @@
--- What contracts see of lists of statements: of a tree's, and of a program's.
+-- What contracts see of a tree's lists of statements, and of what was found.
 use Rattle.std.specs.Prelude.{ℕ, List, [], ◌∷◌, ◌++◌, map, Option, Vec}
 use Rattle.std.specs.Option.{option_map}
 use Rattle.std.specs.declared.alloc.Global.{Global}
@@ -6,21 +6,8 @@ use Rattle.cob_tree.specs.declared.stmt.Stmt as tree_stmt
 use Rattle.cob_tree.specs.Stmt as tree
 use Rattle.cob_tree.specs.StmtView as tree_view
 use Rattle.cob_data.specs.declared.end.Rule.{Rule}
-use Rattle.cob_program.specs.declared.act.Stmt as declared_stmt
-use Rattle.cob_program.specs.declared.act.When as declared_when
-use Rattle.cob_program.specs.Act.{Stmts, stmts_of, Phrase, phrase_of, Whens, whens_of}
-use Rattle.cob_program.specs.ActView.{plain_stmt, plain_when}
 use Rattle.cob_typed_exprs.specs.declared.finding.Finding.{Finding}
 use Rattle.cob_typed_exprs.specs.Judged.{finding}
-
-abbrev pub plain_stmts : Vec declared_stmt.Stmt Global → Stmts
-plain_stmts v = stmts_of (map plain_stmt v.items)
-
-abbrev pub plain_phrase : Option (Vec declared_stmt.Stmt Global) → Phrase
-plain_phrase o = phrase_of (option_map plain_stmts o)
-
-abbrev pub plain_whens : Vec declared_when.When Global → Whens
-plain_whens v = whens_of (map plain_when v.items)
 
 abbrev pub tree_list : Vec tree_stmt.Stmt Global → tree.Stmts
 tree_list v = tree.stmts_of (map tree_view.plain_stmt v.items)

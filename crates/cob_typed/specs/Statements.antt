@@ -6,6 +6,7 @@ use Rattle.cob_tree.specs.declared.stmt.Place.{Place}
 use Rattle.cob_tree.specs.declared.stmt.Place.TheVariants as place_
 use Rattle.cob_tree.specs.declared.stmt.Varying.{Varying}
 use Rattle.cob_tree.specs.Stmt as tree
+use Rattle.cob_tree.specs.Forms.{is_number_form}
 use Rattle.cob_data.specs.declared.end.Rule.{Rule}
 use Rattle.cob_data.specs.declared.end.Rule.TheVariants.{Q10}
 use Rattle.cob_data.specs.declared.layout.Sender.{Sender}
@@ -13,7 +14,7 @@ use Rattle.cob_program.specs.Logic.{Logic}
 use Rattle.cob_program.specs.Act.{Turns, once, times, until, varying, Stmt, MkStmt, Stmts, no_stmts, more_stmts, Phrase, left_out, given, Act, arith, if_, evaluate, perform, go, nothing, stop, read, Whens, no_whens, more_whens, MkWhen, range, inline}
 use Rattle.cob_typed_exprs.specs.Judged.{Broken, kept, one, both, Judged, sound, demand, each_of, seen_as, ◌>>=◌}
 use Rattle.cob_typed_exprs.specs.Scope.{Scope, the_item, the_para, form_at}
-use Rattle.cob_typed_exprs.specs.Kinds.{is_number, is_number_form, is_whole}
+use Rattle.cob_typed_exprs.specs.Kinds.{is_number, is_whole}
 use Rattle.cob_typed_exprs.specs.Sums.{operand}
 use Rattle.cob_typed_conds.specs.Conditions.{walk_cond}
 use Rattle.cob_typed_conds.specs.declared.selections.Looked.{Looked}

@@ -41,6 +41,7 @@ typed l t = record { layout = l; paras = (typed_all l t).value; statements = (ty
 
 -- ---- the lines at which a rule is broken
 
+-- Statements break these rules alone, and no others are asked for here, so that all others share one number.
 abbrev pub rule_number : Rule → ℕ
 rule_number Q1 = 1
 rule_number Q2 = 2

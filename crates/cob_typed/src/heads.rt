@@ -3,9 +3,9 @@ ghost use Rattle.std.specs.Prelude.{◌≡◌, is_ok, IfOk, OnOk};
 ghost use Rattle.std.specs.Option.{option_copied};
 ghost use Rattle.cob_tree.specs.StmtView.{plain_tail, plain_verb};
 ghost use Rattle.cob_program.specs.Act.{MkStmt};
-ghost use Rattle.cob_program.specs.ActView.{plain_act, plain_stmt};
+ghost use Rattle.cob_program.specs.ActView.{plain_act, plain_stmt, plain_stmts, plain_phrase};
 ghost use Rattle.cob_typed_exprs.specs.Judged.{noted};
-ghost use Rattle.cob_typed.specs.Lists.{plain_stmts, plain_phrase, tree_phrase};
+ghost use Rattle.cob_typed.specs.Lists.{tree_phrase};
 ghost use Rattle.cob_typed.specs.Statements.{stmts_if};
 ghost use Rattle.cob_typed.specs.Heads as spec;
 ghost use Rattle.cob_typed.specs.Heads.{plain_head, plain_lists, tree_lists};
@@ -275,7 +275,7 @@ pub fn lists_of(verb: &Verb) -> Lists<'_>
 
 /// A list, which is empty where it is left out.
 fn list_if(alloc: Global, phrase: Option<Vec<Stmt>>) -> Vec<Stmt>
-    ensures { plain_stmts result ≡ stmts_if (plain_phrase phrase) }
+    ensures { plain_stmts result.items ≡ stmts_if (plain_phrase phrase) }
 {
     match phrase {
         None => Vec::new(alloc),

@@ -7,11 +7,11 @@ ghost use Rattle.cob_tree.specs.Stmt as tree_spec;
 ghost use Rattle.cob_tree.specs.StmtView as tree_view;
 ghost use Rattle.cob_tree.specs.StmtView.{plain_sel};
 ghost use Rattle.cob_program.specs.Act.{stmts_of};
-ghost use Rattle.cob_program.specs.ActView.{plain_stmt, plain_when};
+ghost use Rattle.cob_program.specs.ActView.{plain_stmt, plain_when, plain_stmts, plain_phrase, plain_whens};
 ghost use Rattle.cob_program.specs.LogicView.{plain_logic};
 ghost use Rattle.cob_typed_exprs.specs.Judged.{noted, each_of};
 ghost use Rattle.cob_typed_conds.specs.Selections.{selection};
-ghost use Rattle.cob_typed.specs.Lists.{plain_stmts, plain_phrase, plain_whens, found_behind, tree_phrase};
+ghost use Rattle.cob_typed.specs.Lists.{found_behind, tree_phrase};
 ghost use Rattle.cob_typed.specs.Heads.{plain_lists, tree_lists, typed_lists};
 ghost use Rattle.cob_typed.specs.Statements.{typed_stmts, typed_stmt, typed_phrase, typed_whens};
 ghost use Rattle.cob_typed.specs.StatementSteps.{typed_when};
@@ -83,7 +83,7 @@ fn typed_stmts(
     next: &mut u32,
     list: &[cob_tree::Stmt],
 ) -> Result<Vec<Stmt>, AllocError>
-    ensures value { IfOk result (λ typed. plain_stmts typed ≡ (typed_stmts scope.now next.old (tree_spec.stmts_of (map tree_view.plain_stmt list.now))).value) }
+    ensures value { IfOk result (λ typed. plain_stmts typed.items ≡ (typed_stmts scope.now next.old (tree_spec.stmts_of (map tree_view.plain_stmt list.now))).value) }
     ensures next { OnOk result (next.new ≡ (typed_stmts scope.now next.old (tree_spec.stmts_of (map tree_view.plain_stmt list.now))).next) }
     ensures found { OnOk result (findings.new.items ≡ found_behind findings.old.items (typed_stmts scope.now next.old (tree_spec.stmts_of (map tree_view.plain_stmt list.now))).found) }
 {
@@ -182,7 +182,7 @@ fn typed_whens(
     looked: Looked,
     whens: &[cob_tree::When],
 ) -> Result<Vec<When>, AllocError>
-    ensures value { IfOk result (λ typed. plain_whens typed ≡ (typed_whens scope.now line next.old looked (tree_spec.whens_of (map tree_view.plain_when whens.now))).value) }
+    ensures value { IfOk result (λ typed. plain_whens typed.items ≡ (typed_whens scope.now line next.old looked (tree_spec.whens_of (map tree_view.plain_when whens.now))).value) }
     ensures next { OnOk result (next.new ≡ (typed_whens scope.now line next.old looked (tree_spec.whens_of (map tree_view.plain_when whens.now))).next) }
     ensures found { OnOk result (findings.new.items ≡ found_behind findings.old.items (typed_whens scope.now line next.old looked (tree_spec.whens_of (map tree_view.plain_when whens.now))).found) }
 {

@@ -9,11 +9,11 @@ ghost use Rattle.cob_tree.specs.StmtView.{plain_sentence, plain_paragraph, plain
 ghost use Rattle.cob_data.specs.declared.end.Rule.{Rule};
 ghost use Rattle.cob_data.specs.declared.layout.Layout.{Layout};
 ghost use Rattle.cob_program.specs.Act.{stmts_of};
-ghost use Rattle.cob_program.specs.ActView.{plain_stmt, plain_para};
+ghost use Rattle.cob_program.specs.ActView.{plain_stmt, plain_stmts, plain_para};
 ghost use Rattle.cob_names.specs.Search.{HasFewPlaces, found_and};
 ghost use Rattle.cob_typed_exprs.specs.Paras.{para_in, HasParas};
 ghost use Rattle.cob_typed.specs.StatementSteps.{typed_para, all_from};
-ghost use Rattle.cob_typed.specs.Lists.{plain_stmts, found_behind};
+ghost use Rattle.cob_typed.specs.Lists.{found_behind};
 ghost use Rattle.cob_typed.specs.Statements.{typed_stmts};
 ghost use Rattle.cob_typed.specs.Typing.{joined, typed_sentences, typed_paras, rule_number, clashes, scope_of, IsTyped, IsOutside};
 ghost use Rattle.cob_typed.specs.Answer.{lines_in, AreTyped, IsAnswer, IsRefused, IsAccepted};
@@ -130,7 +130,7 @@ fn typed_sentences(
     next: &mut u32,
     sentences: &[Sentence],
 ) -> Result<Vec<Stmt>, AllocError>
-    ensures value { IfOk result (λ typed. plain_stmts typed ≡ (typed_sentences scope.now next.old (map plain_sentence sentences.now)).value) }
+    ensures value { IfOk result (λ typed. plain_stmts typed.items ≡ (typed_sentences scope.now next.old (map plain_sentence sentences.now)).value) }
     ensures next { OnOk result (next.new ≡ (typed_sentences scope.now next.old (map plain_sentence sentences.now)).next) }
     ensures found { OnOk result (findings.new.items ≡ found_behind findings.old.items (typed_sentences scope.now next.old (map plain_sentence sentences.now)).found) }
 {

@@ -120,6 +120,7 @@ signed_test s asked e None = whole_sum s e >>= λ a. sign_of s asked a
 
 -- ---- condition-names
 
+-- Where there is no condition-name, a rule is broken, so that no program has this test.
 abbrev pub member_of : Option Flag → Test
 member_of None = always
 member_of (Some f) = member f.item f.ranges

@@ -23,7 +23,7 @@ use cob_typed_exprs::{Comparison, Finding, Scope, compare_sides, demand, lone, n
 use std::alloc::{AllocError, Global};
 
 /// What EVALUATE looks at: TRUE, or an item.
-#[derive(Clone, Copy, Debug, PartialEq, Eq)]
+#[derive(Clone, Copy, PartialEq, Eq)]
 pub enum Looked {
     Truth,
     Item(u32),

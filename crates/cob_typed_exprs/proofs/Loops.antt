@@ -9,12 +9,13 @@ use Rattle.cob_tree.specs.declared.expr.Term as declared_term
 use Rattle.cob_tree.specs.declared.expr.Term.{out-Term}
 use Rattle.cob_tree.specs.declared.expr.Fact as declared_fact
 use Rattle.cob_tree.specs.declared.expr.Primary.TheFolds.{fold_out-Expr, fold_out-Term}
-use Rattle.cob_tree.specs.Expr.{Expr, MkExpr, Term, MkTerm, Terms, no_terms, more_terms, Facts, no_facts, more_facts, terms_of, facts_of}
+use Rattle.cob_tree.specs.Expr.{Expr, MkExpr, Term, MkTerm, Terms, no_terms, more_terms, Fact, Facts, no_facts, more_facts, terms_of, facts_of}
 use Rattle.cob_tree.specs.ExprView.{plain_expr, plain_term, plain_fact, added, multiplied}
+use Rattle.cob_program.specs.Sum.{MkSum, parts_of, Part, MkPart, factors_of, Factor}
 use Rattle.cob_typed_exprs.specs.declared.finding.Finding.{Finding}
 use Rattle.cob_typed_exprs.specs.Judged.{noted}
 use Rattle.cob_typed_exprs.specs.Scope.{Scope}
-use Rattle.cob_typed_exprs.specs.Sums.{none_added, none_multiplied, lone, lone_term, lone_fact, inside, inside_term, inside_fact, sum_of, part_of, parts_in}
+use Rattle.cob_typed_exprs.specs.Sums.{none_added, none_multiplied, lone, lone_term, lone_fact, inside, inside_term, inside_fact, sum_of, part_of, parts_in, factor_of, factors_in}
 
 -- the terms from a place on, and the factors
 abbrev pub terms_from : List (Sign × declared_term.Term) → ℕ → Terms
@@ -83,3 +84,22 @@ none_multiplied_is (x ∷ xs) = search rules
 pub sum_noted : (s : Scope) (e : Expr) (t : Term) (ts : Terms) (line : ℕ) (old mid new : List Finding) → e ≡ MkExpr t ts → mid ≡ noted line old (part_of s false t).broken → new ≡ noted line mid (parts_in s ts).broken → new ≡ noted line old (sum_of s e).broken
 sum_noted s e t ts line old mid new is first rest =
     rest ∙ ap (λ fs. noted line fs (parts_in s ts).broken) first ∙ ap (λ x. noted line old (sum_of s x).broken) (sym is)
+
+pub part_noted : (s : Scope) (minus : Bool) (t : Term) (f : Fact) (fs : Facts) (line : ℕ) (old mid new : List Finding) → t ≡ MkTerm f fs → mid ≡ noted line old (factor_of s false f).broken → new ≡ noted line mid (factors_in s fs).broken → new ≡ noted line old (part_of s minus t).broken
+part_noted s minus t f fs line old mid new is first rest =
+    rest ∙ ap (λ xs. noted line xs (factors_in s fs).broken) first ∙ ap (λ x. noted line old (part_of s minus x).broken) (sym is)
+
+-- ---- what is made of the first one and of the others
+
+pub first_and_others : {A B : Type 0} (f : A → B) (none one all : List A) (x : A) (v : B) (rest others : List B) → none ≡ [] → one ≡ none ++ x ∷ [] → f x ≡ v →
+    map f all ≡ map f one ++ rest → rest ≡ others → map f all ≡ v ∷ others
+first_and_others f none one all x v rest others empty made seen grown same =
+    grown ∙ ap (λ ys. map f ys ++ rest) (made ∙ ap (λ ys. ys ++ x ∷ []) empty) ∙ ap (λ y. y ∷ rest) seen ∙ ap (λ ys. v ∷ ys) same
+
+pub part_value : (s : Scope) (minus : Bool) (t : Term) (f : Fact) (fs : Facts) (all : List Factor) → t ≡ MkTerm f fs →
+    all ≡ (factor_of s false f).value ∷ (factors_in s fs).value → MkPart minus (factors_of all) ≡ (part_of s minus t).value
+part_value s minus t f fs all is made = ap (λ xs. MkPart minus (factors_of xs)) made ∙ ap (λ x. (part_of s minus x).value) (sym is)
+
+pub sum_value : (s : Scope) (e : Expr) (t : Term) (ts : Terms) (all : List Part) → e ≡ MkExpr t ts →
+    all ≡ (part_of s false t).value ∷ (parts_in s ts).value → MkSum (parts_of all) ≡ (sum_of s e).value
+sum_value s e t ts all is made = ap (λ xs. MkSum (parts_of xs)) made ∙ ap (λ x. (sum_of s x).value) (sym is)

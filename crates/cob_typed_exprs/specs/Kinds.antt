@@ -6,6 +6,7 @@ use Rattle.cob_tree.specs.declared.form.Form.{Form}
 use Rattle.cob_tree.specs.declared.form.Form.TheVariants as form
 use Rattle.cob_tree.specs.declared.form.Usage.{Usage}
 use Rattle.cob_tree.specs.declared.form.Usage.TheVariants as usage
+use Rattle.cob_tree.specs.Forms.{is_number_form}
 use Rattle.cob_data.specs.declared.layout.Sender.{Sender}
 use Rattle.cob_data.specs.declared.layout.Sender.TheVariants as sender
 use Rattle.cob_typed_exprs.specs.declared.kinds.Side.{Side}
@@ -45,10 +46,6 @@ may_move s (sender.Fill byte) to = not (is_amount to)
 may_move s sender.Zero to = true
 
 -- ---- what is a number
-
-abbrev pub is_number_form : Form → Bool
-is_number_form (form.Number digits scale signed kept) = true
-is_number_form _ = false
 
 -- a numeric item, a numeric literal, or ZERO
 abbrev pub is_number : Scope → Sender → Bool

@@ -12,7 +12,7 @@ use cob_tree::{Form, Num};
 use dec_num::pow10;
 
 /// The greatest absolute value that something can have, in units of a scale. What isn't below `10^37` counts as `10^37`.
-#[derive(Clone, Copy, Debug)]
+#[derive(Clone, Copy)]
 pub struct Size {
     pub most: u128,
     pub scale: u32,

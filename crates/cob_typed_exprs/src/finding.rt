@@ -6,7 +6,7 @@ use cob_data::Rule;
 use std::alloc::AllocError;
 
 /// A rule that is broken, and the line of the statement that breaks it.
-#[derive(Clone, Copy, Debug, PartialEq, Eq)]
+#[derive(Clone, Copy, PartialEq, Eq)]
 pub struct Finding {
     pub rule: Rule,
     pub line: u32,

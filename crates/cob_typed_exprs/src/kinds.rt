@@ -2,7 +2,8 @@
 //! operands").
 ghost use Rattle.std.specs.Prelude.{◌≡◌};
 ghost use Rattle.std.specs.List.{list_all};
-ghost use Rattle.cob_typed_exprs.specs.Kinds.{is_amount, is_group, is_digit, may_move_item, may_move, is_number_form, is_number, is_whole_form, is_whole, is_testable, is_shown, side_of_form, side_of, beside_text, comparison};
+ghost use Rattle.cob_tree.specs.Forms.{is_number_form};
+ghost use Rattle.cob_typed_exprs.specs.Kinds.{is_amount, is_group, is_digit, may_move_item, may_move, is_number, is_whole_form, is_whole, is_testable, is_shown, side_of_form, side_of, beside_text, comparison};
 
 use crate::scope::Scope;
 use cob_data::Sender;
@@ -138,7 +139,7 @@ impl<'a> Scope<'a> {
 // ---- comparisons
 
 /// One side of a relation.
-#[derive(Clone, Copy, Debug, PartialEq, Eq)]
+#[derive(Clone, Copy, PartialEq, Eq)]
 pub enum Side {
     /// A number; with `true` its digits may stand beside text.
     Number(bool),
@@ -148,7 +149,7 @@ pub enum Side {
 }
 
 /// How two sides compare.
-#[derive(Clone, Copy, Debug, PartialEq, Eq)]
+#[derive(Clone, Copy, PartialEq, Eq)]
 pub enum Comparison {
     ByValue,
     ByBytes,

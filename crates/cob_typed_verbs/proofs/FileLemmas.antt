@@ -1,6 +1,6 @@
 -- Lists of files, gathered in a loop.
-use Rattle.std.proofs.Common.{◌≡◌, ℕ, ◌+◌, ◌<◌, ◌≤◌, List, [], ◌∷◌, ◌++◌, append_assoc, append-nil, length, get_or, drop, Option, Some, None, refl, sym, ap, ◌∙◌}
-use Rattle.std.proofs.lemmas.List.{drop_all}
+use Rattle.std.proofs.Common.{◌≡◌, ℕ, ◌+◌, ◌<◌, ◌≤◌, List, [], ◌∷◌, ◌++◌, append_assoc, append-nil, length, get_or, map, drop, Option, Some, None, refl, sym, ap, ◌∙◌}
+use Rattle.std.proofs.lemmas.List.{drop_all, get_or_default}
 use Rattle.cob_tree.specs.declared.stmt.Opens.{Opens}
 use Rattle.cob_program.specs.declared.act.Opening.{Opening}
 use Rattle.cob_typed_exprs.specs.declared.finding.Finding.{Finding}
@@ -23,6 +23,15 @@ module _ {A : Type 0} (judge : A → Judged (Option ℕ)) (xs : List A) where
 
   pub some_end : (i : ℕ) (old whole : List ℕ) → length xs ≤ i → old ++ some_of (each_of judge (drop i xs)).value ≡ whole → old ≡ whole
   some_end i old whole past so_far = sym (ap (λ ys. old ++ some_of (each_of judge ys).value) (drop_all i xs past) ∙ append-nil old) ∙ so_far
+
+-- one opening more
+pub opening_pushed : (of_file : ℕ → Opening) (xs : List ℕ) (i d : ℕ) (old new whole : List Opening) → i < length xs → new ≡ old ++ of_file (get_or xs i d) ∷ [] →
+    old ++ map of_file (drop i xs) ≡ whole → new ++ map of_file (drop (i + 1) xs) ≡ whole
+opening_pushed of_file xs i d old new whole within made so_far =
+    let x = get_or xs i d in
+    let rest = map of_file (drop (i + 1) xs) in
+    ap (λ ys. ys ++ rest) made ∙ append_assoc old (of_file x ∷ []) rest
+    ∙ sym (ap (λ ys. old ++ map of_file ys) (item_step xs i x within (get_or_default xs i d x within))) ∙ so_far
 
 module _ (s : Scope) (xs : List Opens) where
   pub openings_value : (i : ℕ) (x : Opens) (old new whole : List Opening) → i < length xs → x ≡ get_or xs i x → new ≡ old ++ (openings s x).value →

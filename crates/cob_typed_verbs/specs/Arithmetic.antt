@@ -10,6 +10,7 @@ use Rattle.cob_tree.specs.declared.operand.Ref.{Ref}
 use Rattle.cob_tree.specs.declared.stmt.Way.{Way}
 use Rattle.cob_tree.specs.declared.stmt.Way.TheVariants as way
 use Rattle.cob_tree.specs.Expr.{Expr}
+use Rattle.cob_tree.specs.Forms.{is_number_form}
 use Rattle.cob_data.specs.declared.end.Rule.TheVariants.{Q3, N5}
 use Rattle.cob_program.specs.declared.act.Target.{Target}
 use Rattle.cob_program.specs.declared.act.How.{How}
@@ -18,7 +19,7 @@ use Rattle.cob_program.specs.Sum.{Sum, MkSum, Parts, no_parts, more_parts, Part,
 use Rattle.cob_program.specs.Bounds.{Bound, sum_bound, product_bound, is_small, sum_most, atom_most, is_small_sum, is_small_stored}
 use Rattle.cob_typed_exprs.specs.Judged.{Judged, sound, demand, demanded, beside, each_of, if_there, ◌>>=◌}
 use Rattle.cob_typed_exprs.specs.Scope.{Scope, the_item, form_at}
-use Rattle.cob_typed_exprs.specs.Kinds.{is_number_form, is_amount}
+use Rattle.cob_typed_exprs.specs.Kinds.{is_amount}
 use Rattle.cob_typed_exprs.specs.Sizes.{bound_at, quotient_at}
 use Rattle.cob_typed_exprs.specs.Sums.{numeric_operand, whole_sum}
 

@@ -10,6 +10,7 @@ use Rattle.cob_tree.specs.Stmt.{Loop, times, until}
 use Rattle.cob_tree.specs.PrintExpr.{print_opnd, print_ref, print_cond}
 use Rattle.cob_tree.specs.PrintFront.{print_if}
 use Rattle.cob_tree.specs.PrintStmt.{print_place, print_varying, print_loop}
+use Rattle.cob_tree.specs.Forms.{is_number_form}
 use Rattle.cob_data.specs.declared.end.Rule.TheVariants.{Q2, Q9, Q10}
 use Rattle.cob_data.specs.declared.layout.Flag.{Flag}
 use Rattle.cob_data.specs.declared.layout.Sender.{Sender}
@@ -17,7 +18,7 @@ use Rattle.cob_names.specs.declared.found.Found.{Found}
 use Rattle.cob_names.specs.declared.found.Found.TheVariants as found
 use Rattle.cob_typed_exprs.specs.Judged.{each_of, if_there}
 use Rattle.cob_typed_exprs.specs.Scope.{Scope, form_at, one_of_kind, the_item}
-use Rattle.cob_typed_exprs.specs.Kinds.{may_move, is_number, is_whole, is_number_form}
+use Rattle.cob_typed_exprs.specs.Kinds.{may_move, is_number, is_whole}
 use Rattle.cob_typed_exprs.specs.Sums.{operand}
 use Rattle.cob_typed_verbs.specs.Verbs.{receiver, set_flag, set_if, from_of}
 use Rattle.cob_typed.specs.Statements.{number_operand, varied, turns_of}

@@ -3,11 +3,11 @@ use Rattle.std.proofs.Common.{◌≡◌, ℕ, Bool, true, false, List, [], ◌�
 use Rattle.std.specs.List.{AllByRecursion}
 use Rattle.std.specs.Option.{option_map_or}
 use Rattle.std.proofs.lemmas.Bool.{and_from}
-use Rattle.cob_tree.specs.declared.form.Form.{Form}
-use Rattle.cob_tree.specs.declared.form.Form.TheVariants.{Group, Text, Number, Edited}
+use Rattle.cob_tree.specs.declared.form.Form.TheVariants.{Group}
 use Rattle.cob_tree.specs.declared.operand.Opnd.{Opnd}
 use Rattle.cob_tree.specs.Expr.{Expr, MkExpr, Terms, no_terms, more_terms, Term, MkTerm, Facts, no_facts, more_facts, Fact, MkFact, Primary}
 use Rattle.cob_tree.specs.Expr as expr
+use Rattle.cob_tree.specs.Forms.{is_number_form}
 use Rattle.cob_data.specs.declared.end.Rule.TheVariants.{Q3}
 use Rattle.cob_data.specs.declared.layout.Item.{Item}
 use Rattle.cob_data.specs.declared.layout.Sender.{Sender}
@@ -16,7 +16,6 @@ use Rattle.cob_program.specs.Sum.{Part, MkPart, parts_of, Factor, MkFactor, fact
 use Rattle.cob_runs.specs.Contents.{form_at}
 use Rattle.cob_runs.specs.Computing.{items_in, items_in_parts, items_in_factors, items_in_atom}
 use Rattle.cob_calc.specs.Arithmetic.{are_numbers}
-use Rattle.cob_runs.specs.Deciding.{is_number_form}
 use Rattle.cob_typed_exprs.specs.Scope.{Scope}
 use Rattle.cob_typed_exprs.specs.Scope as scope
 use Rattle.cob_typed_exprs.specs.Kinds as kinds
@@ -33,12 +32,6 @@ form_same (Some i) = refl
 pub same_form : (s : Scope) (place : ℕ) → scope.form_at s place ≡ form_at s.layout place
 same_form s place = form_same (slice_get s.layout.items place)
 
-pub same_number_form : (f : Form) → kinds.is_number_form f ≡ is_number_form f
-same_number_form Group = refl
-same_number_form (Text n) = refl
-same_number_form (Number digits scale signed usage) = refl
-same_number_form (Edited picture digits scale) = refl
-
 module _ (s : Scope) where
   -- a numeric item
   abbrev pub IsNumber : ℕ → Type 0
@@ -47,8 +40,8 @@ module _ (s : Scope) where
   abbrev pub AreNumbers : List ℕ → Type 0
   AreNumbers places = AllByRecursion IsNumber places
 
-  pub number_item : (place : ℕ) → kinds.is_number_form (scope.form_at s place) ≡ true → IsNumber place
-  number_item place is = ap is_number_form (sym (same_form s place)) ∙ sym (same_number_form (scope.form_at s place)) ∙ is
+  pub number_item : (place : ℕ) → is_number_form (scope.form_at s place) ≡ true → IsNumber place
+  number_item place is = ap is_number_form (sym (same_form s place)) ∙ is
 
   pub are_all : (places : List ℕ) → AreNumbers places → are_numbers s.layout places ≡ true
   are_all [] all = refl

@@ -3,18 +3,18 @@ use Rattle.std.proofs.Common.{◌≡◌, ℕ, ◌+◌, ◌≤◌, zero, suc, Boo
 use Rattle.std.proofs.lemmas.Bool.{and_parts, eqb-true}
 use Rattle.std.proofs.lemmas.List.Sums.{sum_by-cons}
 use Rattle.cob_lines.specs.declared.Mark.{Mark}
+use Rattle.cob_tree.specs.declared.keyword.Keyword.TheVariants.{Is}
 use Rattle.cob_tree.specs.declared.token.Rel.{Rel}
 use Rattle.cob_lex.specs.declared.mark.Class.{Class}
 use Rattle.cob_lex.specs.declared.mark.Class.TheVariants as class
 use Rattle.cob_lex.specs.declared.cut.Shape.{Shape}
 use Rattle.cob_lex.specs.declared.cut.Shape.TheVariants.{Word, Number, Padded, Literal, Symbol, Relation, Stop, PictureString}
-use Rattle.cob_lex.specs.declared.word.Key.TheVariants.{Is}
 use Rattle.cob_lex.specs.declared.cut.Due.{Due}
 use Rattle.cob_lex.specs.declared.cut.Due.TheVariants.{Nothing, BehindPic, BehindIs}
 use Rattle.cob_lex.specs.declared.cut.State.{State}
 use Rattle.cob_lex.specs.declared.cut.Cut.{Cut}
 use Rattle.cob_lex.specs.Marks.{ch_at, is_digit, class_of, is_gap, ends_rightly, run_len, run_of, literal_len, solid_len, stripped}
-use Rattle.cob_lex.specs.Words.{is_word, key_of, digits_in, is_unsigned, is_minus}
+use Rattle.cob_lex.specs.Words.{is_word, spelled_keyword, digits_in, is_unsigned, is_minus}
 use Rattle.cob_lex.specs.Cuts.{gap, token_of_len, single, ended, is_lone_hyphen, run_token, plus_token, point_token, angle_token, is_literal, literal_token, picture_token, is_is, token_by, token_at, cut}
 
 -- at most 18 digits among the characters of a number, and room for one more where it gets a zero
@@ -80,11 +80,11 @@ run_whole text = taken (run_len text) text where
 run_few : (free : Bool) (text : List Mark) → CutsFew text (run_token free (run_of text) text)
 run_few free text =
     let front = run_of text in
-    let word = ended (Word (key_of front)) (length front) text in
+    let word = ended (Word (spelled_keyword front)) (length front) text in
     let numeric = is_unsigned front || (free && is_minus front) in
     let number = if numeric then ended Number (length front) text else None in
     either_few (is_lone_hyphen front) text (single Symbol) (if is_word front then word else number) tt
-    (either_few (is_word front) text word number (ended_few (Word (key_of front)) (length front) text tt)
+    (either_few (is_word front) text word number (ended_few (Word (spelled_keyword front)) (length front) text tt)
     (at numeric refl))
   where
     at : (x : Bool) → (is_unsigned (run_of text) || (free && is_minus (run_of text))) ≡ x →
@@ -160,7 +160,7 @@ at_few Nothing free m ms = by_few (class_of m.ch) free m ms refl
 at_few BehindPic free m ms =
     let text = m ∷ ms in
     let picture = take (solid_len text) text in
-    let word = Some (token_of_len (Word Is) (length (run_of text))) in
+    let word = Some (token_of_len (Word (Some Is)) (length (run_of text))) in
     either_few (is_is (run_of text) text) text word (picture_token picture) tt (picture_few picture text)
 at_few BehindIs free m ms = picture_few (take (solid_len (m ∷ ms)) (m ∷ ms)) (m ∷ ms)
 

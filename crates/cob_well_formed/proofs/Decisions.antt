@@ -13,6 +13,7 @@ use Rattle.cob_tree.specs.declared.operand.Ref.{Ref}
 use Rattle.cob_tree.specs.Expr.{Expr}
 use Rattle.cob_tree.specs.Cond.{Cond, MkCond, Conjs, no_conjs, more_conjs, Conj, MkConj, Negs, no_negs, more_negs, Neg, MkNeg, Simple}
 use Rattle.cob_tree.specs.Cond as cond
+use Rattle.cob_tree.specs.Forms.{is_number_form}
 use Rattle.cob_data.specs.declared.end.Rule.TheVariants.{Q5, N5}
 use Rattle.cob_data.specs.declared.layout.Flag.{Flag}
 use Rattle.cob_data.specs.declared.layout.Sender.{Sender}
@@ -29,7 +30,7 @@ use Rattle.cob_typed_exprs.specs.declared.kinds.Comparison.{Comparison}
 use Rattle.cob_typed_exprs.specs.declared.kinds.Comparison.TheVariants as way
 use Rattle.cob_typed_exprs.specs.Scope.{Scope, is_there, item_named}
 use Rattle.cob_typed_exprs.specs.Scope as scope
-use Rattle.cob_typed_exprs.specs.Kinds.{is_number, is_number_form, side_of, side_of_form, comparison, beside_text}
+use Rattle.cob_typed_exprs.specs.Kinds.{is_number, side_of, side_of_form, comparison, beside_text}
 use Rattle.cob_typed_exprs.specs.Sums.{operand, atom_of, lone, whole_sum, one_atom}
 use Rattle.cob_typed_conds.specs.Conditions.{Operand, alone, worked_out, lone_side, side_kind, sum_of_side, number_test, compared, relation_test, denied_if, relation_logic, numeric_test, sign_relation, zero_sum, signed_test, member_of, member_if, named_condition, Carry, Walked, WalkedList, tested, unrelated, related, abbreviated_from, abbreviated_behind, value_alone, name_alone, expression_alone, any_or_one, all_or_one, walk_cond, walk_conjs, walk_conj, walk_negs, walk_neg, walk_simple}
 use Rattle.cob_typed_exprs.specs.Sizes.{bound_at}

@@ -11,6 +11,7 @@ use Rattle.cob_tree.specs.declared.operand.Ref.{Ref}
 use Rattle.cob_tree.specs.declared.stmt.Way.{Way}
 use Rattle.cob_tree.specs.declared.stmt.Way.TheVariants as way
 use Rattle.cob_tree.specs.Expr.{Expr}
+use Rattle.cob_tree.specs.Forms.{is_number_form}
 use Rattle.cob_data.specs.declared.end.Rule.TheVariants.{Q3, N5}
 use Rattle.cob_program.specs.declared.act.Target.{Target}
 use Rattle.cob_program.specs.declared.act.How.{How}
@@ -41,7 +42,7 @@ amount_takes (Text n) = refl
 amount_takes (Number digits scale signed usage) = refl
 amount_takes (Edited picture digits scale) = refl
 
-number_takes : (f : Form) → kinds.is_number_form f ≡ true → takes_number f ≡ true
+number_takes : (f : Form) → is_number_form f ≡ true → takes_number f ≡ true
 number_takes Group e = absurd (cc)
 number_takes (Text n) e = absurd (cc)
 number_takes (Number digits scale signed usage) e = refl

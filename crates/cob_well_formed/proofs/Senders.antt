@@ -8,17 +8,17 @@ use Rattle.cob_tree.specs.declared.form.Form.TheVariants.{Group, Text, Number, E
 use Rattle.cob_tree.specs.declared.operand.Opnd.{Opnd}
 use Rattle.cob_tree.specs.declared.operand.Opnd.TheVariants as opnd
 use Rattle.cob_tree.specs.PrintExpr.{print_opnd}
+use Rattle.cob_tree.specs.Forms.{is_number_form}
 use Rattle.cob_data.specs.declared.layout.Sender.{Sender}
 use Rattle.cob_data.specs.declared.layout.Sender.TheVariants as sender
 use Rattle.cob_runs.specs.Contents.{form_at}
-use Rattle.cob_runs.specs.Deciding.{is_number_end, is_number_form}
+use Rattle.cob_runs.specs.Deciding.{is_number_end}
 use Rattle.cob_runs.specs.Moves.{takes_number}
 use Rattle.cob_items.specs.WellFormed.{IsShort, IsCountable, CanMove}
 use Rattle.cob_calc.specs.Comparing.{IsShortEnd}
 use Rattle.cob_world.specs.Needs.{IsNumber}
 use Rattle.cob_typed_exprs.specs.Scope.{Scope}
 use Rattle.cob_typed_exprs.specs.Scope as scope
-use Rattle.cob_typed_exprs.specs.Kinds as kinds
 use Rattle.cob_typed_exprs.specs.Kinds.{is_amount, is_digit, may_move_item, may_move, is_number, is_whole_form, is_whole}
 use Rattle.cob_typed_exprs.specs.Sums.{operand}
 use Rattle.cob_well_formed.specs.Numerals.{AreShort}
@@ -32,7 +32,7 @@ number_short (Text n) is = absurd (cc)
 number_short (Number digits scale signed usage) is = tt
 number_short (Edited picture digits scale) is = tt
 
-whole_form : (f : Form) → is_whole_form f ≡ true → kinds.is_number_form f ≡ true
+whole_form : (f : Form) → is_whole_form f ≡ true → is_number_form f ≡ true
 whole_form Group is = absurd (cc)
 whole_form (Text n) is = absurd (cc)
 whole_form (Number digits scale signed usage) is = refl

@@ -9,6 +9,7 @@ use Rattle.dec_num.specs.declared.types.Scaled.{Scaled}
 use Rattle.dec_num.specs.Scaled.{units_at, joint_scale, CanAdd}
 use Rattle.cob_tree.specs.declared.form.Form.{Form}
 use Rattle.cob_tree.specs.declared.form.Form.TheVariants as form
+use Rattle.cob_tree.specs.Forms.{is_number_form}
 use Rattle.cob_data.specs.declared.layout.Layout.{Layout}
 use Rattle.cob_data.specs.declared.layout.Sender.{Sender}
 use Rattle.cob_data.specs.declared.layout.Sender.TheVariants as sender
@@ -16,9 +17,8 @@ use Rattle.cob_program.specs.Values.{plus}
 use Rattle.cob_program.specs.Bounds.{IsSmall}
 use Rattle.cob_runs.specs.Contents.{form_at}
 use Rattle.cob_runs.specs.Moves.{takes_number}
-use Rattle.cob_runs.specs.Deciding.{is_number_end, is_number_form}
+use Rattle.cob_runs.specs.Deciding.{is_number_end}
 use Rattle.cob_calc.specs.Comparing.{IsShortNumber}
-use Rattle.cob_calc.proofs.NumberLemmas.{scaled_is}
 use Rattle.cob_world.specs.Needs.{IsNumber}
 
 -- whether an operand is a number doesn't depend on what items hold
@@ -58,5 +58,3 @@ short_can_add v w h k =
     let a = short_at v (joint_scale v w) h (omega (arith, h.scale, k.scale)) in
     let b = short_at w (joint_scale v w) k (omega (arith, h.scale, k.scale)) in
     record { within = omega (arith, h.scale, k.scale); left = omega (arith, a); right = omega (arith, b); sum = omega (arith, ints, a, b) }
-
-pub ruleset short_sums = (scaled_is, short_sum, short_can_add)

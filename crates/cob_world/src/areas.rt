@@ -14,15 +14,6 @@ pub fn write_at(storage: &mut [u8], offset: u32, bytes: &[u8])
     storage[from..from + bytes.len()].copy_from_slice(bytes);
 }
 
-// Fills a part with a text, which is cut on the right or filled with spaces there.
-fn fill_text(part: &mut [u8], text: &[u8])
-    ensures { part.new ≡ fitted (length part.old) text.now }
-{
-    let count = text.len().min(part.len());
-    part[..count].copy_from_slice(&text[..count]);
-    part[count..].fill(b' ');
-}
-
 /// Writes so many bytes of a text from a place on: it is cut on the right, or filled with spaces there.
 pub fn write_text(storage: &mut [u8], offset: u32, count: u32, text: &[u8])
     requires { offset + count ≤ length storage.old }
@@ -30,7 +21,7 @@ pub fn write_text(storage: &mut [u8], offset: u32, count: u32, text: &[u8])
 {
     let from = offset as usize;
     let to = from + count as usize;
-    fill_text(&mut storage[from..to], text);
+    cob_store::write_text(text, &mut storage[from..to]);
 }
 
 /// Writes a part of storage to another place, cut on the right or filled with spaces there. The parts may overlap.

@@ -1,13 +1,13 @@
 //! The counts of loops, and what VARYING adds (ISO 1989:1985, "The PERFORM statement").
 ghost use Rattle.std.specs.Prelude.{◌≡◌, length, Ok, true, IfSome};
 ghost use Rattle.std.specs.Result.{OnOk};
+ghost use Rattle.cob_tree.specs.Forms.{is_number_form};
 ghost use Rattle.cob_program.specs.Bounds.{IsSmall};
 ghost use Rattle.cob_program.specs.Values.{plus};
 ghost use Rattle.cob_runs.specs.Contents.{form_at, number_at};
 ghost use Rattle.cob_runs.specs.Moves.{number_of};
 ghost use Rattle.cob_runs.specs.Acts.{count_of, with_count, set_count, count_down, augment};
 ghost use Rattle.cob_items.specs.WellFormed.{HasWellFormedItems};
-ghost use Rattle.cob_runs.specs.Deciding.{is_number_form};
 ghost use Rattle.cob_calc.specs.Comparing.{IsShortNumber};
 ghost use Rattle.cob_world.specs.Becoming.{BecomesBy, put};
 ghost use Rattle.cob_world.specs.Needs.{IsNumber};
@@ -44,7 +44,6 @@ fn number_at(layout: &Layout, storage: &[u8], item: u32) -> Option<Scaled>
     number_of(layout, storage, &Sender::Item(item))
 }
 
-#[tactic(auto, using(crate::proofs::NumberLemmas::short_sums))]
 fn sum(own: Scaled, step: Scaled) -> Scaled
     requires own { IsShortNumber own }
     requires step { IsShortNumber step }

@@ -12,7 +12,7 @@ use std::marker::Model;
 use std::mem;
 
 /// Whether a file is open, and for what; of one that is read, whether its end was met.
-#[derive(Clone, Copy, Debug, PartialEq, Eq)]
+#[derive(Clone, Copy)]
 pub enum FileMode {
     Closed,
     Reading { ended: bool },
@@ -38,7 +38,7 @@ impl Model for File {
 }
 
 /// What a READ finds: the place of a record among the file's bytes if there is one, and the status.
-#[derive(Clone, Copy, Debug, Drop, PartialEq, Eq)]
+#[derive(Clone, Copy, Drop)]
 pub struct Taken {
     pub found: Option<usize>,
     pub status: u8,

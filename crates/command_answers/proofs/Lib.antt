@@ -1,3 +1,6 @@
+pub mod Certificates
+pub mod OneCheck
+pub mod Lines
 pub mod Found
 pub mod Control
 pub mod Limits

@@ -9,8 +9,8 @@ use Rattle.cob_front.specs.declared.refusal.Refusal.{Refusal}
 use Rattle.cob_front.specs.declared.refusal.Refusal.TheVariants as end
 use Rattle.claimed_rows.specs.declared.gap.Gap.{Gap}
 use Rattle.cert_check.specs.declared.ends.Shape.{Shape}
-use Rattle.alarm_report.specs.declared.alarms.Alarm.{Alarm}
-use Rattle.alarm_report.specs.Text.{line_end, report_text}
+use Rattle.command_answers.specs.declared.alarms.Alarm.{Alarm}
+use Rattle.command_answers.specs.ReportText.{line_end, report_text}
 use Rattle.command_answers.specs.Text.{at_line, leak_line, refusal_text, shape_line}
 use Rattle.command_answers.specs.Profile.{IsProgramOf, IsProfileCause}
 

@@ -1,3 +1,7 @@
+pub mod CheckAnswers
+pub mod CheckSteps
+pub mod Alarms
+pub mod ReportText
 pub mod Text
 pub mod Showing
 pub mod Profile

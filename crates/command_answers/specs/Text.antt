@@ -11,7 +11,7 @@ use Rattle.claimed_rows.specs.declared.gap.Gap.{Gap}
 use Rattle.claimed_rows.specs.declared.gap.Gap.TheVariants as gap
 use Rattle.cert_check.specs.declared.ends.Shape.{Shape}
 use Rattle.cert_check.specs.declared.ends.Shape.TheVariants as shape
-use Rattle.alarm_report.specs.Text.{line_end}
+use Rattle.command_answers.specs.ReportText.{line_end}
 
 abbrev pub bound_text : Option ℤ → List ℕ
 bound_text None = codes "none"

@@ -2,7 +2,7 @@
 ghost use Rattle.std.specs.Prelude.{◌≡◌};
 ghost use Rattle.command_answers.specs.declared.answer.Stop.TheVariants.{Memory};
 
-use alarm_report::Alarm;
+use crate::Alarm;
 use cert_check::{Gap, Shape};
 use cob_front::Refusal;
 use std::alloc::AllocError;
@@ -29,7 +29,7 @@ pub enum Answer<'a> {
 }
 
 /// Why no answer is found.
-#[derive(Debug, Drop)]
+#[derive(Drop)]
 pub enum Stop {
     /// A file couldn't be opened, read or closed.
     ReadFault,

@@ -1,17 +1,24 @@
-//! What the commands share: their answers with texts and statuses, what is shown, and the source that each of them reads.
+//! What the commands share: their answers with texts and statuses, the report on a program, what is shown, and the
+//! source that each of them reads; and the command `check`, which shows nothing and changes no file.
 //!
-//! Which answer a command gives stands with the command.
+//! Which answer `analyse`, `run` and `trial` give stands with them.
 #![tactic(auto)]
 
+mod alarms;
 mod answer;
+mod certificate;
 mod laws;
+mod report_text;
 mod show;
 mod source;
 mod text;
 
+pub use alarms::{Alarm, alarms_of};
 pub use answer::{Answer, Stop};
 pub use cert_check::{CheckEnd, accepted_claims_cover_runs, check as check_claims};
+pub use certificate::{CERTIFICATE_LIMIT, check, check_certificate};
 pub use laws::bytes_are_of_the_profile_or_not;
+pub use report_text::{kind_text, push_number, push_report, report};
 pub use show::{
     CERTIFICATE_REFUSED, OUT_OF_MEMORY, READ_FAULT, WRITE_FAULT, show_found, show_line, show_text,
     status_of,

@@ -1,12 +1,12 @@
 //! The text of answers: reports and refusals.
 ghost use Rattle.std.specs.Prelude.{◌≡◌, ◌++◌, codes, decimal, OnOk, IfOk};
-ghost use Rattle.alarm_report.specs.Text.{line_end};
+ghost use Rattle.command_answers.specs.ReportText.{line_end};
 ghost use Rattle.command_answers.specs.Text.{at_line, bound_text, gap_text, leak_line, over_line, refusal_text, rule_text, shape_line, shape_text, ends_text, cell_text, difference_text, place_text, place_line, which_text};
 ghost use Rattle.command_answers.specs.View.{plain_answer};
 ghost use Rattle.command_answers.specs.Answer.{answer_text, usage_text};
 
 use crate::answer::Answer;
-use alarm_report::{push_number, push_report};
+use crate::{push_number, push_report};
 use cert_check::{Gap, Shape};
 use cob_data::{Rule, Which};
 use cob_front::Refusal;

@@ -23,12 +23,12 @@ NumbersAreOwn =
     (l : Layout) (bytes : List ℕ) (place : ℕ) (v : Scaled) → HasWellFormedItems l → SeparateItemsHaveSigns l →
     length bytes ≡ l.storage → number_at l bytes place ≡ Some v → IsOwn (form_at l place) v.units
 
--- The bytes of a number are as many as the item's,
+-- The bytes of a number are as many as the item's.
 abbrev pub NumbersFillItems : Type 0
 NumbersFillItems =
     (f : Form) (bytes : ℕ) (units : ℤ) → IsWellFormedForm f bytes → takes_number f ≡ true → length (bytes_of f units) ≡ bytes
 
--- and are read as this number, or as its absolute value where the item has no sign.
+-- The bytes of a number are read as this number, or as its absolute value where the item has no sign.
 abbrev pub NumbersReadBack : Type 0
 NumbersReadBack =
     (digits scale : ℕ) (signed : Bool) (usage : Usage) (bytes : ℕ) (z : ℤ) →

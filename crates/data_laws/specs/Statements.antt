@@ -15,10 +15,10 @@ IsIn n a (MkStmt m line b ∷ ss) = ((n ≡ m) × (b ≡ a)) ⊎ IsIn n a ss
 abbrev pub IsFound : Program → Stmt → Type 0
 IsFound p (MkStmt n line a) = act_at p n ≡ Some a
 
--- What is found by a number stands in the list,
+-- What is found by a number stands in the list.
 abbrev pub FoundIsListed : Type 0
 FoundIsListed = (p : Program) (n : ℕ) (a : Act) → act_at p n ≡ Some a → IsIn n a (program_statements p)
 
--- and where statements are found by their numbers, all that stand in the list are.
+-- Where statements are found by their numbers, all that stand in the list are.
 abbrev pub ListedIsFound : Type 0
 ListedIsFound = (p : Program) → IsWellFormed p → AllByRecursion (IsFound p) (program_statements p)

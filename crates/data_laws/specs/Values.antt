@@ -13,17 +13,17 @@ pub record BeginsWith (l : Layout) (place : ℕ) (i : Item) (bytes : List ℕ) :
   pub has : HasValue l place i
   pub put : moved l [] i.form i.length has.value ≡ Ok bytes
 
--- Whatever stood in storage before, it is as long as the layout says,
+-- Whatever stood in storage before, the first storage is as long as the layout says.
 abbrev pub FirstStorageIsWhole : Type 0
 FirstStorageIsWhole = (l : Layout) (first : List ℕ) → HasWellFormedItems l → length (first_storage l first) ≡ l.storage
 
--- an item that begins with a value holds the value's bytes,
+-- In the first storage an item that begins with a value holds the value's bytes.
 abbrev pub ValuesStandAtFirst : Type 0
 ValuesStandAtFirst =
     (l : Layout) (first : List ℕ) (place : ℕ) (i : Item) (bytes : List ℕ) → HasWellFormedItems l → ValuesStandApart l →
     BeginsWith l place i bytes → bytes_at l (first_storage l first) place ≡ bytes
 
--- and reads as their number, if they are one.
+-- In the first storage an item that begins with a value reads as the number of the value's bytes, if they are one.
 abbrev pub ValuesReadAtFirst : Type 0
 ValuesReadAtFirst =
     (l : Layout) (first : List ℕ) (place : ℕ) (i : Item) (bytes : List ℕ) → HasWellFormedItems l → ValuesStandApart l →

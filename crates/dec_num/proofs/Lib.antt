@@ -4,3 +4,6 @@ pub mod Exactness
 pub mod Near
 pub mod LongDivision
 pub mod Bounds
+pub mod Quotients
+pub mod Summed
+pub mod Fitted

@@ -1,7 +1,7 @@
 //! Quotients, cut or rounded.
 ghost use Rattle.std.specs.Prelude.{◌≡◌, ◌≢◌, ◌+◌, ◌*◌, ◌^◌, ◌<◌, ◌≤◌, ◌≤ℤ◌, pos, neg_ℤ, unsigned_abs, ◌↔◌};
 ghost use Rattle.std.specs.Option.{SomeIff};
-ghost use Rattle.dec_num.specs.Exact.{near, ratio_of, rounded, IsNearSize};
+ghost use Rattle.dec_num.specs.Exact.{near, near_size, ratio_of, rounded, IsNearSize};
 ghost use Rattle.dec_num.specs.Quot.{IfIs};
 
 use super::rounding::{finished, signed};
@@ -70,8 +70,22 @@ fn ratio_top(n: i128, d: i128) -> i128
     if d < 0 { -n } else { n }
 }
 
+// the size of n * 10^up / d, if it is below 10^37
+fn quotient_size(n: u128, d: u128, up: i32, mode: Mode) -> Option<u128>
+    requires n { n < 10 ^ 37 }
+    requires d { (0 < d) × (d < 10 ^ 37) }
+    requires up { (neg_ℤ (pos 37) ≤ℤ up) × (up ≤ℤ pos 55) }
+    ensures { let size = near_size mode (ratio_of (pos n) (pos d)) up in
+        SomeIff result (size < 10 ^ 37) size }
+{
+    if up < 0 {
+        Some(narrowed(n, d, up.unsigned_abs(), mode))
+    } else {
+        widened(n, d, up as u32, mode)
+    }
+}
+
 /// `n * 10^up / d` as a whole number, cut or rounded.
-#[tactic(auto, using(crate::proofs::Near::quotients))]
 pub fn quot(n: i128, d: i128, up: i32, mode: Mode) -> Quot
     requires n { unsigned_abs n < 10 ^ 37 }
     requires d { unsigned_abs d < 10 ^ 37 }
@@ -90,12 +104,7 @@ pub fn quot(n: i128, d: i128, up: i32, mode: Mode) -> Quot
     }
     let top = n.unsigned_abs();
     let bottom = d.unsigned_abs();
-    let size = if up < 0 {
-        Some(narrowed(top, bottom, up.unsigned_abs(), mode))
-    } else {
-        widened(top, bottom, up as u32, mode)
-    };
-    match size {
+    match quotient_size(top, bottom, up, mode) {
         Some(size) => Quot::Is(signed(size, ratio_top(n, d))),
         None => Quot::Over,
     }

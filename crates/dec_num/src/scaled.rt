@@ -14,7 +14,6 @@ fn scaled(units: i128, scale: u32) -> Scaled
 }
 
 /// The number at a greater or equal scale.
-#[tactic(auto, using(crate::proofs::Exactness::aligning))]
 pub fn align(a: Scaled, scale: u32) -> Scaled
     requires { CanAlign a scale }
     ensures scale { result.scale ≡ scale }
@@ -28,7 +27,6 @@ pub fn align(a: Scaled, scale: u32) -> Scaled
 }
 
 /// The sum, at the greater of the two scales.
-#[tactic(auto, using(crate::proofs::Exactness::adding))]
 pub fn add(a: Scaled, b: Scaled) -> Scaled
     requires { CanAdd a b }
     ensures scale { result.scale ≡ joint_scale a b }
@@ -44,7 +42,6 @@ pub fn add(a: Scaled, b: Scaled) -> Scaled
 }
 
 /// The difference `a - b`, at the greater of the two scales.
-#[tactic(auto, using(crate::proofs::Exactness::subtracting))]
 pub fn sub(a: Scaled, b: Scaled) -> Scaled
     requires { CanSubtract a b }
     ensures scale { result.scale ≡ joint_scale a b }
@@ -60,7 +57,6 @@ pub fn sub(a: Scaled, b: Scaled) -> Scaled
 }
 
 /// The product, whose scale is the sum of the scales.
-#[tactic(auto, using(crate::proofs::Exactness::mul_is_exact))]
 pub fn mul(a: Scaled, b: Scaled) -> Scaled
     requires { CanMultiply a b }
     ensures scale { result.scale ≡ a.scale + b.scale }

@@ -1,6 +1,6 @@
 //! Scaled numbers, and what becomes of them.
 /// What becomes of the digits past the last kept one.
-#[derive(Debug, Clone, Copy, PartialEq, Eq)]
+#[derive(Clone, Copy, PartialEq, Eq)]
 pub enum Mode {
     /// They are dropped.
     Trunc,
@@ -10,14 +10,14 @@ pub enum Mode {
 }
 
 /// The number `units / 10^scale`.
-#[derive(Debug, Clone, Copy, PartialEq, Eq)]
+#[derive(Clone, Copy, PartialEq, Eq)]
 pub struct Scaled {
     pub units: i128,
     pub scale: u32,
 }
 
 /// A quotient in whole units.
-#[derive(Debug, Clone, Copy, PartialEq, Eq)]
+#[derive(Clone, Copy, PartialEq, Eq)]
 pub enum Quot {
     ZeroDivisor,
     /// The quotient has more than 37 digits.
@@ -26,7 +26,7 @@ pub enum Quot {
 }
 
 /// A value in the units of a receiver.
-#[derive(Debug, Clone, Copy, PartialEq, Eq)]
+#[derive(Clone, Copy, PartialEq, Eq)]
 pub enum Fit {
     Stored(i64),
     /// The value has more digits than the receiver, after it was cut or rounded: a size error, or in

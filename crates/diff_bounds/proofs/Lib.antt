@@ -15,3 +15,5 @@ pub mod OneRow
 pub mod RowSums
 pub mod Lattices
 pub mod PackRows
+pub mod Apart
+pub mod Asked

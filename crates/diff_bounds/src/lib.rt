@@ -47,7 +47,7 @@ pub use sizes::{height_of, width_of, words_of};
 pub use widening::widen_rows;
 
 /// Cells whose differences are tracked together, by their places from 1, in rising order.
-#[derive(Debug, PartialEq, Eq, Drop)]
+#[derive(PartialEq, Eq, Drop)]
 pub struct Pack {
     pub cells: Vec<u32>,
 }

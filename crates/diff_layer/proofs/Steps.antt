@@ -1,6 +1,6 @@
 -- Steps of loops over what cells are of.
-use Rattle.std.proofs.Common.{◌≡◌, ℕ, ◌+◌, ◌<◌, List, [], ◌∷◌, ◌++◌, map, length, take, drop, get_or, refl, sym, ap, subst, ◌∙◌, add-one}
-use Rattle.std.proofs.lemmas.List.{map-append, take_more}
+use Rattle.std.proofs.Common.{◌≡◌, ℕ, ◌+◌, ◌<◌, List, [], ◌∷◌, ◌++◌, map, length, take, drop, get_or, refl, sym, ap, subst, take_at, ◌∙◌, add-one}
+use Rattle.std.proofs.lemmas.List.{length-map, map-append, take_more}
 use Rattle.cob_data.specs.declared.layout.Layout.{Layout}
 use Rattle.cob_data.specs.declared.layout.Item.{Item}
 use Rattle.cob_program.proofs.Loops.{item_step}
@@ -14,7 +14,7 @@ use Rattle.pack_forms.specs.declared.cells.PackCell.{PackCell}
 use Rattle.pack_forms.specs.Cells.{plain_cell, plain_cells}
 use Rattle.diff_layer.specs.declared.plans.PackPlan.{PackPlan}
 use Rattle.diff_layer.specs.Plans.{plain_plan, plain_plans}
-use Rattle.pack_laws.specs.Packs.{home_at, pack_in}
+use Rattle.pack_laws.specs.Packs.{home_at, pack_in, packs_in}
 use Rattle.diff_layer.specs.Planning.{cell_of, cells_of, HasUnit, HaveUnits, IsPlanFor, ArePlansFor, sizes_in}
 
 pub items_step : (xs : List Item) (i place next : ℕ) (x : Item) → i < length xs → x ≡ get_or xs i x → next ≡ place + 1 →
@@ -68,3 +68,12 @@ pub homes_back : (homes : List Home) → plain_cells (cells_of homes) ≡ homes
 homes_back [] = refl
 homes_back (of_item place ∷ homes) = ap (λ hs. of_item place ∷ hs) (homes_back homes)
 homes_back (of_count statement ∷ homes) = ap (λ hs. of_count statement ∷ hs) (homes_back homes)
+
+-- there is a plan for each pack
+pub as_many : (homes : List Home) (all : List declared.Pack) (plans : List PackPlan) → plain_plans plans ≡ packs_in homes all → length plans ≡ length all
+as_many homes all plans e =
+    sym (length-map plans plain_plan) ∙ ap length e ∙ length-map all (λ (x : declared.Pack). pack_in homes x.cells.items)
+
+-- a slice that is written back into its vector
+pub written_back : {A : Type 0} (xs items : List A) (n : ℕ) → length xs ≡ n → take n (xs ++ drop (length xs) items) ≡ xs
+written_back xs items n e = take_at xs (drop (length xs) items) n e

@@ -15,7 +15,7 @@ use Rattle.cob_runs.specs.declared.action.Action.{Action}
 use Rattle.cob_runs.specs.Contents.{form_at}
 use Rattle.cob_edge_parts.specs.Parts.{Amount, Part, divide, store, set_count, count_down, has_phrase, parts_of}
 use Rattle.linear_form.specs.declared.form.Lin.{Lin}
-use Rattle.form_bounds.specs.Upper.{upper_of}
+use Rattle.linear_form.specs.Upper.{upper_of}
 use Rattle.sum_ranges.specs.Ranged.{decimal}
 use Rattle.sum_forms.specs.SumForms.{atom_form}
 use Rattle.result_ranges.specs.declared.amounts.Receiver.{Receiver}

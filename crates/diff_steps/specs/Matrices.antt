@@ -6,10 +6,10 @@ use Rattle.linear_form.specs.declared.form.Lin.{Lin}
 use Rattle.diff_bounds.specs.Matrix.{word, none}
 use Rattle.diff_bounds.specs.Lattice.{matrix_of, bottom_word}
 use Rattle.diff_bounds.specs.Closed.{closed}
-use Rattle.form_bounds.specs.Numbers.{word_of}
-use Rattle.form_bounds.specs.Upper.{coef_at}
-use Rattle.form_bounds.specs.Assigned.{upper_less, less_upper}
-use Rattle.form_bounds.specs.Demanded.{lowered}
+use Rattle.linear_form.specs.Numbers.{word_of}
+use Rattle.linear_form.specs.Upper.{coef_at}
+use Rattle.linear_form.specs.Assigned.{upper_less, less_upper}
+use Rattle.linear_form.specs.Demanded.{lowered}
 use Rattle.cell_rows.specs.Known.{Known}
 use Rattle.cell_steps.specs.Homes.{Home}
 use Rattle.cell_steps.specs.Storages.{known_of}

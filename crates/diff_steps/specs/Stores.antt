@@ -6,10 +6,10 @@ use Rattle.cob_program.specs.Values.{◌>>=◌}
 use Rattle.linear_form.specs.declared.form.Lin.{Lin}
 use Rattle.linear_form.specs.Forms.{if_small}
 use Rattle.linear_form.specs.Results.{sum_of}
-use Rattle.form_bounds.specs.Upper.{upper_of}
+use Rattle.linear_form.specs.Upper.{upper_of}
 use Rattle.sum_ranges.specs.declared.ranged.Ranged.{Ranged}
-use Rattle.store_error.specs.declared.known.Known as sure
-use Rattle.store_error.specs.Errors.{error_in}
+use Rattle.linear_form.specs.declared.known.Known as sure
+use Rattle.linear_form.specs.Errors.{error_in}
 use Rattle.result_ranges.specs.declared.amounts.AmountRange.{AmountRange}
 use Rattle.result_ranges.specs.declared.amounts.AmountRange.TheVariants as range
 use Rattle.sum_forms.specs.Constants.{constant_form}

@@ -3,7 +3,7 @@ use Rattle.std.specs.Prelude.{◌≡◌, ℕ, zero, suc, true, false, List, [], 
 use Rattle.std.proofs.Common.{refl, arith as plain}
 use Rattle.cob_data.specs.declared.layout.Sender.TheVariants as sender
 use Rattle.cob_program.specs.Act.{Turns, once, times, no_stmts, perform, go, stop, range, inline, Program}
-use Rattle.cob_meaning.specs.declared.straight.Outcome.TheVariants.{Ended}
+use Rattle.cob_runs.specs.declared.outcome.Outcome.TheVariants.{Ended}
 use Rattle.cob_runs.specs.Files.{Choice}
 use Rattle.cob_runs.specs.State.{World}
 use Rattle.cob_runs.specs.Runs.{Contents, run}

@@ -13,8 +13,8 @@ use Rattle.cob_data.specs.declared.layout.Item.{Item}
 use Rattle.cob_data.specs.declared.layout.Sender.TheVariants as sender
 use Rattle.cob_program.specs.declared.act.How.TheVariants as how
 use Rattle.cob_program.specs.Act.{once, times, no_stmts, left_out, given, Act, arith, perform, go, nothing, stop, read, range, inline, Program}
-use Rattle.cob_meaning.specs.declared.straight.Outcome.TheVariants.{Ended}
 use Rattle.cob_runs.specs.declared.action.Action.TheVariants as action
+use Rattle.cob_runs.specs.declared.outcome.Outcome.TheVariants.{Ended}
 use Rattle.cob_runs.specs.Effects.{or_else, act_at}
 use Rattle.cob_runs.specs.State.{State}
 use Rattle.cob_runs.specs.Runs.{run, first_storage}

@@ -5,9 +5,9 @@ use Rattle.std.specs.Option.{option_map_or}
 use Rattle.std.proofs.lemmas.List.{length-replicate}
 use Rattle.cob_tree.specs.declared.fault.Kind.{Kind}
 use Rattle.cob_program.specs.Act.{Act, Program}
-use Rattle.cob_meaning.specs.declared.straight.Outcome.{Outcome}
 use Rattle.cob_runs.specs.declared.action.Action.{Action}
 use Rattle.cob_runs.specs.declared.action.Action.TheVariants as action
+use Rattle.cob_runs.specs.declared.outcome.Outcome.{Outcome}
 use Rattle.cob_runs.specs.Files.{Choice}
 use Rattle.cob_runs.specs.State.{World}
 use Rattle.cob_runs.specs.Effects.{Effect, effect, effect_of, not_taken, act_at}

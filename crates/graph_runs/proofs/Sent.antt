@@ -10,6 +10,7 @@ use Rattle.std.proofs.lemmas.Option.{same_Some, none-some}
 use Rattle.dec_num.specs.declared.types.Scaled.{Scaled}
 use Rattle.cob_tree.specs.declared.form.Form.{Form}
 use Rattle.cob_tree.specs.declared.form.Form.TheVariants as form
+use Rattle.cob_tree.specs.Forms.{is_number_form}
 use Rattle.num_bytes.specs.Reading.{number_value}
 use Rattle.cob_data.specs.declared.layout.Item.{Item}
 use Rattle.cob_data.specs.declared.layout.Layout.{Layout}
@@ -21,7 +22,6 @@ use Rattle.cob_program.specs.Act.{MkStmt, Stmts, no_stmts, more_stmts, Phrase, l
 use Rattle.cob_runs.specs.Effects.{or_else, act_among, act_in_phrase, act_below, act_in_whens, act_in_body, act_in_paras, act_at}
 use Rattle.cob_runs.specs.Contents.{area, item_at, scaled_by, number_in}
 use Rattle.cob_runs.specs.Moves.{number_of}
-use Rattle.cob_runs.specs.Deciding.{is_number_form}
 use Rattle.cob_items.specs.WellFormed.{IsWellFormedForm, IsWellFormedItem, HasWellFormedItems}
 use Rattle.cob_world.specs.Needs.{IsNumber}
 use Rattle.cob_world.specs.Doing.{CanDo, CanDoPhrase, CanDoAct, CanDoWhens, CanDoBody, CanDoParas, CanDoProgram}

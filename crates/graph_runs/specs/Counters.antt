@@ -45,11 +45,11 @@ module _ (l : Layout) where
   Misfits part m = ⊥
 
   module _ (handled : Bool) where
-    -- a part is passed where what it stores to a counter fits,
+    -- a part is passed where what it stores to a counter fits
     abbrev pub PassesPart : Part → Moment → Moment → Type 0
     PassesPart part m n = Passes l handled part m n × ¬ Misfits part m
 
-    -- and meets a size error where it doesn't
+    -- a part meets a size error, too, where what it stores to a counter doesn't fit
     abbrev pub FaultsAtPart : Part → Moment → Kind → Type 0
     FaultsAtPart part m fault = Faults l handled part m fault ⊎ ((fault ≡ kind.Size) × Misfits part m)
 

@@ -4,7 +4,7 @@ use Rattle.std.specs.Prelude.{int_le, if◌then◌else◌, ◌↔◌}
 use Rattle.std.proofs.lemmas.Int.{ints, clamps}
 use Rattle.std.proofs.Math.IntN.{pos-*ℤ-pos, negsuc-*ℤ-pos}
 use Rattle.decimal_interval.specs.declared.bounds.Interval.{Interval}
-use Rattle.decimal_interval.specs.Bounds.{Holds, IsInterval, IsLeast}
+use Rattle.decimal_interval.specs.Bounds.{Holds, IsInterval, IsLeast, IsSmall}
 use Rattle.decimal_interval.specs.Corners.{interval, either_of}
 use Rattle.decimal_interval.proofs.Ends.{times_grows, min_is_one, max_is_one, parts_of_product}
 use Rattle.cob_runs.specs.Deciding.{Order, below, equal, above, order_of, number_order}
@@ -240,6 +240,10 @@ equal_gives a b o scale s t c can e in_a in_b h k =
     (subst (λ n. (k : ℤ) → Holds s k ↔ Holds a.units (k *ℤ pos (10 ^ (n - b.scale)))) e in_a)
     (subst (λ n. (k : ℤ) → Holds t k ↔ Holds b.units (k *ℤ pos (10 ^ (n - a.scale)))) e in_b)
     (subst (λ n. IsLeastIfAny (λ z. (k : ℤ) × Holds (common s t) k × (z ≡ k *ℤ pos (10 ^ (n - b.scale)))) o) e k2)
+
+-- what an interval holds is as small as its ends
+pub held_small : (whole : Interval) (z : ℤ) → IsInterval whole → Holds whole z → IsSmall z
+held_small whole z is h = let low = is.low in let high = is.high in omega (arith, ints, low, high, h.0, h.1)
 
 -- the multiples of the numbers of an interval
 pub multiples_least : (a : Ranged) (scale : ℕ) (r : Interval) → a.units.low ≤ℤ a.units.high → r ≡ raised a scale → IsLeast (λ z. (k : ℤ) × Holds a.units k × (z ≡ k *ℤ pos (10 ^ (scale - a.scale)))) r

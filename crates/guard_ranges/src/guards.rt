@@ -1,13 +1,14 @@
 //! What tests leave of items.
 ghost use Rattle.std.specs.Prelude.{◌≡◌, ℕ, Bool, true, List, [], map, Some, None, if◌then◌else◌};
 ghost use Rattle.std.specs.List.{list_all};
+ghost use Rattle.cob_tree.specs.Forms.{is_number_form};
 ghost use Rattle.cob_program.specs.Sum.{parts_of, factors_of};
 ghost use Rattle.cob_program.specs.SumView.{plain_sum, plain_part, plain_factor, plain_atom};
 ghost use Rattle.cob_program.specs.Logic.{member};
 ghost use Rattle.cob_program.specs.LogicView.{plain_test};
 ghost use Rattle.cob_program.specs.Bounds.{is_small_sides};
 ghost use Rattle.cob_runs.specs.Contents.{form_at};
-ghost use Rattle.cob_runs.specs.Deciding.{is_number_form, is_number_end};
+ghost use Rattle.cob_runs.specs.Deciding.{is_number_end};
 ghost use Rattle.sum_ranges.specs.Working.{AreBounded};
 ghost use Rattle.guard_ranges.specs.Members.{is_number_pair, is_number_member, member_kept};
 ghost use Rattle.guard_ranges.specs.Small.{is_small_test};

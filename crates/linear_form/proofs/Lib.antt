@@ -1,3 +1,21 @@
+pub mod Numbers
+pub mod Sound
+pub mod Mono
+pub mod BoundValues
+pub mod Bounded
+pub mod Signs
+pub mod Forms
+pub mod Assigned
+pub mod Demanded
+pub mod Same
+pub mod Changes
+pub mod Puts
+pub mod Matrices
+pub mod Lowered
+pub mod Forgotten
+pub mod Rounds
+pub mod Scales
+pub mod Surer
 pub mod Coefs
 pub mod Dots
 pub mod Values
@@ -5,3 +23,4 @@ pub mod Computed
 pub mod SmallNumbers
 pub mod Narrower
 pub mod Parts
+pub mod ReadAgain

@@ -1,2 +1,12 @@
+pub mod Numbers
+pub mod Upper
+pub mod Values
+pub mod Sums
+pub mod Assigned
+pub mod Changed
+pub mod Demanded
+pub mod Forgotten
+pub mod Errors
+pub mod Scales
 pub mod Forms
 pub mod Results

@@ -5,7 +5,7 @@ use decimal_interval::Interval;
 pub(crate) const CELLS: usize = 8;
 
 /// The sum of each coefficient times its cell, plus some number of the constant.
-#[derive(Clone, Copy, Debug, PartialEq, Eq)]
+#[derive(Clone, Copy, PartialEq, Eq)]
 pub struct Lin {
     /// A coefficient for each cell of the pack in turn, and 0 for one that doesn't count or isn't there.
     pub coefs: [i128; 8],

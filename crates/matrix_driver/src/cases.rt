@@ -1,12 +1,13 @@
 //! The cases, by their calls.
-ghost use Rattle.std.specs.Prelude.{◌≤◌};
+ghost use Rattle.std.specs.Prelude.{◌^◌, ◌<◌, ◌≤◌, ◌≤ℤ◌, unsigned_abs};
 
-use crate::inputs::{Input, form_of, matrix_of, place_of};
+use crate::inputs::{Input, class_of, form_of, matrix_of, place_of, range_of};
 use crate::rows::{reclose_case, row_case};
 use crate::shown::Answer;
+use cell_rows::class_join;
+use decimal_interval::{Interval, sub_i};
 use diff_bounds::close;
-use form_bounds::{assign, demand, upper};
-use linear_form::{Lin, lin_add, lin_scale};
+use linear_form::{Lin, assign, demand, lin_add, lin_scale, upper};
 
 fn close_case(numbers: &[i128]) -> Option<Answer> {
     if numbers.len() != 81 {
@@ -86,6 +87,36 @@ fn scale_case(by: i128, numbers: &[i128]) -> Option<Answer> {
     form_answer(lin_scale(&form_of(numbers), by))
 }
 
+// ---- ranges and classes
+
+fn difference(a: Interval, b: Interval) -> Interval
+    requires a_low { unsigned_abs a.low < 10 ^ 18 }
+    requires a_high { unsigned_abs a.high < 10 ^ 18 }
+    requires a_ordered { a.low ≤ℤ a.high }
+    requires b_low { unsigned_abs b.low < 10 ^ 18 }
+    requires b_high { unsigned_abs b.high < 10 ^ 18 }
+    requires b_ordered { b.low ≤ℤ b.high }
+{
+    sub_i(a, b)
+}
+
+fn difference_case(numbers: &[i128]) -> Option<Answer> {
+    if numbers.len() != 4 {
+        return None;
+    }
+    let a = range_of(numbers[0], numbers[1])?;
+    let b = range_of(numbers[2], numbers[3])?;
+    Some(Answer::Range(difference(a, b)))
+}
+
+/// The answer to a case of two classes, nothing where they can't be read.
+pub fn class_case(words: &str) -> Option<Answer> {
+    let (a, b) = words.split_once(' ')?;
+    Some(Answer::Class(class_join(class_of(a)?, class_of(b)?)))
+}
+
+// ---- all
+
 fn answer_at(call: &str, at: usize, numbers: &[i128]) -> Option<Answer>
     requires { at ≤ 8 }
 {
@@ -97,7 +128,7 @@ fn answer_at(call: &str, at: usize, numbers: &[i128]) -> Option<Answer>
     }
 }
 
-/// The answer to a case, nothing where it can't be read.
+/// The answer to a case of numbers, nothing where it can't be read.
 pub fn answer_to(call: &str, numbers: &[i128]) -> Option<Answer> {
     match call {
         "close" => close_case(numbers),
@@ -105,6 +136,7 @@ pub fn answer_to(call: &str, numbers: &[i128]) -> Option<Answer> {
         "demand" => demand_case(numbers),
         "add" => add_case(numbers),
         "scale" => scale_case(*numbers.first()?, &numbers[1..]),
+        "difference" => difference_case(numbers),
         _ => answer_at(call, place_of(*numbers.first()?)?, &numbers[1..]),
     }
 }

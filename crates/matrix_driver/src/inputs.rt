@@ -1,8 +1,9 @@
-//! Numbers, places, matrices and forms, read.
-ghost use Rattle.std.specs.Prelude.{◌≡◌, ◌+◌, ◌<◌, ◌≤◌, ◌≤ℤ◌, ◌^◌, neg_ℤ, length, IfSome};
+//! Numbers, places, ranges, classes, matrices and forms, read.
+ghost use Rattle.std.specs.Prelude.{◌≡◌, ◌+◌, ◌<◌, ◌≤◌, ◌≤ℤ◌, ◌^◌, neg_ℤ, length, unsigned_abs, IfSome, IsTrue};
 ghost use Rattle.diff_bounds.specs.Matrix.{largest, IsMatrix};
 ghost use Rattle.linear_form.specs.Forms.{IsSmallForm};
 
+use cell_rows::Class;
 use decimal_interval::Interval;
 use diff_bounds::add_bound;
 use linear_form::{Lin, lin_scale};
@@ -43,6 +44,35 @@ pub fn bound_of(number: i128) -> Option<i128>
         Some(number)
     } else {
         None
+    }
+}
+
+// Whether a number has at most 18 digits.
+fn is_short(number: i128) -> bool
+    ensures { IsTrue result → unsigned_abs number < 10 ^ 18 }
+{
+    -1_000_000_000_000_000_000 < number && number < 1_000_000_000_000_000_000
+}
+
+/// The range between two numbers of at most 18 digits.
+pub fn range_of(low: i128, high: i128) -> Option<Interval>
+    ensures low { IfSome result (λ range. unsigned_abs range.low < 10 ^ 18) }
+    ensures high { IfSome result (λ range. unsigned_abs range.high < 10 ^ 18) }
+    ensures ordered { IfSome result (λ range. range.low ≤ℤ range.high) }
+{
+    if low <= high && is_short(low) && is_short(high) {
+        Some(Interval { low, high })
+    } else {
+        None
+    }
+}
+
+/// The class that a word is.
+pub fn class_of(word: &str) -> Option<Class> {
+    match word {
+        "unknown" => Some(Class::Unknown),
+        "numeric" => Some(Class::Numeric),
+        _ => None,
     }
 }
 

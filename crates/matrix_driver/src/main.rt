@@ -1,5 +1,5 @@
-//! Answers cases of difference-bound matrices for eight cells and of linear forms over them: each line of the standard
-//! input is a case, and each gets a line. tests/matrices.py makes them and compares the answers.
+//! Answers cases of difference-bound matrices for eight cells, of linear forms over them, of ranges and of classes: each
+//! line of the standard input is a case, and each gets a line. tests/matrices.py makes them and compares the answers.
 //!
 //! A line is the name of a call and its numbers, between blanks. A matrix M is its 81 words, row by row, and a form F
 //! its eight coefficients and both ends of its constant; a place is a number from 0 to 8.
@@ -11,6 +11,8 @@
 //! - `assign TO M F`, `demand M F`: the words behind an assignment, and behind the demand that the form is at most 0.
 //! - `reclose TO M F`: the matrix is closed, the form is assigned, and the row of its cell is closed.
 //! - `add F F`, `scale BY F`: a form, or `none`.
+//! - `difference LOW HIGH LOW HIGH`: the ends of the differences of two ranges, whose ends have at most 18 digits.
+//! - `class CLASS CLASS`: the class of what has one of the two, which are `unknown` or `numeric`.
 #![tactic(auto)]
 
 mod cases;
@@ -18,7 +20,7 @@ mod inputs;
 mod rows;
 mod shown;
 
-use cases::answer_to;
+use cases::{answer_to, class_case};
 use inputs::numbers_of;
 use shown::written;
 use std::alloc::{AllocError, Global};
@@ -30,7 +32,11 @@ const NO_CASE: &str = "no case";
 fn answer(alloc: Global, line: &str) -> Result<String, AllocError> {
     let (call, words) = line.split_once(' ').unwrap_or((line, ""));
     let numbers = numbers_of(alloc, words)?;
-    match answer_to(call, numbers.as_slice()) {
+    let answer = match call {
+        "class" => class_case(words),
+        _ => answer_to(call, numbers.as_slice()),
+    };
+    match answer {
         Some(answer) => written(alloc, &answer),
         None => String::from_str(alloc, NO_CASE),
     }

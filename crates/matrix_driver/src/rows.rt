@@ -6,7 +6,7 @@ ghost use Rattle.diff_bounds.specs.Settled.{IsTightBut};
 use crate::inputs::{Input, bound_of};
 use crate::shown::Answer;
 use diff_bounds::{add_bound, close, close_row, closed_words_are_tight, settled};
-use form_bounds::assign;
+use linear_form::assign;
 
 // lowers a word of one row or of its column
 #[tactic(auto, using(diff_bounds::proofs::Tight::tight_but_one))]

@@ -1,4 +1,6 @@
 //! Answers, written.
+use cell_rows::Class;
+use decimal_interval::Interval;
 use linear_form::Lin;
 use std::alloc::{AllocError, Global};
 
@@ -9,6 +11,8 @@ pub enum Answer {
     Number(i128),
     Form(Lin),
     Words([i128; 81]),
+    Range(Interval),
+    Class(Class),
 }
 
 fn write_all(text: &mut String, numbers: &[i128]) -> Result<(), AllocError> {
@@ -18,12 +22,23 @@ fn write_all(text: &mut String, numbers: &[i128]) -> Result<(), AllocError> {
     Ok(())
 }
 
-fn write_form(text: &mut String, form: &Lin) -> Result<(), AllocError> {
-    write_all(text, &form.coefs)?;
-    write!(text, "{} {} ", form.constant.low, form.constant.high)
+fn write_range(text: &mut String, range: Interval) -> Result<(), AllocError> {
+    write!(text, "{} {} ", range.low, range.high)
 }
 
-/// The answer's numbers, with a blank behind each, or `none`.
+fn write_form(text: &mut String, form: &Lin) -> Result<(), AllocError> {
+    write_all(text, &form.coefs)?;
+    write_range(text, form.constant)
+}
+
+fn class_word(class: Class) -> &'static str {
+    match class {
+        Class::Unknown => "unknown",
+        Class::Numeric => "numeric",
+    }
+}
+
+/// The answer's numbers, with a blank behind each, or its class, or `none`.
 pub fn written(alloc: Global, answer: &Answer) -> Result<String, AllocError> {
     let mut text = String::new(alloc);
     match answer {
@@ -31,6 +46,8 @@ pub fn written(alloc: Global, answer: &Answer) -> Result<String, AllocError> {
         Answer::Number(number) => write!(text, "{number} ")?,
         Answer::Form(form) => write_form(&mut text, form)?,
         Answer::Words(words) => write_all(&mut text, words)?,
+        Answer::Range(range) => write_range(&mut text, *range)?,
+        Answer::Class(class) => text.push_str(class_word(*class))?,
     }
     Ok(text)
 }

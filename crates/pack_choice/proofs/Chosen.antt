@@ -9,9 +9,9 @@ use Rattle.cob_program.specs.Act.{Program}
 use Rattle.cob_runs.specs.declared.action.Cell.{Cell}
 use Rattle.cob_graph.specs.Graphs.{cells_of}
 use Rattle.cell_steps.specs.Homes.{of_item, homes_of}
-use Rattle.cell_homes.specs.Numbers.{item_of, number_of}
-use Rattle.cell_homes.proofs.NumberLemmas.{number_within}
-use Rattle.cell_homes.proofs.Parallel.{cells_same}
+use Rattle.cell_amounts.specs.Numbers.{item_of, number_of}
+use Rattle.cell_amounts.proofs.NumberLemmas.{number_within}
+use Rattle.cell_amounts.proofs.Parallel.{cells_same}
 use Rattle.pack_choice.specs.declared.mention.Mention.{Mention}
 use Rattle.pack_choice.specs.Mentions.{texts_of}
 use Rattle.pack_choice.specs.Firsts.{noted}

@@ -7,3 +7,5 @@ pub mod Fitting
 pub mod Rising
 pub mod PackUnits
 pub mod Examples
+pub mod Pushing
+pub mod ActCuts

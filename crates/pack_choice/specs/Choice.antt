@@ -9,7 +9,7 @@ use Rattle.cob_program.specs.Statements.{para_statements}
 use Rattle.cob_runs.specs.Contents.{form_at}
 use Rattle.cob_graph.specs.Graphs.{cells_of}
 use Rattle.cell_steps.specs.Homes.{of_item}
-use Rattle.cell_homes.specs.Numbers.{number_of}
+use Rattle.cell_amounts.specs.Numbers.{number_of}
 use Rattle.diff_bounds.specs.declared.Pack as declared
 use Rattle.pack_choice.specs.declared.mention.Mention.{Mention}
 use Rattle.pack_choice.specs.declared.mention.Mention.TheVariants as mention

@@ -7,7 +7,7 @@ ghost use Rattle.cob_program.specs.ActView.{plain_act, plain_paras, plain_progra
 ghost use Rattle.cob_program.specs.Statements.{plain_references};
 ghost use Rattle.cob_graph.specs.Graphs.{cells_of};
 ghost use Rattle.cell_steps.specs.Homes.{of_item};
-ghost use Rattle.cell_homes.specs.Numbers.{number_of};
+ghost use Rattle.cell_amounts.specs.Numbers.{number_of};
 ghost use Rattle.graph_runs.specs.Sources.{IsSourceGraph};
 ghost use Rattle.cert_text.specs.Allowed.{packs_fit};
 ghost use Rattle.pack_choice.specs.Mentions.{lists_of};
@@ -34,7 +34,7 @@ use crate::firsts::{holds, note};
 use crate::mention::Mention;
 use crate::reaching::whole_mentions;
 use crate::statements::{mentions_of, texts_of};
-use cell_homes::cell_of;
+use cell_amounts::cell_of;
 use cob_graph::Graph;
 use cob_program::{Act, Para, Program, Stmt, Turns};
 use cob_runs::Cell;

@@ -9,7 +9,7 @@ use std::alloc::AllocError;
 
 /// An item that is a receiver of arithmetic or stands in a relation, by its place, or a range of paragraphs that is
 /// performed, by the places of its first and its last one.
-#[derive(Clone, Copy, Debug)]
+#[derive(Clone, Copy)]
 pub enum Mention {
     Item(u32),
     Range(u32, u32),

@@ -7,7 +7,7 @@ use Rattle.linear_form.specs.declared.form.Lin.{Lin}
 use Rattle.linear_form.specs.Forms.{coef, IsSmallForm}
 use Rattle.linear_form.specs.Results.{added_coefs, scaled_coefs, sum_of, multiple_of}
 use Rattle.linear_form.proofs.Coefs.{coef-coefs_of}
-use Rattle.form_bounds.specs.Values.{IsOver}
+use Rattle.linear_form.specs.Values.{IsOver}
 use Rattle.sum_forms.specs.Constants.{constant_form}
 use Rattle.sum_forms.proofs.Working.{nones, none_coefs}
 use Rattle.pack_forms.specs.Forms.{IsFormOf}

@@ -55,3 +55,12 @@ quotient_below a b low high e f none =
     let missing : int_le (pos 1) b.units.high ≡ false = subst (λ (z : ℤ). int_le (pos 1) z ≡ false) f none in
     ap (λ (z : ℤ). int_lt z (pos 0)) e ∙ below_zero b.units.low
     ∙ sym (there ∙ ap (λ t. t || int_le (pos 1) (neg_ℤ b.units.low)) missing)
+
+-- where it has one, there is a quotient
+pub quotient_above : (a b : Ranged) (high : ℤ) → high ≡ b.units.high → int_le (pos 1) high ≡ true → true ≡ is_some (quotient_range a b)
+quotient_above a b high f some =
+    let up = pos (shift a b) in
+    let there = mapped_there (λ i. ranged i (quotient_scale a.scale b.scale)) (quotients up a.units b.units)
+    ∙ either_there (int_le (pos 1) b.units.high) (int_le (pos 1) (neg_ℤ b.units.low)) _ _ in
+    let has : int_le (pos 1) b.units.high ≡ true = subst (λ (z : ℤ). int_le (pos 1) z ≡ true) f some in
+    sym (there ∙ ap (λ t. t || int_le (pos 1) (neg_ℤ b.units.low)) has)

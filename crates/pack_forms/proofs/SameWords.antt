@@ -8,11 +8,11 @@ use Rattle.std.proofs.lemmas.List.FromFn.{fill_by_all}
 use Rattle.linear_form.specs.declared.form.Lin.{Lin}
 use Rattle.diff_bounds.specs.Matrix.{word, none, largest, IsBound, IsWord, IsMatrix}
 use Rattle.diff_bounds.proofs.Places.{place_fits}
-use Rattle.form_bounds.specs.Numbers.{word_of}
-use Rattle.form_bounds.specs.Upper.{coef_at}
-use Rattle.form_bounds.specs.Assigned.{upper_less, less_upper, AreAssigned}
-use Rattle.form_bounds.specs.Demanded.{AreDemanded, lowered}
-use Rattle.form_bounds.specs.Forgotten.{AreForgotten}
+use Rattle.linear_form.specs.Numbers.{word_of}
+use Rattle.linear_form.specs.Upper.{coef_at}
+use Rattle.linear_form.specs.Assigned.{upper_less, less_upper, AreAssigned}
+use Rattle.linear_form.specs.Demanded.{AreDemanded, lowered}
+use Rattle.linear_form.specs.Forgotten.{AreForgotten}
 use Rattle.diff_steps.specs.Matrices.{with_words, forgotten, assigned, demanded, lesser}
 
 pub with_words_is : (size : ℕ) (m : List ℤ) (w : ℕ → ℕ → ℤ) → length m ≡ (size + 1) * (size + 1) → ((i j : ℕ) → i < size + 1 → j < size + 1 → word (size + 1) m i j ≡ w i j) → m ≡ with_words size w

@@ -8,9 +8,9 @@ use Rattle.linear_form.proofs.Coefs.{length-coefs_of}
 use Rattle.linear_form.proofs.Computed.{computed}
 use Rattle.diff_bounds.specs.Matrix.{none}
 use Rattle.cob_program.specs.Values.{◌>>=◌}
-use Rattle.form_bounds.specs.Numbers.{word_of}
-use Rattle.form_bounds.specs.Upper.{upper_of}
-use Rattle.form_bounds.proofs.Bounded.{IsNumber}
+use Rattle.linear_form.specs.Numbers.{word_of}
+use Rattle.linear_form.specs.Upper.{upper_of}
+use Rattle.linear_form.proofs.Bounded.{IsNumber}
 use Rattle.diff_steps.specs.Stores.{upper_negated}
 
 -- a word that is no number

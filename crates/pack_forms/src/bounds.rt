@@ -2,17 +2,15 @@
 ghost use Rattle.std.specs.Prelude.{◌≡◌, ◌<◌, ◌≤◌, IfSome};
 ghost use Rattle.linear_form.specs.Forms.{IsSmallForm};
 ghost use Rattle.diff_bounds.specs.Matrix.{IsMatrix};
-ghost use Rattle.form_bounds.specs.Upper.{upper_of};
+ghost use Rattle.linear_form.specs.Upper.{upper_of};
 ghost use Rattle.diff_steps.specs.Stores.{is_low as is_low_bound, upper_negated, known_of_range as range_known, known_of_amount as amount_known};
 ghost use Rattle.diff_steps.specs.Clearing.{is_negative as is_negative_bound};
 ghost use Rattle.pack_forms.specs.Ends.{IsNumber};
 ghost use Rattle.pack_forms.specs.Forms.{IsFormOf};
 ghost use Rattle.pack_forms.specs.Receiving.{upper_if, upper_negated_if, is_apart};
 
-use form_bounds::{negated, upper};
-use linear_form::Lin;
+use linear_form::{Known, Lin, negated, upper};
 use result_ranges::AmountRange;
-use store_error::Known;
 use sum_ranges::Ranged;
 
 // the word of no bound

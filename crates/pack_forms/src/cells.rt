@@ -11,7 +11,7 @@ use cob_data::Layout;
 use dec_num::pow10;
 
 /// What a cell of a pack is of.
-#[derive(Clone, Copy, Debug, PartialEq, Eq)]
+#[derive(Clone, Copy, PartialEq, Eq)]
 pub enum PackCell {
     /// The item at a place.
     Item(u32),

@@ -17,7 +17,7 @@ use decimal_interval::Interval;
 use diff_bounds::{add_bound, close, close_row, settled};
 
 /// What is known of a cell of a pack.
-#[derive(Clone, Copy, Debug, PartialEq, Eq)]
+#[derive(Clone, Copy, PartialEq, Eq)]
 pub struct KnownCell {
     /// An interval of the cell's own units, or anything.
     pub known: Option<Interval>,

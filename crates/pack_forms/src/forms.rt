@@ -1,6 +1,6 @@
 //! Forms with another sign, and with an error.
 ghost use Rattle.std.specs.Prelude.{◌≡◌, ◌≤ℤ◌, ℕ, true, IfSome};
-ghost use Rattle.form_bounds.specs.Values.{IsOver};
+ghost use Rattle.linear_form.specs.Values.{IsOver};
 ghost use Rattle.sum_forms.specs.Constants.{constant_form};
 ghost use Rattle.sum_forms.specs.SumForms.{turned_form, turned_if};
 ghost use Rattle.diff_steps.specs.Stores.{widened_form};

@@ -19,7 +19,7 @@ use Rattle.cob_runs.specs.Contents.{form_at, bytes_at, scale_of, scaled_by, numb
 use Rattle.cob_runs.specs.Computing as computing
 use Rattle.cob_runs.specs.Computing.{items_in, items_in_atom, are_numeric}
 use Rattle.cob_edge_parts.specs.Meaning.{count_in}
-use Rattle.form_bounds.specs.Values.{worth, worths}
+use Rattle.linear_form.specs.Values.{worth, worths}
 use Rattle.sum_ranges.specs.Ranged.{decimal, ranged, point, IsIn}
 use Rattle.sum_ranges.specs.SumRanges.{sum_range}
 use Rattle.sum_ranges.proofs.Least.{point_in}

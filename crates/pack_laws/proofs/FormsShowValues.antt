@@ -9,8 +9,8 @@ use Rattle.cob_program.proofs.Steps.{some_same}
 use Rattle.linear_form.specs.declared.form.Lin.{Lin}
 use Rattle.linear_form.specs.Forms.{if_small}
 use Rattle.linear_form.specs.Results.{sum_of, multiple_of}
-use Rattle.form_bounds.specs.Upper.{coef_at}
-use Rattle.form_bounds.specs.Values.{worth, worths, HasValue}
+use Rattle.linear_form.specs.Upper.{coef_at}
+use Rattle.linear_form.specs.Values.{worth, worths, HasValue}
 use Rattle.sum_ranges.specs.declared.ranged.Ranged.{Ranged}
 use Rattle.sum_ranges.specs.Ranged.{decimal, point, IsIn}
 use Rattle.sum_ranges.proofs.Least.{point_in}

@@ -15,11 +15,11 @@ use Rattle.linear_form.specs.Results.{scaled_constant, sum_of, multiple_of}
 use Rattle.linear_form.proofs.Dots.{dot_of_multiples}
 use Rattle.diff_bounds.specs.Matrix.{word}
 use Rattle.diff_bounds.specs.Storages.{StandsIn}
-use Rattle.form_bounds.specs.Values.{worths, IsOver}
-use Rattle.form_bounds.specs.Demanded.{IsMet}
+use Rattle.linear_form.specs.Values.{worths, IsOver}
+use Rattle.linear_form.specs.Demanded.{IsMet}
 use Rattle.sum_ranges.specs.Ranged.{decimal}
-use Rattle.store_error.specs.Scales.{Spans}
-use Rattle.store_error.proofs.Scales.{times_cancel}
+use Rattle.linear_form.specs.Scales.{Spans}
+use Rattle.linear_form.proofs.Scales.{times_cancel}
 use Rattle.sum_forms.specs.Constants.{constant_form}
 use Rattle.sum_forms.specs.SumForms.{turned_form}
 use Rattle.sum_forms.proofs.Multiples.{spans_times}

@@ -21,12 +21,12 @@ use Rattle.linear_form.specs.Results.{multiple_of}
 use Rattle.linear_form.proofs.Dots.{dot_of_multiples}
 use Rattle.diff_bounds.specs.Matrix.{word}
 use Rattle.diff_bounds.specs.Storages.{StandsIn}
-use Rattle.form_bounds.specs.Numbers.{IsAbove}
-use Rattle.form_bounds.specs.Upper.{coef_at, upper_of}
-use Rattle.form_bounds.specs.Values.{worths, total, IsOver}
-use Rattle.form_bounds.proofs.Forms.{total_of_form}
-use Rattle.form_bounds.proofs.Sound.{upper_above}
-use Rattle.store_error.proofs.Scales.{times_monotone}
+use Rattle.linear_form.specs.Numbers.{IsAbove}
+use Rattle.linear_form.specs.Upper.{coef_at, upper_of}
+use Rattle.linear_form.specs.Values.{worths, total, IsOver}
+use Rattle.linear_form.proofs.Forms.{total_of_form}
+use Rattle.linear_form.proofs.Sound.{upper_above}
+use Rattle.linear_form.proofs.Scales.{times_monotone}
 use Rattle.sum_ranges.specs.Ranged.{decimal}
 use Rattle.sum_forms.specs.SumForms.{turned_form}
 use Rattle.sum_forms.proofs.Shows.{if_there}

@@ -18,9 +18,9 @@ use Rattle.cob_runs.specs.Contents.{form_at}
 use Rattle.cob_edge_parts.specs.Parts.{Amount, Part, read, unread, divide, store, bytes_in, guard, read_count, set_count, count_down, guard_count, has_phrase}
 use Rattle.linear_form.specs.declared.form.Lin.{Lin}
 use Rattle.diff_bounds.specs.Matrix.{word}
-use Rattle.form_bounds.specs.Numbers.{IsUnder}
-use Rattle.form_bounds.specs.Upper.{upper_of}
-use Rattle.form_bounds.specs.Values.{AreLower}
+use Rattle.linear_form.specs.Numbers.{IsUnder}
+use Rattle.linear_form.specs.Upper.{upper_of}
+use Rattle.linear_form.specs.Values.{AreLower}
 use Rattle.sum_ranges.specs.declared.ranged.Ranged.{Ranged}
 use Rattle.sum_ranges.specs.SumRanges.{atom_range}
 use Rattle.sum_ranges.specs.Vanishing.{holds_zero}

@@ -15,7 +15,7 @@ use Rattle.diff_bounds.specs.Closed.{opened, lesser, through, is_tame, sums_furt
 use Rattle.diff_steps.specs.Matrices.{with_words}
 use Rattle.pack_laws.proofs.Words.{word_at}
 use Rattle.pack_laws.proofs.PacksPutRise.{IsFlat}
-use Rattle.form_bounds.proofs.Numbers.{cut_above}
+use Rattle.linear_form.proofs.Numbers.{cut_above}
 
 differ_sum : (c d : ℤ) (x y z : Option ℤ) → DifferBy c x y → DifferBy d y z → DifferBy (c +ℤ d) x z
 differ_sum c d (Some x) (Some y) (Some z) h k = omega (arith, ints, h, k)

@@ -15,8 +15,8 @@ use Rattle.linear_form.specs.declared.form.Lin.{Lin}
 use Rattle.linear_form.specs.Forms.{coef, dot}
 use Rattle.diff_bounds.specs.Matrix.{word}
 use Rattle.diff_bounds.specs.Storages.{StandsIn}
-use Rattle.form_bounds.specs.Values.{worths}
-use Rattle.form_bounds.specs.Assigned.{with_value, IsValue}
+use Rattle.linear_form.specs.Values.{worths}
+use Rattle.linear_form.specs.Assigned.{with_value, IsValue}
 use Rattle.cell_rows.specs.Known.{Known}
 use Rattle.cell_steps.specs.Homes.{Home, of_item, of_count, is_home}
 use Rattle.cell_steps.specs.Storages as values

@@ -20,10 +20,10 @@ use Rattle.linear_form.specs.declared.form.Lin.{Lin}
 use Rattle.linear_form.specs.Forms.{coef, dot}
 use Rattle.diff_bounds.specs.Matrix.{word}
 use Rattle.diff_bounds.specs.Storages.{StandsIn}
-use Rattle.form_bounds.specs.Values.{worths}
-use Rattle.form_bounds.specs.Assigned.{with_value}
-use Rattle.store_error.specs.Errors.{AreSure}
-use Rattle.store_error.specs.Scales.{Spans}
+use Rattle.linear_form.specs.Values.{worths}
+use Rattle.linear_form.specs.Assigned.{with_value}
+use Rattle.linear_form.specs.Errors.{AreSure}
+use Rattle.linear_form.specs.Scales.{Spans}
 use Rattle.result_ranges.specs.declared.amounts.AmountRange.{AmountRange}
 use Rattle.result_ranges.specs.declared.amounts.AmountRange.TheVariants as range
 use Rattle.result_ranges.specs.Receivers.{receiver_of, kept_units}

@@ -14,7 +14,7 @@ use Rattle.cob_runs.specs.Deciding.{below, equal, above, holds}
 use Rattle.cob_edge_parts.specs.Parts.{Part, read, unread, divide, store, bytes_in, guard, read_count, set_count, count_down, guard_count}
 use Rattle.linear_form.specs.declared.form.Lin.{Lin}
 use Rattle.diff_bounds.specs.Matrix.{word, IsMatrix}
-use Rattle.form_bounds.specs.Values.{AreLower}
+use Rattle.linear_form.specs.Values.{AreLower}
 use Rattle.sum_ranges.specs.declared.ranged.Ranged.{Ranged}
 use Rattle.sum_ranges.specs.Ranged as range
 use Rattle.sum_ranges.specs.SumRanges.{sum_range}

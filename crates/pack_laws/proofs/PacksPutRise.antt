@@ -9,7 +9,7 @@ use Rattle.cob_data.specs.declared.layout.Layout.{Layout}
 use Rattle.cob_program.specs.Values.{◌>>=◌}
 use Rattle.cob_program.specs.Act.{Program}
 use Rattle.diff_bounds.specs.Matrix.{word, IsMatrix}
-use Rattle.form_bounds.specs.Values.{AreLower}
+use Rattle.linear_form.specs.Values.{AreLower}
 use Rattle.cell_rows.specs.Known.{Known, KnownBelow}
 use Rattle.cell_rows.specs.Elements.{CellsBelow}
 use Rattle.cell_steps.specs.Homes.{Home, homes_of}

@@ -13,8 +13,8 @@ use Rattle.cob_edge_parts.specs.Parts.{Amount, moved, computed, remaining, augme
 use Rattle.linear_form.specs.declared.form.Lin.{Lin}
 use Rattle.linear_form.specs.Results.{IsNarrower}
 use Rattle.diff_bounds.specs.Matrix.{word, none, IsMatrix}
-use Rattle.form_bounds.specs.Values.{AreLower}
-use Rattle.store_error.specs.Errors.{IsSurer}
+use Rattle.linear_form.specs.Values.{AreLower}
+use Rattle.linear_form.specs.Errors.{IsSurer}
 use Rattle.sum_ranges.specs.declared.ranged.Ranged.{Ranged}
 use Rattle.sum_ranges.specs.Ranged as range
 use Rattle.sum_ranges.specs.SumRanges.{sum_range}

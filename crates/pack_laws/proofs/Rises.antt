@@ -10,15 +10,15 @@ use Rattle.linear_form.specs.declared.form.Lin.{Lin}
 use Rattle.linear_form.specs.Forms.{is_small}
 use Rattle.linear_form.specs.Results.{IsNarrower}
 use Rattle.diff_bounds.specs.Matrix.{word, none, IsWord}
-use Rattle.form_bounds.specs.Numbers.{word_of}
-use Rattle.form_bounds.specs.Upper.{upper, coef_at}
-use Rattle.form_bounds.specs.Values.{AreLower}
-use Rattle.form_bounds.proofs.Bounded.{upper_is_word}
-use Rattle.form_bounds.specs.Assigned.{less_place, negated}
-use Rattle.form_bounds.proofs.Assigned.{assigned_lower}
-use Rattle.store_error.specs.declared.known.Known as sure
-use Rattle.store_error.specs.Errors.{one_sided, error_in, IsSurer}
-use Rattle.store_error.proofs.Surer.{surer_inside}
+use Rattle.linear_form.specs.Numbers.{word_of}
+use Rattle.linear_form.specs.Upper.{upper, coef_at}
+use Rattle.linear_form.specs.Values.{AreLower}
+use Rattle.linear_form.proofs.Bounded.{upper_is_word}
+use Rattle.linear_form.specs.Assigned.{less_place, negated}
+use Rattle.linear_form.proofs.Assigned.{assigned_lower}
+use Rattle.linear_form.specs.declared.known.Known as sure
+use Rattle.linear_form.specs.Errors.{one_sided, error_in, IsSurer}
+use Rattle.linear_form.proofs.Surer.{surer_inside}
 use Rattle.sum_forms.specs.Constants.{constant_form}
 use Rattle.sum_forms.specs.SumForms.{turned_form}
 use Rattle.sum_forms.specs.Values.{IsNarrowerIfAny}

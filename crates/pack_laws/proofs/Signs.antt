@@ -13,15 +13,15 @@ use Rattle.linear_form.proofs.Coefs.{coef-coefs_of}
 use Rattle.linear_form.proofs.Dots.{dot_of_multiples}
 use Rattle.diff_bounds.specs.Matrix.{word}
 use Rattle.diff_bounds.specs.Storages.{StandsIn}
-use Rattle.form_bounds.specs.Numbers.{IsAbove}
-use Rattle.form_bounds.specs.Upper.{upper_of}
-use Rattle.form_bounds.specs.Values.{worths, values_in, IsOver}
-use Rattle.form_bounds.proofs.Forms.{form_above}
+use Rattle.linear_form.specs.Numbers.{IsAbove}
+use Rattle.linear_form.specs.Upper.{upper_of}
+use Rattle.linear_form.specs.Values.{worths, values_in, IsOver}
+use Rattle.linear_form.proofs.Forms.{form_above}
 use Rattle.sum_ranges.specs.declared.ranged.Ranged.{Ranged}
 use Rattle.sum_ranges.specs.Ranged.{IsIn}
-use Rattle.store_error.specs.Errors.{AreSure}
-use Rattle.store_error.specs.Scales.{Spans}
-use Rattle.store_error.proofs.Scales.{times_cancel}
+use Rattle.linear_form.specs.Errors.{AreSure}
+use Rattle.linear_form.specs.Scales.{Spans}
+use Rattle.linear_form.proofs.Scales.{times_cancel}
 use Rattle.sum_forms.specs.SumForms.{turned_form}
 use Rattle.sum_forms.proofs.Shows.{if_there}
 use Rattle.diff_steps.specs.Stores.{is_low, upper_negated, known_of_range}

@@ -5,11 +5,11 @@ use Rattle.cob_program.specs.Values.{◌>>=◌}
 use Rattle.linear_form.specs.declared.form.Lin.{Lin}
 use Rattle.linear_form.specs.Results.{IsNarrower}
 use Rattle.diff_bounds.specs.Matrix.{word}
-use Rattle.form_bounds.specs.Numbers.{IsUnder}
-use Rattle.form_bounds.specs.Upper.{upper, coef_at, upper_of}
-use Rattle.form_bounds.specs.Values.{AreLower}
-use Rattle.form_bounds.proofs.Mono.{upper_under}
-use Rattle.store_error.specs.Errors.{IsSurer}
+use Rattle.linear_form.specs.Numbers.{IsUnder}
+use Rattle.linear_form.specs.Upper.{upper, coef_at, upper_of}
+use Rattle.linear_form.specs.Values.{AreLower}
+use Rattle.linear_form.proofs.Mono.{upper_under}
+use Rattle.linear_form.specs.Errors.{IsSurer}
 use Rattle.sum_ranges.specs.declared.ranged.Ranged.{Ranged}
 use Rattle.sum_ranges.specs.Ranged as range
 use Rattle.sum_forms.specs.SumForms.{turned_form}

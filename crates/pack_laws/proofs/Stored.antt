@@ -18,13 +18,13 @@ use Rattle.linear_form.proofs.Coefs.{coef-coefs_of}
 use Rattle.linear_form.proofs.Dots.{dot_of_multiples}
 use Rattle.diff_bounds.specs.Matrix.{word}
 use Rattle.diff_bounds.specs.Storages.{StandsIn}
-use Rattle.form_bounds.specs.Values.{worths, IsOver}
-use Rattle.form_bounds.specs.Assigned.{with_value, AreOperands, IsValue}
-use Rattle.store_error.specs.declared.known.Known as sure
-use Rattle.store_error.specs.Errors.{error_in, stored_units, AreSure}
-use Rattle.store_error.specs.Scales.{Spans, IsBetween}
-use Rattle.store_error.proofs.Rounds.{within}
-use Rattle.store_error.proofs.Scales.{stored_between}
+use Rattle.linear_form.specs.Values.{worths, IsOver}
+use Rattle.linear_form.specs.Assigned.{with_value, AreOperands, IsValue}
+use Rattle.linear_form.specs.declared.known.Known as sure
+use Rattle.linear_form.specs.Errors.{error_in, stored_units, AreSure}
+use Rattle.linear_form.specs.Scales.{Spans, IsBetween}
+use Rattle.linear_form.proofs.Rounds.{within}
+use Rattle.linear_form.proofs.Scales.{stored_between}
 use Rattle.sum_forms.specs.Constants.{constant_form}
 use Rattle.sum_forms.specs.SumForms.{turned_form}
 use Rattle.sum_forms.proofs.Shows.{if_there}

@@ -39,7 +39,7 @@ ArePacksOf p (pack ∷ packs) = IsPackOf p pack × ArePacksOf p packs
 -- ---- moments
 
 module _ (p : Program) (packs : List Pack) (statement : ℕ) (a : Act) (x : Action) where
-  -- behind these parts
+  -- a moment behind these parts agrees with what is known of cells and of their differences there
   pub record Agrees2 (done : List Part) (s : Seen) (r : Seen2) (m : Moment) : Type 0 where
     pub cells : Agrees p statement a x done s m
     pub tracked : IsTracked p.layout r.wrote m

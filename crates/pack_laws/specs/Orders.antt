@@ -4,9 +4,9 @@ use Rattle.dec_num.specs.declared.types.Scaled.{Scaled}
 use Rattle.linear_form.specs.declared.form.Lin.{Lin}
 use Rattle.linear_form.specs.Forms.{coef, dot}
 use Rattle.diff_bounds.specs.Matrix.{word}
-use Rattle.form_bounds.specs.Values.{worths, IsOver}
-use Rattle.form_bounds.specs.Assigned.{AreOperands}
-use Rattle.store_error.specs.Scales.{Spans}
+use Rattle.linear_form.specs.Values.{worths, IsOver}
+use Rattle.linear_form.specs.Assigned.{AreOperands}
+use Rattle.linear_form.specs.Scales.{Spans}
 
 -- the decimal is one of the numbers that a form over the pack's cells can be, in units of so many decimals
 pub record IsShown (size : ℕ) (cells : ℕ → Option ℤ) (form : Lin) (d : Scaled) (f : ℕ) : Type 0 where

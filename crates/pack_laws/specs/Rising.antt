@@ -7,9 +7,9 @@ use Rattle.cob_runs.specs.declared.action.Action.{Action}
 use Rattle.cob_edge_parts.specs.Parts.{Amount}
 use Rattle.linear_form.specs.declared.form.Lin.{Lin}
 use Rattle.linear_form.specs.Results.{IsNarrower}
-use Rattle.form_bounds.specs.Values.{AreLower}
+use Rattle.linear_form.specs.Values.{AreLower}
 use Rattle.diff_bounds.specs.Matrix.{word}
-use Rattle.store_error.specs.Errors.{IsSurer}
+use Rattle.linear_form.specs.Errors.{IsSurer}
 use Rattle.sum_ranges.specs.declared.ranged.Ranged.{Ranged}
 use Rattle.sum_ranges.specs.SumRanges.{sum_range, atom_range}
 use Rattle.sum_forms.specs.SumForms.{atom_form}

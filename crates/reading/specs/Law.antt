@@ -66,7 +66,7 @@ module _ {T I M A : Type 0} where
     pub complete : (a : A) (text rest : List T) → Matches G (s.print a) text → s.Good a → Below G top (s.print a) → Next G (s.takes a) rest → r (text ++ rest) ≡ Ok (a, rest)
     -- reading ends no sooner than it must
     pub fails : (ts : List T) (fault : Fault) → r ts ≡ Err fault → Fails G s top ts fault
-    -- nor later: where it stops before a token, no tree's text goes on with that token
+    -- reading ends no later than it must: where it stops before a token, no tree's text goes on with that token
     pub firm : (q r' z text rest : List T) (t : T) (a : A) → r (q ++ t ∷ r') ≡ Err (Stop (suc (length r'))) → Matches G (s.print a) text → s.Good a → Below G top (s.print a) → Next G (s.takes a) rest → text ++ rest ≡ q ++ t ∷ z → ⊥
 
 -- Where there is too little room before a token, each tree whose text goes on with that token opens one too many there.

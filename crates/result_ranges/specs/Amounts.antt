@@ -41,7 +41,7 @@ pub record IsNarrowerTaken (a b : Taken) : Type 0 where
   pub top : IsNarrower a.top b.top
   pub under : IsNarrowerIfAny a.under b.under
 
--- so it is, or there is nothing
+-- the first is narrower than the second, or there is no first
 abbrev pub IsNarrowerTakenIfAny : Option Taken → Option Taken → Type 0
 IsNarrowerTakenIfAny None b = Unit {0}
 IsNarrowerTakenIfAny (Some a) None = ⊥

@@ -16,7 +16,7 @@ use sum_ranges::{Ranged, plus_range, turned};
 
 /// What a store may do: the units that the receiver holds behind it where a result fits, if some may, and whether one
 /// may not fit.
-#[derive(Clone, Copy, Debug, PartialEq, Eq)]
+#[derive(Clone, Copy, PartialEq, Eq)]
 pub struct Stored {
     pub units: Option<Interval>,
     pub may_fail: bool,

@@ -6,7 +6,7 @@ use Rattle.cob_interp.specs.declared.ends.RunEnd.{RunEnd}
 use Rattle.cob_interp.specs.declared.ends.RunEnd.TheVariants as run
 use Rattle.cob_runs.specs.Files.{status_bytes}
 use Rattle.cob_tree.specs.declared.fault.Kind.{Kind}
-use Rattle.alarm_report.specs.Text.{line_end, kind_text}
+use Rattle.command_answers.specs.ReportText.{line_end, kind_text}
 use Rattle.command_answers.specs.Text.{memory_line, read_fault_line, write_fault_line}
 
 -- the external name of the file at a place

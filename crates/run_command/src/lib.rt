@@ -8,6 +8,3 @@ mod task;
 mod text;
 
 pub use task::{Task, run, task_for};
-
-#[cfg(test)]
-mod tests;

@@ -2,10 +2,10 @@
 ghost use Rattle.std.specs.Prelude.{◌≡◌, ◌++◌, OnOk, IfOk};
 ghost use Rattle.run_command.specs.Text.{external_at, fault_line, number_line, ragged_line, run_text, stop_line};
 
-use alarm_report::{kind_text, push_number};
 use cob_data::FileDecl;
 use cob_interp::RunEnd;
 use cob_tree::Kind;
+use command_answers::{kind_text, push_number};
 use std::alloc::{AllocError, Global};
 
 // The external name of the file at a place.

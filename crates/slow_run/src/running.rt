@@ -4,8 +4,8 @@ ghost use Rattle.cob_items.specs.WellFormed.{HasWellFormedItems};
 ghost use Rattle.cob_world.specs.Doing.{CanDoProgram};
 
 use cob_data::FileDecl;
-use cob_meaning::Outcome;
 use cob_program::Program;
+use cob_runs::Outcome;
 use cob_step::{Run, begin, step};
 use cob_tree::Kind;
 use std::alloc::{AllocError, Global};

@@ -1,6 +1,6 @@
 -- A program keeps the rules on PERFORM and GO TO, and then has a graph within the limits or more cells or nodes; or it
 -- breaks a first rule.
-use Rattle.std.proofs.Common.{◌≡◌, ◌≤◌, ◌<◌, ◌⊎◌, ⊎_elim, ℕ, List, length, map, min, Option, Some, None, refl, sym, subst, inl, inr, arith}
+use Rattle.std.proofs.Common.{◌≤◌, ◌<◌, ◌⊎◌, ⊎_elim, ℕ, List, length, map, min, Option, Some, None, refl, sym, subst, inl, inr, arith}
 use Rattle.std.proofs.lemmas.Bool.{cases_lt}
 use Rattle.cob_data.specs.declared.end.Rule.{Rule}
 use Rattle.cob_data.specs.declared.end.Which.TheVariants as which
@@ -8,7 +8,7 @@ use Rattle.cob_data.specs.Layouts.{layout}
 use Rattle.cob_program.specs.Act.{Program}
 use Rattle.cob_graph.specs.Broken.{IsFirst, told, cycle_at, crossings, leavings, reversed_at, least_below}
 use Rattle.cob_graph.specs.Covering.{Covers}
-use Rattle.cob_graph.specs.Graphs.{IsMainCopy, HasNodes, IsGraph, cells_of, all_nodes, as_node, edges_of, final_of, most_told}
+use Rattle.cob_graph.specs.Graphs.{IsMainCopy, HasNodes, cells_of, all_nodes, as_node, edges_of, final_of, most_told}
 use Rattle.cob_graph.specs.Laid.{LaidParas}
 use Rattle.cob_graph.specs.Nesting.{Call, IsNested, IsOutside, found_all}
 use Rattle.cob_graph.proofs.FirstLemmas.{first_is}

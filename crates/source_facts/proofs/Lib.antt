@@ -1,3 +1,4 @@
+mod Joined
 pub mod Numbers
 pub mod Facts
 pub mod Examples

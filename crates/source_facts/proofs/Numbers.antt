@@ -1,11 +1,11 @@
 -- Typing numbers statements in the order of the source.
-use Rattle.std.proofs.Common.{◌≡◌, inl, inr, ℕ, ◌+◌, ◌-◌, ◌<◌, ◌≤◌, zero, suc, List, [], ◌∷◌, ◌++◌, map, append_assoc, Option, Some, None, refl, ap, ◌∙◌, sym, subst, arith}
+use Rattle.std.proofs.Common.{◌≡◌, inl, inr, ℕ, ◌+◌, ◌-◌, ◌<◌, ◌≤◌, zero, suc, List, [], ◌∷◌, ◌++◌, map, Option, Some, None, refl, ap, ◌∙◌, sym, subst, arith}
 use Rattle.std.specs.Prelude.{slice_get}
 use Rattle.std.specs.List.{range_with_len}
 use Rattle.cob_tree.specs.Stmt as tree
 use Rattle.cob_data.specs.declared.layout.Flag.{Flag}
 use Rattle.cob_data.specs.declared.layout.Layout.{Layout}
-use Rattle.cob_program.specs.Act.{Stmt, MkStmt, Stmts, no_stmts, more_stmts, Phrase, left_out, given, Act, Program}
+use Rattle.cob_program.specs.Act.{Stmt, MkStmt, Stmts, Phrase, left_out, given, Act, Program}
 use Rattle.cob_program.specs.Statements.{list_statements, phrase_statements, with_inner_statements, inner_statements, whens_statements, paras_statements, program_statements}
 use Rattle.cob_typed_exprs.specs.Judged.{Judged}
 use Rattle.cob_typed_exprs.specs.Scope.{Scope}
@@ -19,6 +19,7 @@ use Rattle.data_laws.specs.Statements.{IsIn}
 use Rattle.data_laws.proofs.Listed.{found_is_listed}
 use Rattle.graph_runs.specs.Sources.{StatementsAreCounted}
 use Rattle.source_facts.specs.Statements.{number_of, AreNumberedInOrder}
+use Rattle.source_facts.proofs.Joined.{joined_list}
 
 -- ---- numbers from lo on to before hi
 
@@ -119,11 +120,7 @@ module _ (s : Scope) where
 
   joined_order : (lo mid hi : ℕ) (xs ys : Stmts) → AreNumbered lo mid (list_statements xs) → AreNumbered mid hi (list_statements ys) →
       AreNumbered lo hi (list_statements (joined xs ys))
-  joined_order lo mid hi xs ys first second = subst (AreNumbered lo hi) (sym (joined_list xs)) (two lo mid hi (list_statements xs) (list_statements ys) first second) where
-    joined_list : (zs : Stmts) → list_statements (joined zs ys) ≡ list_statements zs ++ list_statements ys
-    joined_list no_stmts = refl
-    joined_list (more_stmts z zs) =
-        ap (λ t. with_inner_statements z ++ t) (joined_list zs) ∙ sym (append_assoc (with_inner_statements z) (list_statements zs) (list_statements ys))
+  joined_order lo mid hi xs ys first second = subst (AreNumbered lo hi) (sym (joined_list xs ys)) (two lo mid hi (list_statements xs) (list_statements ys) first second)
 
   sentences_order : (n : ℕ) (ss : List tree.Stmts) → AreNumbered n (typed_sentences s n ss).next (list_statements (typed_sentences s n ss).value)
   sentences_order n [] = refl

@@ -1,5 +1,5 @@
 -- Each GO TO of a source's program goes to a paragraph of it.
-use Rattle.std.proofs.Common.{◌≡◌, ℕ, ◌+◌, ◌<◌, ◌≤◌, zero, suc, Bool, true, false, List, [], ◌∷◌, ◌++◌, length, map, append_assoc, Option, Some, None, refl, sym, ap, ◌∙◌, subst, arith}
+use Rattle.std.proofs.Common.{◌≡◌, ℕ, ◌+◌, ◌<◌, ◌≤◌, zero, suc, Bool, true, false, List, [], ◌∷◌, ◌++◌, length, Option, Some, None, refl, sym, ap, subst, arith}
 use Rattle.std.proofs.lemmas.List.{length-map}
 use Rattle.std.specs.Prelude.{Contains, slice_get}
 use Rattle.std.specs.List.{AllByRecursion}
@@ -7,9 +7,9 @@ use Rattle.std.specs.Str.{bytes_eq}
 use Rattle.cob_tree.specs.Stmt as tree
 use Rattle.cob_data.specs.declared.layout.Flag.{Flag}
 use Rattle.cob_data.specs.declared.layout.Layout.{Layout}
-use Rattle.cob_program.specs.Act.{Stmt, MkStmt, Stmts, no_stmts, more_stmts, Phrase, left_out, given, Act, perform, go, range, inline, Para, Program}
+use Rattle.cob_program.specs.Act.{Stmt, MkStmt, Stmts, Phrase, left_out, given, Act, perform, go, range, inline, Para}
 use Rattle.cob_program.specs.Statements.{list_statements, phrase_statements, with_inner_statements, inner_statements, whens_statements, para_statements}
-use Rattle.cob_graph.specs.Nesting.{Jump, found_act, found_at, found, found_among, found_all}
+use Rattle.cob_graph.specs.Nesting.{Jump, found_act, found, found_among, found_all}
 use Rattle.cob_graph_build.specs.MainCopies.{HasTargets}
 use Rattle.cob_typed_exprs.specs.Judged.{Judged}
 use Rattle.cob_typed_exprs.specs.Scope.{Scope, place_if, found_in, paras_from, exactly_one, the_para}
@@ -19,6 +19,7 @@ use Rattle.cob_typed_verbs.specs.Verbs.{set_flag, set_if}
 use Rattle.cob_typed_verbs.specs.Arithmetic.{Worked, add_to, add_giving, subtract_from, subtract_giving, multiply_by, multiply_giving, divide_into, divide_giving, compute}
 use Rattle.cob_typed.specs.Statements.{stmts_if, typed_stmts, typed_stmt, typed_phrase, typed_arith, typed_whens, typed_verb}
 use Rattle.cob_typed.specs.Typing.{scope_of, joined, typed_sentences, typed_paras, typed}
+use Rattle.source_facts.proofs.Joined.{joined_list}
 
 -- ---- statements whose GO TOs go to one of the first so many paragraphs
 
@@ -175,11 +176,7 @@ module _ (s : Scope) (limit : ℕ) (few : length s.paras < limit) where
   -- ---- sentences and paragraphs
 
   joined_go : (xs ys : Stmts) → AreWithin limit (list_statements xs) → AreWithin limit (list_statements ys) → AreWithin limit (list_statements (joined xs ys))
-  joined_go xs ys first second = subst (AreWithin limit) (sym (joined_list xs)) (two limit (list_statements xs) (list_statements ys) first second) where
-    joined_list : (zs : Stmts) → list_statements (joined zs ys) ≡ list_statements zs ++ list_statements ys
-    joined_list no_stmts = refl
-    joined_list (more_stmts z zs) =
-        ap (λ t. with_inner_statements z ++ t) (joined_list zs) ∙ sym (append_assoc (with_inner_statements z) (list_statements zs) (list_statements ys))
+  joined_go xs ys first second = subst (AreWithin limit) (sym (joined_list xs ys)) (two limit (list_statements xs) (list_statements ys) first second)
 
   sentences_go : (n : ℕ) (ss : List tree.Stmts) → AreWithin limit (list_statements (typed_sentences s n ss).value)
   sentences_go n [] = tt

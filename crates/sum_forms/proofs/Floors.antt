@@ -9,7 +9,7 @@ use Rattle.dec_num.specs.declared.types.Scaled.{Scaled}
 use Rattle.dec_num.proofs.Powers.{ten_positive, ten_split}
 use Rattle.dec_num.proofs.Signed.{times_times, neg_ℤ_times}
 use Rattle.decimal_interval.proofs.Ends.{times_grows}
-use Rattle.store_error.proofs.Scales.{times_cancel}
+use Rattle.linear_form.proofs.Scales.{times_cancel}
 use Rattle.sum_ranges.specs.Ranged.{decimal}
 use Rattle.sum_forms.specs.Constants.{floor_at, ceiling_at}
 

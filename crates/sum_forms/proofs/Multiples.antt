@@ -8,7 +8,7 @@ use Rattle.decimal_interval.specs.declared.bounds.Interval.{Interval}
 use Rattle.decimal_interval.proofs.Ends.{times_grows, times_falls}
 use Rattle.linear_form.specs.Results.{scaled_constant}
 use Rattle.linear_form.proofs.Dots.{sum_times}
-use Rattle.store_error.specs.Scales.{Spans}
+use Rattle.linear_form.specs.Scales.{Spans}
 
 -- the factors in another order
 pub exchanged : (x y v : ℤ) → (x *ℤ y) *ℤ v ≡ (x *ℤ v) *ℤ y

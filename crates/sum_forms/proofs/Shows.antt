@@ -15,7 +15,7 @@ use Rattle.linear_form.specs.Forms.{coef, dot, if_small}
 use Rattle.linear_form.proofs.Coefs.{coef-coefs_of}
 use Rattle.sum_ranges.specs.declared.ranged.Ranged.{Ranged}
 use Rattle.sum_ranges.specs.Ranged.{decimal, IsIn}
-use Rattle.store_error.specs.Scales.{Spans}
+use Rattle.linear_form.specs.Scales.{Spans}
 use Rattle.decimal_interval.proofs.Ends.{times_grows}
 use Rattle.sum_forms.specs.Constants.{outward, constant_form, range_form, cell_form, item_form}
 use Rattle.sum_forms.specs.Literals.{whole_part, whole_of, whole_factor}

@@ -21,8 +21,8 @@ use Rattle.sum_ranges.specs.Results.{IsResult}
 use Rattle.sum_ranges.proofs.Operations.{factors_least}
 use Rattle.sum_ranges.proofs.Least.{ordered_of, point_in, result_in}
 use Rattle.sum_ranges.proofs.Sound.{turned_in, atom_in, whole_product_in}
-use Rattle.store_error.specs.Scales.{Spans}
-use Rattle.store_error.proofs.Scales.{spans_raised, spans_added}
+use Rattle.linear_form.specs.Scales.{Spans}
+use Rattle.linear_form.proofs.Scales.{spans_raised, spans_added}
 use Rattle.sum_forms.specs.declared.front.Front.{Front}
 use Rattle.sum_forms.specs.declared.front.Front.TheVariants.{Empty, Literal, Product}
 use Rattle.sum_forms.specs.Constants.{constant_form, range_form}

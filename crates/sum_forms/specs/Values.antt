@@ -6,7 +6,7 @@ use Rattle.linear_form.specs.Forms.{coef, dot, IsSmallForm}
 use Rattle.linear_form.specs.Results.{IsNarrower}
 use Rattle.sum_ranges.specs.declared.ranged.Ranged.{Ranged}
 use Rattle.sum_ranges.specs.Ranged.{IsIn}
-use Rattle.store_error.specs.Scales.{Spans}
+use Rattle.linear_form.specs.Scales.{Spans}
 
 -- The decimal is one of the numbers that the form can be where the cells have these values, in units of so many decimals.
 abbrev pub Shows : ℕ → (ℕ → ℤ) → Lin → Scaled → Type 0

@@ -51,7 +51,7 @@ fn floor_by(units: i128, by: i128) -> i128
     units.div_euclid(by)
 }
 
-// by a power of ten
+// the quotient by a power of ten, rounded down
 pub(crate) fn floor(units: i128, power: u32) -> i128
     requires units { IsSmall units }
     requires power { power ≤ 37 }

@@ -1,7 +1,7 @@
 //! What stands before a factor of a product.
 
 /// What a product is as far as it has been gone through.
-#[derive(Clone, Copy, Debug, PartialEq, Eq)]
+#[derive(Clone, Copy, PartialEq, Eq)]
 pub enum Front {
     /// No factor yet.
     Empty,

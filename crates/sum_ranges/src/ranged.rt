@@ -6,7 +6,7 @@ ghost use Rattle.sum_ranges.specs.declared.ranged.Ranged.{Ranged};
 use decimal_interval::Interval;
 
 /// The decimals of one scale whose units lie in an interval.
-#[derive(Clone, Copy, Debug, PartialEq, Eq)]
+#[derive(Clone, Copy, PartialEq, Eq)]
 pub struct Ranged {
     pub units: Interval,
     pub scale: u32,

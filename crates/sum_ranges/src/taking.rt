@@ -15,7 +15,7 @@ use crate::sums::{atom_range, parts_range, product_range, sum_range};
 use cob_program::{Factor, Part, Sum};
 
 /// The range of a sum, or with `under` those of what is divided and of what divides.
-#[derive(Clone, Copy, Debug, PartialEq, Eq)]
+#[derive(Clone, Copy, PartialEq, Eq)]
 pub struct Taken {
     pub top: Ranged,
     pub under: Option<Ranged>,

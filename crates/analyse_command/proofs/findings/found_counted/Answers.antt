@@ -1,6 +1,6 @@
 use Rattle.cert_text.specs.View.{view}
 use Rattle.cob_program.specs.ActView.{plain_program}
-use Rattle.check_command.proofs.Shared.Limits.{within_limits}
+use Rattle.command_answers.proofs.Limits.{within_limits}
 use Rattle.analyse_command.proofs.Telling.{weaker_finding}
 use Rattle.analyse_command.proofs.findings.found_counted.Goals as goal
 

@@ -1,9 +1,9 @@
 use Rattle.std.proofs.Common.{◌≡◌, ◌∙◌, ap, refl}
 use Rattle.cert_text.specs.View.{view}
 use Rattle.cob_program.specs.ActView.{plain_program}
-use Rattle.check_command.specs.Shared.Answer.{answer_text, status_of}
-use Rattle.check_command.specs.Shared.View.{plain_answer}
-use Rattle.check_command.proofs.OneCheck.{one_for_certificate}
+use Rattle.command_answers.specs.Answer.{answer_text, status_of}
+use Rattle.command_answers.specs.View.{plain_answer}
+use Rattle.command_answers.proofs.OneCheck.{one_for_certificate}
 use Rattle.analyse_command.specs.Analysis.{analysis, pairs_of, report_of}
 use Rattle.analyse_command.proofs.findings.texts_of.Goals as goal
 

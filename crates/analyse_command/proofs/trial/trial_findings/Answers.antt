@@ -1,7 +1,7 @@
 use Rattle.std.proofs.Common.{◌≡◌, ℕ, List, ◌⊎◌, ◌∙◌, subst}
 use Rattle.cob_front.specs.declared.refusal.Refusal.TheVariants.{Memory}
-use Rattle.check_command.specs.Shared.Profile.{IsProfileCause}
-use Rattle.check_command.specs.Shared.Steps.{IsLaid}
+use Rattle.command_answers.specs.Profile.{IsProfileCause}
+use Rattle.command_answers.specs.Steps.{IsLaid}
 use Rattle.analyse_command.proofs.Trials.{found_in_trial, refused_trial}
 use Rattle.analyse_command.proofs.trial.trial_findings.Goals as goal
 

@@ -1,9 +1,11 @@
-use Rattle.std.proofs.Common.{◌+◌, ap, drop}
+use Rattle.std.proofs.Common.{◌+◌, ◌++◌, ap, drop, map, sym, ◌∙◌}
 use Rattle.std.proofs.lemmas.List.{drop_all}
-use Rattle.cob_program.specs.ActView.{plain_stmts}
-use Rattle.cob_program.specs.ActView.{plain_whens}
+use Rattle.std.proofs.lemmas.Result.{on_ok_weaker}
+use Rattle.cob_program.specs.LogicView.{plain_logic}
+use Rattle.cob_program.specs.ActView.{plain_act, plain_stmts, plain_when, plain_whens}
 use Rattle.cob_program.proofs.Loops.{item_step, added, nothing_left}
-use Rattle.analyse_core.specs.Literals.{stmts_literals, whens_literals}
+use Rattle.analyse_core.specs.Literals.{act_literals, logic_literals, numbers_of, stmts_literals, tests_literals, when_literals, whens_literals}
+use Rattle.analyse_core.proofs.ActCuts.{both_added, three_added, if_cut, evaluate_cut, perform_cut, when_cut}
 use Rattle.analyse_core.proofs.statements.+statements.Goals as goal
 
 pub add_list-loop-statement-preserved : goal.add_list-loop-statement-preserved
@@ -33,3 +35,40 @@ add_whens-returns t c =
     nothing_left _ _ (whens_literals (plain_whens (drop l.when-index c.args.whens.now)))
     (ap (λ xs. whens_literals (plain_whens (xs))) (drop_all l.when-index c.args.whens.now c.loop-when-test.false))
     l.invariant
+
+pub add_act-returns-in_ok-add_list-in-If : goal.add_act-returns-in_ok-add_list-in-If
+add_act-returns-in_ok-add_list-in-If t c =
+    let x = c.in-If in
+    on_ok_weaker (c.add_list-in-If-2).result
+    (three_added (numbers_of c.args.literals.now.items) (numbers_of c.add_logic.new.literals.items) (numbers_of (c.add_list-in-If).new.literals.items)
+    (numbers_of (c.add_list-in-If-2).new.literals.items) _ _ _ (act_literals (plain_act c.args.act.now)) (c.in_ok-add_logic-in-If).ensures (c.in_ok-add_list-in-If).ensures
+    (if_cut c.args.act.now x.test x.yes x.no x.is
+    ∙ sym (λ i. logic_literals (plain_logic x.test)
+    ++ (stmts_literals (plain_stmts ((c.deref-in-If).ensures.value i)) ++ stmts_literals (plain_stmts ((c.deref-in-If-2).ensures.value i))))))
+    (c.add_list-in-If-2).ensures
+
+pub add_act-returns-in_ok-add_whens-in-Evaluate : goal.add_act-returns-in_ok-add_whens-in-Evaluate
+add_act-returns-in_ok-add_whens-in-Evaluate t c =
+    let x = c.in-Evaluate in
+    on_ok_weaker (c.add_list-in-Evaluate).result
+    (both_added (numbers_of c.args.literals.now.items) (numbers_of c.add_whens.new.literals.items) (numbers_of (c.add_list-in-Evaluate).new.literals.items) _ _
+    (act_literals (plain_act c.args.act.now)) (c.in_ok-add_whens-in-Evaluate).ensures
+    (evaluate_cut c.args.act.now x.whens x.other x.is
+    ∙ sym (λ i. whens_literals (plain_whens ((c.deref-in-Evaluate).ensures.value i)) ++ stmts_literals (plain_stmts ((c.deref-in-Evaluate-2).ensures.value i)))))
+    (c.add_list-in-Evaluate).ensures
+
+pub add_act-returns-in_ok-add_turns-in-Perform : goal.add_act-returns-in_ok-add_turns-in-Perform
+add_act-returns-in_ok-add_turns-in-Perform t c =
+    let x = c.in-Perform in
+    on_ok_weaker c.add_body.result
+    (both_added (numbers_of c.args.literals.now.items) (numbers_of c.add_turns.new.literals.items) (numbers_of c.add_body.new.literals.items) _ _
+    (act_literals (plain_act c.args.act.now)) (c.in_ok-add_turns-in-Perform).ensures (perform_cut c.args.act.now x.body x.turns x.is))
+    c.add_body.ensures
+
+pub add_when-returns : goal.add_when-returns
+add_when-returns t c =
+    on_ok_weaker c.add_list.result
+    (both_added (numbers_of c.args.literals.now.items) (numbers_of c.add_tests.new.literals.items) (numbers_of c.add_list.new.literals.items) _ _
+    (when_literals (plain_when c.args.when.now)) c.in_ok-add_tests.ensures
+    (when_cut c.args.when.now ∙ sym (λ i. tests_literals (map plain_logic (c.get.ensures i)) ++ stmts_literals (plain_stmts (c.deref.ensures.value i)))))
+    c.add_list.ensures

@@ -2,7 +2,7 @@ use Rattle.std.proofs.Common.{inl, inr}
 use Rattle.batch_io.specs.FilesState.{known_bytes}
 use Rattle.cob_interp.specs.Runs.{outside}
 use Rattle.command_words.specs.Commands.{plain_run, run}
-use Rattle.analyse_command.specs.Shared.Call.{call}
+use Rattle.command_answers.specs.Call.{call}
 use Rattle.run_command.specs.Runs.{AnswersRun, BlamesIfUsage}
 use Rattle.run_command.specs.View.{plain_task}
 use Rattle.run_command.proofs.RunEnds.{asks_for, runs_behind}

@@ -1,7 +1,7 @@
 use Rattle.std.proofs.Common.{inl, inr}
 use Rattle.batch_io.specs.FilesState.{known_bytes}
 use Rattle.command_words.specs.Commands.{trial}
-use Rattle.analyse_command.specs.Shared.Call.{call}
+use Rattle.command_answers.specs.Call.{call}
 use Rattle.analyse_command.proofs.Trials.{ends_by_trial}
 use Rattle.analyse_top.proofs.Endings.{answered_trial, answers_command, ends_found, trial_reads_nothing}
 use Rattle.analyse_top.proofs.top.conclude_trial.Goals as goal

@@ -1,5 +1,5 @@
 use Rattle.std.proofs.Common.{ap, ◌∙◌}
-use Rattle.cob_runs.specs.Deciding.{is_number_form}
+use Rattle.cob_tree.specs.Forms.{is_number_form}
 use Rattle.borrowed_parts.proofs.FormLemmas.{form_found}
 use Rattle.borrowed_parts.proofs.items.is_number_at.Goals as goal
 

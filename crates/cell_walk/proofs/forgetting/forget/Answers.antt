@@ -1,6 +1,6 @@
 use Rattle.std.proofs.Common.{◌≡◌, ◌+◌, ◌∙◌, List, None, false, length, suc, ap, arith}
 use Rattle.cob_runs.specs.declared.action.Cell.{Cell}
-use Rattle.cell_homes.specs.Numbers.{items_of}
+use Rattle.cell_amounts.specs.Numbers.{items_of}
 use Rattle.cell_rows.specs.Rows.{cells_of}
 use Rattle.cell_walk.specs.Forgetting.{has_bytes, forgotten_at}
 use Rattle.cell_walk.proofs.Forgotten.{through, through_length, through_next, through_all, item_got, items_length}

@@ -1,5 +1,5 @@
 use Rattle.std.proofs.Common.{◌≡◌}
-use Rattle.cell_homes.specs.Numbers.{items_of}
+use Rattle.cell_amounts.specs.Numbers.{items_of}
 use Rattle.cell_rows.specs.Rows.{cells_of, IsReached}
 use Rattle.cell_walk.specs.Forgetting.{has_bytes}
 use Rattle.cell_walk.proofs.Forgotten.{through}

@@ -4,7 +4,7 @@ use Rattle.std.specs.List.{All}
 use Rattle.cob_data.specs.declared.layout.Item.{Item}
 use Rattle.cob_program.specs.ActView.{plain_program}
 use Rattle.cob_runs.specs.declared.action.Cell.{Cell}
-use Rattle.cell_homes.specs.Numbers.{items_of}
+use Rattle.cell_amounts.specs.Numbers.{items_of}
 use Rattle.cell_rows.specs.Rows.{cells_of}
 use Rattle.cell_steps.specs.Cells.{is_in_bytes}
 use Rattle.cell_walk.specs.Forgetting.{has_bytes, forgotten_by}

@@ -1,4 +1,4 @@
-use Rattle.std.proofs.Common.{sym, subst, length, arith}
+use Rattle.std.proofs.Common.{sym, ap, subst, length, ◌∙◌, arith}
 use Rattle.cert_check.specs.Clearing.{AreClearedTo}
 use Rattle.cert_check.proofs.Noting.{written_back, none_noted}
 use Rattle.cert_check.proofs.nodes.cleared.Goals as goal
@@ -11,3 +11,10 @@ returns-clause-cleared g c = λ clears tell.
     subst (AreClearedTo graph clears (length graph.nodes))
     (sym (written_back c.note_nodes.new.noted c.in_ok-noted.noted.items c.in_ok-noted.noted.len (omega (arith, kept, len))))
     (c.note_nodes.ensures clears tell)
+
+pub returns-clause-count : goal.returns-clause-count
+returns-clause-count g c =
+    let kept = c.note_nodes.auto.noted in
+    let len = c.as_mut_slice.ensures.len in
+    ap length (written_back c.note_nodes.new.noted c.in_ok-noted.noted.items c.in_ok-noted.noted.len (omega (arith, kept, len)))
+    ∙ kept ∙ len ∙ c.in_ok-noted.ensures.len

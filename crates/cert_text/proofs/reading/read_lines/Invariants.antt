@@ -1,5 +1,5 @@
 use Rattle.std.proofs.Common.{◌≡◌, length}
-use Rattle.text_lines.specs.Lines.{cut}
+use Rattle.cert_text.specs.Lines.{cut}
 use Rattle.cert_text.specs.Draft.{parts_of}
 use Rattle.cert_text.specs.Whole.{reading, read_of}
 use Rattle.cert_text.proofs.reading.read_lines.Given as goal

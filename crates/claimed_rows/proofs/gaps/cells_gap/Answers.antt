@@ -1,8 +1,9 @@
-use Rattle.std.proofs.Common.{◌+◌, ◌∙◌, drop, ap, sym, subst, arith}
+use Rattle.std.proofs.Common.{◌≡◌, ◌+◌, ◌-◌, ◌∙◌, drop, ap, sym, subst, arith}
 use Rattle.std.specs.Prelude.{IfSome}
 use Rattle.cell_rows.specs.Rows.{cells_of, known_at}
-use Rattle.claimed_rows.specs.Gaps.{IsSmall, cell_gaps}
-use Rattle.claimed_rows.proofs.Seeking.{first, found_there, passed_on, small_at, small_claim}
+use Rattle.claimed_rows.specs.Claims.{written_from}
+use Rattle.claimed_rows.specs.Gaps.{IsSmall, cell_gaps, gaps_from}
+use Rattle.claimed_rows.proofs.Seeking.{first, found_there, none_found, passed_on, small_at, small_claim}
 use Rattle.claimed_rows.proofs.gaps.cells_gap.Goals as goal
 
 pub cell_gap-gap-requires-clause-reached : goal.cell_gap-gap-requires-clause-reached
@@ -43,3 +44,16 @@ loop-k-preserved c =
           c.cell_gap-gap.result (omega arith) c.loop-k.invariant.sought (omega (arith, c.requires.cells)) c.loop-k-test.true gap
           (sym c.is_some.ensures ∙ c.if-is_some.false) c.claim_at-claimed.ensures.behind;
     }
+
+pub loop-k-init : goal.loop-k-init
+loop-k-init c = record {
+  next = omega arith;
+  sought =
+      let whole : c.args.cells ≡ c.args.cells - 0 = omega arith in
+      ap (λ n. first (gaps_from 1 (cells_of c.args.row.now) (written_from 1 n c.args.claims.now))) whole;
+}
+
+pub returns : goal.returns
+returns c =
+    none_found (cells_of c.args.row.now) c.args.claims.now c.args.cells c.loop-k.k (drop c.loop-k.next c.args.claims.now) c.loop-k.invariant.sought
+    (omega (arith, c.requires.cells))

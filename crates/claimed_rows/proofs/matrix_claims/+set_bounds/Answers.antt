@@ -7,6 +7,16 @@ use Rattle.claimed_rows.proofs.MatrixFilling.{sizes_split}
 use Rattle.claimed_rows.proofs.Sharing.{all_above, behind_are, own_are, rise_behind, shared}
 use Rattle.claimed_rows.proofs.matrix_claims.+set_bounds.Goals as goal
 
+pub words_of-requires : goal.words_of-requires
+words_of-requires t c =
+    let split = sizes_split c.args.packs.now c.first-item.result c.len-size.result c.in-len1-up.len_at_least c.first-item.is (c.len-size.ensures ∙ c.first-item.result.cells.ok.0) in
+    (subst (AllByRecursion (λ n. n ≤ 8)) split c.requires.small).0
+
+pub set_matrix-requires-clause-size : goal.set_matrix-requires-clause-size
+set_matrix-requires-clause-size t c =
+    let split = sizes_split c.args.packs.now c.first-item.result c.len-size.result c.in-len1-up.len_at_least c.first-item.is (c.len-size.ensures ∙ c.first-item.result.cells.ok.0) in
+    (subst (AllByRecursion (λ n. n ≤ 8)) split c.requires.small).0
+
 pub set_matrix-requires-clause-bounds : goal.set_matrix-requires-clause-bounds
 set_matrix-requires-clause-bounds t c =
     let ns = sizes_of (cells_in (take (length c.args.packs.now - 1) (drop 1 c.args.packs.now))) in

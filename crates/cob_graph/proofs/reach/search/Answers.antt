@@ -1,5 +1,5 @@
-use Rattle.std.proofs.Common.{◌≡◌, ◌∙◌, ◌<◌, ◌≤◌, false, length, replicate, get_or, map, sym, ap, subst, arith}
-use Rattle.std.proofs.lemmas.List.{length-map, get_or_default}
+use Rattle.std.proofs.Common.{◌≡◌, ◌∙◌, ◌<◌, ◌≤◌, false, length, replicate, get_or, map, sym, ap, arith}
+use Rattle.std.proofs.lemmas.List.{length-map, length-replicate, get_or_default}
 use Rattle.cob_graph.specs.Listing.{plain_call}
 use Rattle.cob_graph.proofs.ReachLemmas.{search_first, search_next, search_row}
 use Rattle.cob_graph.proofs.reach.search.Goals as goal
@@ -24,11 +24,11 @@ loop-next-preserved c =
     let within : l.next < length l.found.items = omega (arith, c.if-next-len.false, c.len.ensures, l.found.ok.0) in
     let read : place ≡ get_or l.found.items l.next 0 =
     c.index-place.ensures ∙ get_or_default l.found.items l.next place 0 within in
-    search_next (map plain_call c.args.calls.now) c.args.start l.next place l.marks c.look_at-in-loop-next.new.marks l.found.items
-    c.look_at-in-loop-next.new.found.items within read c.in_ok-look_at-2.ensures l.invariant
+    search_next (map plain_call c.args.calls.now) c.args.start l.next place l.marks c.follow.new.marks l.found.items
+    c.follow.new.found.items within read c.in_ok-follow.ensures l.invariant
 
-pub look_at-requires-in-loop-next-clause-place : goal.look_at-requires-in-loop-next-clause-place
-look_at-requires-in-loop-next-clause-place c =
+pub follow-requires-clause-place : goal.follow-requires-clause-place
+follow-requires-clause-place c =
     let l = c.loop-next in
     let place = c.index-place.result.now in
     let within : l.next < length l.found.items = omega (arith, c.if-next-len.false, c.len.ensures, l.found.ok.0) in
@@ -45,3 +45,9 @@ returns c =
     let n : length cs ≡ length calls = length-map calls plain_call in
     let past : length l.found.items ≤ l.next = omega (arith, l.invariant.search.room, c.loop-next-test.false, n) in
     search_row cs c.args.start l.marks l.found.items l.next l.invariant past (omega (arith, n, c.requires.start))
+
+pub look_at-requires-clause-wide : goal.look_at-requires-clause-wide
+look_at-requires-clause-wide c = ap length c.requires.none ∙ length-replicate (length c.args.calls.now) false
+
+pub follow-requires-clause-wide : goal.follow-requires-clause-wide
+follow-requires-clause-wide c = c.loop-next.invariant.search.wide ∙ length-map c.args.calls.now plain_call

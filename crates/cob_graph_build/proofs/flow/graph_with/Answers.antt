@@ -19,23 +19,23 @@ returns-then-count-gt-MOST_NODES-clause-limit c =
 pub lay_all-requires-clause-nodes : goal.lay_all-requires-clause-nodes
 lay_all-requires-clause-nodes c =
     let p = plain_program c.args.program.now in
-    cuts.whole most_told c.in-Ok.last c.plus-count.result (final_of (main_paras p c.args.table.now)) c.in-Ok.ensures.told
+    cuts.whole most_told c.plus-count.result c.plus-count.result (final_of (main_paras p c.args.table.now)) refl
     (all_told p c.args.table.now c.args.paras c.range_size.result c.plus-count.result c.requires.table
     c.requires.paras c.range_size.ensures c.plus-count.ensures)
-    c.in-Ok.ensures.below
+    (omega (arith, c.if-count-gt-MOST_NODES.false))
 
 pub returns-clause-graph : goal.returns-clause-graph
 returns-clause-graph c =
     is_graph (plain_program c.args.program.now) c.args.table.now c.args.paras _ c.requires.table c.requires.paras
     c.requires.fits
-    c.in-Ok-lay_all.ensures.nodes c.in-Ok-lay_all.ensures.edges (c.of.ensures ∙ c.requires.cells)
+    c.in-Ok.ensures.nodes c.in-Ok.ensures.edges (c.of.ensures ∙ c.requires.cells)
 
 pub returns-clause-within : goal.returns-clause-within
 returns-clause-within c =
     let p = plain_program c.args.program.now in
     in_limits p c.args.table.now _ c.plus-count.result
     (main_laid p c.args.table.now c.args.paras c.requires.table c.requires.paras c.requires.fits)
-    c.in-Ok-lay_all.ensures.nodes c.in-Ok-lay_all.ensures.edges (c.of.ensures ∙ c.requires.cells)
+    c.in-Ok.ensures.nodes c.in-Ok.ensures.edges (c.of.ensures ∙ c.requires.cells)
     (all_told p c.args.table.now c.args.paras c.range_size.result c.plus-count.result c.requires.table
     c.requires.paras c.range_size.ensures c.plus-count.ensures)
     c.if-count-gt-MOST_NODES.false (subst (λ (cs : List Cell). length cs ≤ 512) c.requires.cells c.requires.few)

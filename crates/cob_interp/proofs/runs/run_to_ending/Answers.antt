@@ -1,5 +1,5 @@
 use Rattle.cob_program.specs.ActView.{plain_program}
-use Rattle.cob_interp.specs.Setting.{texts}
+use Rattle.std.specs.Prelude.{map, string_bytes}
 use Rattle.cob_interp.proofs.Unmade.{unmade_kept}
 use Rattle.cob_interp.proofs.runs.run_to_ending.Goals as goal
 
@@ -18,4 +18,4 @@ run_through-requires-clause-files g c = c.requires.able.files
 pub returns-clause-unmade : goal.returns-clause-unmade
 returns-clause-unmade g c =
     unmade_kept (plain_program c.args.program.now) c.args.graph.now c.requires.able.whole c.requires.graph
-    (texts c.args.paths.now) c.args.budget _ _ _ c.run_through.ensures.runs
+    (map string_bytes c.args.paths.now) c.args.budget _ _ _ c.run_through.ensures.runs

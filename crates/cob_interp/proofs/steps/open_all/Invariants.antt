@@ -3,7 +3,8 @@ use Rattle.batch_io.specs.SinkState.{SinkState}
 use Rattle.cob_interp.specs.Runs.{Outside, outside}
 use Rattle.cob_interp.specs.Running.{IsUnderway}
 use Rattle.cob_plan.specs.Stepping.{IsWithin}
-use Rattle.cob_interp.specs.Setting.{program_of, paths_of}
+use Rattle.std.specs.Prelude.{take}
+use Rattle.cob_interp.specs.Setting.{OpensAt, program_of, paths_of}
 use Rattle.cob_interp.specs.Touching.{Makes, OpensOnly, makes_in}
 use Rattle.cob_interp.specs.Tracking.{AreOpen, ArePlaced, Tracks}
 use Rattle.cob_interp.proofs.steps.open_all.Given as goal
@@ -21,7 +22,8 @@ invariant-loop-turn g l = record {
       → IsUnderway (program_of l.setting) l.setting.graph.now (paths_of l.setting) start
       (outside (g.F.Files.state l.files) sink)
       l.world.world l.step l.at;
-  touches : Makes (paths_of l.setting) (makes_in l.openings) l.fn.world.world (g.F.Files.state l.fn.files)
+  opens : OpensAt l.setting l.at l._turn;
+  touches : Makes (paths_of l.setting) (makes_in (take l._turn l.openings)) l.fn.world.world (g.F.Files.state l.fn.files)
       (g.F.Files.state l.files);
   only : OpensOnly l.fn.world.world l.world.world;
   live : AreOpen (g.F.Files.state l.files) l.handles;

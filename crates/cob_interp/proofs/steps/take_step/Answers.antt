@@ -3,16 +3,16 @@ use Rattle.cob_program.specs.ActView.{plain_act}
 use Rattle.cob_runs.specs.Effects.{act_at}
 use Rattle.cob_interp.specs.Runs.{outside}
 use Rattle.cob_interp.specs.Setting.{program_of, paths_of}
-use Rattle.cob_interp.specs.Touching.{makes_by}
+use Rattle.cob_interp.specs.Reached.{last_of, Reaches}
+use Rattle.cob_interp.specs.Touching.{makes_none}
 use Rattle.cob_interp.proofs.CallLemmas.{is_open, is_close}
-use Rattle.cob_interp.proofs.FitLemmas.{own_within, uncalled_other}
+use Rattle.cob_interp.proofs.FitLemmas.{opens_first, own_within, read_met_last, uncalled_other}
 use Rattle.cob_interp.proofs.Taking.{free_close, free_open, free_other, step_begins}
 use Rattle.cob_interp.proofs.Readied.{touches_known}
 use Rattle.cob_interp.proofs.Written.{left_behind}
-use Rattle.cob_interp.proofs.Touched.{touches_stay, opening_touches, none_touches}
+use Rattle.cob_interp.proofs.Touched.{reaches_none, touches_stay}
 use Rattle.cob_program.specs.Act.{Act, open_files, close_files}
-use Rattle.cob_interp.specs.Meeting.{IsMetBy}
-use Rattle.cob_interp.proofs.Failing.{close_first, close_met, never_met, never_still, open_first, read_met}
+use Rattle.cob_interp.proofs.Failing.{close_first, close_met, never_met, never_still, open_first}
 use Rattle.cob_interp.proofs.steps.take_step.Goals as goal
 
 pub open_all-requires-clause-its : goal.open_all-requires-clause-its
@@ -21,29 +21,38 @@ open_all-requires-clause-its g c =
     c.requires.starts.is.number
     (c.requires.starts.is.statement.its ∙ ap Some (is_open _ _ c.in-Open.ensures))
 
-pub returns-in-Open-clause-touches : goal.returns-in-Open-clause-touches
-returns-in-Open-clause-touches g c =
-    opening_touches (paths_of c.args.setting.now) c.args.world.now.world _ _ c.in-Open.openings.now
-    (plain_act c.args.place.now.statement.now.act.now)
-    (is_open _ _ c.in-Open.ensures) c.open_all.ensures.touches
+pub open_all-requires-clause-begins : goal.open_all-requires-clause-begins
+open_all-requires-clause-begins g c =
+    opens_first c.args.setting.now c.args.node c.args.place.now c.requires.starts.is c.requires.fits c.requires.ready
+    c.requires.starts.starts c.in-Open.openings.now (is_open _ _ c.in-Open.ensures)
 
-pub returns-in-Close-clause-touches : goal.returns-in-Close-clause-touches
-returns-in-Close-clause-touches g c =
-    none_touches (paths_of c.args.setting.now) (makes_by (plain_act c.args.place.now.statement.now.act.now))
-    c.args.world.now.world _ _
-    c.close_all.ensures.touches
+pub returns-in-Open-clause-reaches : goal.returns-in-Open-clause-reaches
+returns-in-Open-clause-reaches g c =
+    subst (λ (a : Act). Reaches (paths_of c.args.setting.now) a c.args.world.now.world
+    (g.F.Files.state c.args.files.now) (g.F.Files.state c.open_all.new.files) c.open_all.result)
+    (sym (is_open _ _ c.in-Open.ensures)) c.open_all.ensures.reaches
 
-pub returns-in-Other-clause-touches : goal.returns-in-Other-clause-touches
-returns-in-Other-clause-touches g c =
-    touches_stay (paths_of c.args.setting.now) (makes_by (plain_act c.args.place.now.statement.now.act.now))
-    c.args.world.now.world _
+pub returns-in-Close-clause-reaches : goal.returns-in-Close-clause-reaches
+returns-in-Close-clause-reaches g c =
+    reaches_none (paths_of c.args.setting.now) (plain_act c.args.place.now.statement.now.act.now) c.args.world.now.world
+    _ _ _ c.close_all.ensures.touches
+    (close_met (last_of 0 (plain_act c.args.place.now.statement.now.act.now)) c.in-Close.closed.now _
+    (ap (last_of 0) (is_close _ _ c.in-Close.ensures)))
 
-pub returns-in-Read-clause-touches : goal.returns-in-Read-clause-touches
-returns-in-Read-clause-touches g c =
-    touches_known (paths_of c.args.setting.now) (makes_by (plain_act c.args.place.now.statement.now.act.now))
-    c.args.world.now.world _ _ _
-    (touches_stay (paths_of c.args.setting.now) (makes_by (plain_act c.args.place.now.statement.now.act.now))
-    c.args.world.now.world (g.F.Files.state c.args.files.now)) c.go_read.ensures.same
+pub returns-in-Other-clause-reaches : goal.returns-in-Other-clause-reaches
+returns-in-Other-clause-reaches g c =
+    reaches_none (paths_of c.args.setting.now) (plain_act c.args.place.now.statement.now.act.now) c.args.world.now.world
+    _ _ _ (touches_stay (paths_of c.args.setting.now) makes_none c.args.world.now.world _)
+    (never_met (last_of 0 (plain_act c.args.place.now.statement.now.act.now)) _ c.go.ensures.fine)
+
+pub returns-in-Read-clause-reaches : goal.returns-in-Read-clause-reaches
+returns-in-Read-clause-reaches g c =
+    reaches_none (paths_of c.args.setting.now) (plain_act c.args.place.now.statement.now.act.now) c.args.world.now.world
+    _ _ _
+    (touches_known (paths_of c.args.setting.now) makes_none c.args.world.now.world _ _ _
+    (touches_stay (paths_of c.args.setting.now) makes_none c.args.world.now.world (g.F.Files.state c.args.files.now))
+    c.go_read.ensures.same)
+    (read_met_last _ _ _ c.in-Read.ensures c.go_read.ensures.fault)
 
 pub returns-in-Open-clause-takes : goal.returns-in-Open-clause-takes
 returns-in-Open-clause-takes g c = λ sink budget steps start counted within stands.
@@ -76,27 +85,14 @@ returns-in-Other-clause-placed g c =
     left_behind _ (paths_of c.args.setting.now) (g.F.Files.state c.args.files.now) _ c.args.world.now.world.files _
     c.go.ensures.places c.requires.placed
 
-pub returns-in-Open-clause-met : goal.returns-in-Open-clause-met
-returns-in-Open-clause-met g c =
-    subst (λ (a : Act). IsMetBy a c.open_all.result) (sym (is_open _ _ c.in-Open.ensures)) c.open_all.ensures.met
-
 pub returns-in-Open-clause-still : goal.returns-in-Open-clause-still
 returns-in-Open-clause-still g c = λ waits. open_first _ _ _ (is_open _ _ c.in-Open.ensures) waits
-
-pub returns-in-Close-clause-met : goal.returns-in-Close-clause-met
-returns-in-Close-clause-met g c = close_met _ _ _ (is_close _ _ c.in-Close.ensures)
 
 pub returns-in-Close-clause-still : goal.returns-in-Close-clause-still
 returns-in-Close-clause-still g c = λ waits. close_first _ _ _ (is_close _ _ c.in-Close.ensures) waits
 
-pub returns-in-Read-clause-met : goal.returns-in-Read-clause-met
-returns-in-Read-clause-met g c = read_met _ _ _ c.in-Read.ensures c.go_read.ensures.fault
-
 pub returns-in-Read-clause-still : goal.returns-in-Read-clause-still
 returns-in-Read-clause-still g c = λ _. c.go_read.ensures.still
-
-pub returns-in-Other-clause-met : goal.returns-in-Other-clause-met
-returns-in-Other-clause-met g c = never_met (plain_act c.args.place.now.statement.now.act.now) _ c.go.ensures.fine
 
 pub returns-in-Other-clause-still : goal.returns-in-Other-clause-still
 returns-in-Other-clause-still g c = λ _. never_still _ _ c.go.ensures.fine

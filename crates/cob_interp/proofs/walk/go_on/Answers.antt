@@ -20,8 +20,9 @@ returns-in-Err-take_roomy_step-clause-goes g c budget steps start counted within
     (g.F.Files.state c.args.files.now) (g.O.Sink.state c.args.out.now) (g.O.Sink.state c.flush_before.new.out)
     c.args.world.now.world c.flush_before.new.world.world here c.in-Ok.ensures.flushes
     (g.F.Files.state c.take_roomy_step.new.files) c.take_roomy_step.new.world.world
-    c.args.step c.in-Err-take_roomy_step.ensures.touches (g.O.Sink.state c.show_rest.new.out)
-    c.show_rest.new.world.world c.in-Err-take_roomy_step.end c.show_rest.result c.in-Err-take_roomy_step.ensures.met
+    c.args.step c.in-Err-take_roomy_step.ensures.reaches.reached c.in-Err-take_roomy_step.ensures.reaches.touches
+    (g.O.Sink.state c.show_rest.new.out)
+    c.show_rest.new.world.world c.in-Err-take_roomy_step.end c.show_rest.result c.in-Err-take_roomy_step.ensures.reaches.met
     c.in-Ok.ensures.first c.in-Err-take_roomy_step.ensures.still c.show_rest.ensures.shows
     (c.in-Err-take_roomy_step.ensures.takes (g.O.Sink.state c.flush_before.new.out) budget steps start counted within)
 
@@ -47,7 +48,8 @@ returns-in-Ok-take_roomy_step-clause-goes g c budget steps start counted within 
     (g.F.Files.state c.args.files.now) (g.O.Sink.state c.args.out.now) (g.O.Sink.state c.flush_before.new.out)
     c.args.world.now.world c.flush_before.new.world.world here c.in-Ok.ensures.flushes
     (g.F.Files.state c.take_roomy_step.new.files) c.take_roomy_step.new.world.world
-    c.args.step c.in-Ok-take_roomy_step.ensures.touches c.in-Ok-take_roomy_step.next
+    c.args.step c.in-Ok-take_roomy_step.ensures.reaches.reached c.in-Ok-take_roomy_step.ensures.reaches.touches
+    c.in-Ok-take_roomy_step.next
     (c.in-Ok-take_roomy_step.ensures.takes (g.O.Sink.state c.flush_before.new.out) budget steps start counted within)
 
 pub returns-in-Err-clause-placed : goal.returns-in-Err-clause-placed

@@ -9,7 +9,7 @@ use Rattle.cob_interp.proofs.Touched.{touches_stay}
 use Rattle.cob_interp.proofs.RoomLemmas.{room_out}
 use Rattle.cob_interp.proofs.TrackLemmas.{places_stay}
 use Rattle.cob_interp.proofs.Written.{written_placed}
-use Rattle.cob_interp.proofs.Failing.{write_met}
+use Rattle.cob_interp.proofs.Failing.{write_met_last}
 use Rattle.cob_interp.proofs.walk.make_room.Goals as goal
 
 pub returns-in-None-clause-sees : goal.returns-in-None-clause-sees
@@ -53,5 +53,5 @@ returns-in-Some-clause-room g c =
 
 pub returns-in-Some-clause-met : goal.returns-in-Some-clause-met
 returns-in-Some-clause-met g c =
-    write_met c.args.setting.now.program.now.layout (plain_act c.args.place.now.statement.now.act.now) c.in-Some.file
+    write_met_last c.args.setting.now.program.now.layout (plain_act c.args.place.now.statement.now.act.now) c.in-Some.file
     c.write_out.result (c.in-Some.ensures.full c.in-Some.file refl) c.write_out.ensures.fault

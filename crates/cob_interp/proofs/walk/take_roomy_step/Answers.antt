@@ -1,11 +1,12 @@
 use Rattle.std.proofs.lemmas.Result.{err_from_is_err_and}
 use Rattle.cob_program.specs.ActView.{plain_act}
 use Rattle.cob_interp.specs.Setting.{program_of, paths_of}
+use Rattle.cob_interp.specs.Reached.{up_to}
 use Rattle.cob_interp.specs.Touching.{makes_by}
 use Rattle.cob_interp.proofs.CloseLemmas.{refused_halts}
 use Rattle.cob_interp.proofs.Emptying.{stands_sees, touches_sees}
 use Rattle.cob_interp.proofs.Readied.{placed_ids}
-use Rattle.cob_interp.proofs.Touched.{none_touches}
+use Rattle.cob_interp.proofs.Touched.{reaches_none}
 use Rattle.cob_interp.proofs.TrackLemmas.{placed_on, tracks_ids, tracks_pass}
 use Rattle.cob_interp.proofs.Written.{refused_own}
 use Rattle.std.proofs.Common.{ap}
@@ -39,10 +40,12 @@ returns-in_err-make_room-clause-takes g c =
     refused_halts c.args.setting.now budget start sink _ _ _ stands.text _ stands.well
     c.in_err-make_room.ensures.sees)
 
-pub returns-in_err-make_room-clause-touches : goal.returns-in_err-make_room-clause-touches
-returns-in_err-make_room-clause-touches g c =
-    none_touches (paths_of c.args.setting.now) (makes_by (plain_act c.args.place.now.statement.now.act.now))
-    c.args.world.now.world _ _ c.in_err-make_room.ensures.touches
+pub returns-in_err-make_room-clause-reaches : goal.returns-in_err-make_room-clause-reaches
+returns-in_err-make_room-clause-reaches g c =
+    let p = err_from_is_err_and c.from_residual.result c.from_residual.ensures.1 in
+    rw (p.1, p.2)
+    (reaches_none (paths_of c.args.setting.now) (plain_act c.args.place.now.statement.now.act.now)
+    c.args.world.now.world _ _ _ c.in_err-make_room.ensures.touches c.in_err-make_room.ensures.met)
 
 pub returns-clause-tracks : goal.returns-clause-tracks
 returns-clause-tracks g c =
@@ -55,15 +58,14 @@ returns-clause-takes g c = λ sink budget steps start counted within stands.
     (stands_sees (program_of c.args.setting.now) c.args.setting.now.graph.now (paths_of c.args.setting.now) start sink
     _ _ c.args.world.now.world _ c.in_ok-make_room.ensures.sees steps steps c.args.node stands)
 
-pub returns-clause-touches : goal.returns-clause-touches
-returns-clause-touches g c =
-    touches_sees (paths_of c.args.setting.now) (makes_by (plain_act c.args.place.now.statement.now.act.now)) _ _ _
-    c.args.world.now.world _ c.in_ok-make_room.ensures.sees c.take_step.ensures.touches
-
-pub returns-in_err-make_room-clause-met : goal.returns-in_err-make_room-clause-met
-returns-in_err-make_room-clause-met g c =
-    let p = err_from_is_err_and c.from_residual.result c.from_residual.ensures.1 in
-    rw (p.1, p.2) c.in_err-make_room.ensures.met
+pub returns-clause-reaches : goal.returns-clause-reaches
+returns-clause-reaches g c = record {
+  reached = c.take_step.ensures.reaches.reached;
+  touches = touches_sees (paths_of c.args.setting.now)
+      (makes_by (up_to c.take_step.ensures.reaches.reached (plain_act c.args.place.now.statement.now.act.now))) _ _ _
+      c.args.world.now.world _ c.in_ok-make_room.ensures.sees c.take_step.ensures.reaches.touches;
+  met = c.take_step.ensures.reaches.met;
+}
 
 pub returns-in_err-make_room-clause-still : goal.returns-in_err-make_room-clause-still
 returns-in_err-make_room-clause-still g c = λ _.

@@ -1,9 +1,10 @@
 use Rattle.cob_interp.specs.Runs.{outside}
 use Rattle.cob_interp.specs.Running.{IsAt}
 use Rattle.cob_interp.specs.Setting.{program_of, paths_of}
-use Rattle.std.proofs.Common.{◌≡◌, ℕ, arith, sym, subst, ◌∙◌}
+use Rattle.std.proofs.Common.{◌≡◌, ℕ, arith, refl, sym, subst, ◌∙◌}
 use Rattle.cob_interp.proofs.FitLemmas.{below_last}
 use Rattle.cob_interp.proofs.Written.{written_placed, own_any}
+use Rattle.cob_interp.proofs.TrackLemmas.{tracks_pass}
 use Rattle.cob_interp.proofs.walk.walk.Goals as goal
 
 pub returns-in-Err-clause-placed : goal.returns-in-Err-clause-placed
@@ -23,3 +24,17 @@ returns-in-Err-clause-halts g c = λ start at.
     c.in-Err.ensures start now c.loop-steps.world.world
     (subst (λ (steps : ℕ). IsAt (program_of c.args.setting.now) c.args.setting.now.graph.now (paths_of c.args.setting.now)
     c.args.budget start now c.loop-steps.world.world steps c.loop-steps.node) spent (c.loop-steps.invariant.here start at))
+
+pub loop-steps-preserved : goal.loop-steps-preserved
+loop-steps-preserved g c =
+    let was = c.loop-steps.invariant in
+    let now = c.in_ok-node.ensures in
+    record {
+      rests = now.rest;
+      kept = now.kept ∙ was.kept;
+      here = λ start at. now.goes c.args.budget c.loop-steps.steps start refl c.loop-steps-test.true (was.here start at);
+      sink = now.sink ∙ was.sink;
+      live = now.tracks.live;
+      placed = now.placed;
+      tracks = tracks_pass _ _ _ _ _ _ was.tracks now.tracks;
+    }

@@ -5,24 +5,22 @@ use Rattle.reading.specs.Readers.{fresh}
 use Rattle.cob_lexemes.specs.Classes.{of}
 use Rattle.cob_parse_data.specs.Heads.{same_kind, clause_symbol, clause_kind_of, clause_head_of}
 use Rattle.cob_parse_data.specs.Reading.{clause_body}
-use Rattle.cob_parse_data.proofs.ListLoop.{gives_wrong}
 use Rattle.cob_parse_data.proofs.ClauseLoop.{Kept, kept_start, kept_on, kept_end, kept_fail}
 use Rattle.cob_parse_data.proofs.entry.clauses.Goals as goal
 
 pub clauses-init : goal.clauses-init
 clauses-init c = record { kept = subst (λ (xs : List Clause). Kept (same_kind clause_kind_of) (of clause_symbol) clause_body clause_head_of xs c.args.lexemes.now c.args.lexemes.now) (sym c.new-clauses.ensures.items) (kept_start (same_kind clause_kind_of) (of clause_symbol) clause_body clause_head_of c.args.lexemes.now); shorter = omega arith }
 
-pub returns-in_err-clause-clause-gives : goal.returns-in_err-clause-clause-gives
-returns-in_err-clause-clause-gives c = gives_wrong _ c.from_residual.result _ c.in_err-clause.field-0.0 c.from_residual.ensures.1
-    (kept_fail (same_kind clause_kind_of) (of clause_symbol) clause_body clause_head_of c.clauses.clauses.items c.clauses.left.now c.args.lexemes.now c.clauses.invariant.kept c.in-Some.head c.in-Some.rest.now c.in_err-clause.field-0.0
-    (subst (λ (cs : List Clause). Leads (fresh (same_kind clause_kind_of) (of clause_symbol) (map clause_head_of cs)) c.in-Some.head (signs c.clauses.left.now) (signs c.in-Some.rest.now)) c.as_slice.ensures.value c.in-Some.ensures.found) c.in_err-clause.ensures.gives)
+pub returns-in-Err-clause-gives : goal.returns-in-Err-clause-gives
+returns-in-Err-clause-gives c = kept_fail (same_kind clause_kind_of) (of clause_symbol) clause_body clause_head_of c.clauses.clauses.items c.clauses.left.now c.args.lexemes.now c.clauses.invariant.kept c.in-Some.head c.in-Some.rest.now c.in-Err.halt
+    (subst (λ (cs : List Clause). Leads (fresh (same_kind clause_kind_of) (of clause_symbol) (map clause_head_of cs)) c.in-Some.head (signs c.clauses.left.now) (signs c.in-Some.rest.now)) c.as_slice.ensures.value c.in-Some.ensures.found) c.in-Err.ensures.gives
 
 pub clauses-preserved : goal.clauses-preserved
 clauses-preserved c = record {
-  kept = subst (λ (xs : List Clause). Kept (same_kind clause_kind_of) (of clause_symbol) clause_body clause_head_of xs c.in_ok-clause.after.now c.args.lexemes.now) (sym c.in_ok-push.ensures.items)
-      (kept_on (same_kind clause_kind_of) (of clause_symbol) clause_body clause_head_of c.clauses.clauses.items c.clauses.left.now c.args.lexemes.now c.clauses.invariant.kept c.in-Some.head c.in_ok-clause.clause c.in-Some.rest.now c.in_ok-clause.after.now
-      (subst (λ (cs : List Clause). Leads (fresh (same_kind clause_kind_of) (of clause_symbol) (map clause_head_of cs)) c.in-Some.head (signs c.clauses.left.now) (signs c.in-Some.rest.now)) c.as_slice.ensures.value c.in-Some.ensures.found) c.in_ok-clause.ensures.gives c.in_ok-clause.ensures.headed (omega (arith, c.in_ok-clause.ensures.rest, c.in-Some.ensures.shorter)));
-  shorter = omega (arith, c.in_ok-clause.ensures.rest, c.in-Some.ensures.shorter, c.clauses.invariant.shorter);
+  kept = subst (λ (xs : List Clause). Kept (same_kind clause_kind_of) (of clause_symbol) clause_body clause_head_of xs c.in-Ok.given.1.now c.args.lexemes.now) (sym c.in_ok-push.ensures.items)
+      (kept_on (same_kind clause_kind_of) (of clause_symbol) clause_body clause_head_of c.clauses.clauses.items c.clauses.left.now c.args.lexemes.now c.clauses.invariant.kept c.in-Some.head c.in-Ok.given.0 c.in-Some.rest.now c.in-Ok.given.1.now
+      (subst (λ (cs : List Clause). Leads (fresh (same_kind clause_kind_of) (of clause_symbol) (map clause_head_of cs)) c.in-Some.head (signs c.clauses.left.now) (signs c.in-Some.rest.now)) c.as_slice.ensures.value c.in-Some.ensures.found) c.in-Ok.ensures.gives c.in-Ok.ensures.headed (omega (arith, c.in-Ok.ensures.rest, c.in-Some.ensures.shorter)));
+  shorter = omega (arith, c.in-Ok.ensures.rest, c.in-Some.ensures.shorter, c.clauses.invariant.shorter);
 }
 
 pub returns-clause-gives : goal.returns-clause-gives

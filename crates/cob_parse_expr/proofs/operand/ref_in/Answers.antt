@@ -5,4 +5,4 @@ use Rattle.cob_parse_expr.proofs.StepLemmas.{bare}
 use Rattle.cob_parse_expr.proofs.operand.ref_in.Goals as goal
 
 pub returns-clause-gives : goal.returns-clause-gives
-returns-clause-gives c = rw (c.in_ok-name.ensures.gives, c.in_ok-of.ensures.gives) (ap (λ (z : List (List ℕ)). Ok (record { name = c.in_ok-name.name; of = z }, signs c.in_ok-of.rest.now)) (bare c.in_ok-of.of.items ∙ sym c.of-of.ensures))
+returns-clause-gives c = rw (c.in-Ok.ensures.gives, c.in-Ok-qualifiers.ensures.gives) (ap (λ (z : List (List ℕ)). Ok (record { name = c.in-Ok.given.0; of = z }, signs c.in-Ok-qualifiers.given.1.now)) (bare c.in-Ok-qualifiers.given.0.items ∙ sym c.of-of.ensures))

@@ -7,7 +7,7 @@ use Rattle.cob_tree.specs.Stmt.{stmts_of, whens_of, Stmt, When}
 use Rattle.cob_tree.specs.StmtView.{plain_sel, plain_stmt, plain_tail, plain_verb, plain_when}
 use Rattle.cob_tree.specs.Takes.{takes_stmts, takes_whens, takes_when, takes_stmt}
 use Rattle.cob_lexemes.specs.Steps.{signs}
-use Rattle.cob_lexemes.proofs.StepLemmas.{gives_wrong, gives_as, signs_length}
+use Rattle.cob_lexemes.proofs.StepLemmas.{gives_as, signs_length}
 use Rattle.cob_parse_verb.specs.declared.head.Head.{Head}
 use Rattle.cob_parse_verb.specs.Heads.{end_word}
 use Rattle.cob_parse_verb.specs.VerbSteps.{plain_arithmetic, plain_head}
@@ -29,127 +29,113 @@ list_in-returns-else-starts-clause-gives t c = list_none (stmts_at c.args.room) 
 
 -- ---- SIZE ERROR and NOT SIZE ERROR
 
-pub tail_in-returns-in_err-behind_size-clause-gives : goal.tail_in-returns-in_err-behind_size-clause-gives
-tail_in-returns-in_err-behind_size-clause-gives t c = gives_wrong _ c.from_residual.result _ c.in_err-behind_size.field-0.0 c.from_residual.ensures.1
-    (tail_first (stmts_at c.args.room) c.args.end (signs c.args.lexemes.now) c.in_err-behind_size.field-0.0 (error_words (stmts_at c.args.room) _ (signs c.args.lexemes.now) c.in_err-behind_size.field-0.0 c.in_err-behind_size.ensures.gives))
+pub tail_in-returns-in-Err-clause-gives : goal.tail_in-returns-in-Err-clause-gives
+tail_in-returns-in-Err-clause-gives t c = tail_first (stmts_at c.args.room) c.args.end (signs c.args.lexemes.now) c.in-Err.halt (error_words (stmts_at c.args.room) _ (signs c.args.lexemes.now) c.in-Err.halt c.in-Err.ensures.gives)
 
-pub tail_in-returns-in_err-size-clause-gives : goal.tail_in-returns-in_err-size-clause-gives
-tail_in-returns-in_err-size-clause-gives t c = gives_wrong _ c.from_residual-in_err-size.result _ c.in_err-size.field-0.0 c.from_residual-in_err-size.ensures.1
-    (tail_first (stmts_at c.args.room) c.args.end (signs c.args.lexemes.now) c.in_err-size.field-0.0 (error_wrong (stmts_at c.args.room) _ (signs c.args.lexemes.now) (option_map (λ rest. signs rest.now) c.in_ok-behind_size.field-0) c.in_err-size.field-0.0 c.in_ok-behind_size.ensures.gives c.in_err-size.ensures.gives))
+pub tail_in-returns-in-Err-phrase_in-clause-gives : goal.tail_in-returns-in-Err-phrase_in-clause-gives
+tail_in-returns-in-Err-phrase_in-clause-gives t c = tail_first (stmts_at c.args.room) c.args.end (signs c.args.lexemes.now) c.in-Err-phrase_in.halt (error_wrong (stmts_at c.args.room) _ (signs c.args.lexemes.now) (option_map (λ rest. signs rest.now) c.in-Ok.given) c.in-Err-phrase_in.halt c.in-Ok.ensures.gives c.in-Err-phrase_in.ensures.gives)
 
-pub tail_in-returns-in_err-behind_not_size-clause-gives : goal.tail_in-returns-in_err-behind_not_size-clause-gives
-tail_in-returns-in_err-behind_not_size-clause-gives t c = gives_wrong _ c.from_residual-in_err-behind_not_size.result _ c.in_err-behind_not_size.field-0.0 c.from_residual-in_err-behind_not_size.ensures.1
-    (tail_second (stmts_at c.args.room) c.args.end (signs c.args.lexemes.now) (option_map plain_list c.in_ok-size.size, signs c.in_ok-size.rest.now) c.in_err-behind_not_size.field-0.0 (error_read (stmts_at c.args.room) _ (signs c.args.lexemes.now) (option_map (λ rest. signs rest.now) c.in_ok-behind_size.field-0) _ c.in_ok-behind_size.ensures.gives c.in_ok-size.ensures.gives)
-    (error_words (stmts_at c.args.room) _ (signs c.in_ok-size.rest.now) c.in_err-behind_not_size.field-0.0 c.in_err-behind_not_size.ensures.gives))
+pub tail_in-returns-in-Err-behind_not_size-clause-gives : goal.tail_in-returns-in-Err-behind_not_size-clause-gives
+tail_in-returns-in-Err-behind_not_size-clause-gives t c = tail_second (stmts_at c.args.room) c.args.end (signs c.args.lexemes.now) (option_map plain_list c.in-Ok-phrase_in.given.0, signs c.in-Ok-phrase_in.given.2.now) c.in-Err-behind_not_size.halt (error_read (stmts_at c.args.room) _ (signs c.args.lexemes.now) (option_map (λ rest. signs rest.now) c.in-Ok.given) _ c.in-Ok.ensures.gives c.in-Ok-phrase_in.ensures.gives)
+    (error_words (stmts_at c.args.room) _ (signs c.in-Ok-phrase_in.given.2.now) c.in-Err-behind_not_size.halt c.in-Err-behind_not_size.ensures.gives)
 
-pub tail_in-returns-in_err-not_size-clause-gives : goal.tail_in-returns-in_err-not_size-clause-gives
-tail_in-returns-in_err-not_size-clause-gives t c = gives_wrong _ c.from_residual-in_err-not_size.result _ c.in_err-not_size.field-0.0 c.from_residual-in_err-not_size.ensures.1
-    (tail_second (stmts_at c.args.room) c.args.end (signs c.args.lexemes.now) (option_map plain_list c.in_ok-size.size, signs c.in_ok-size.rest.now) c.in_err-not_size.field-0.0 (error_read (stmts_at c.args.room) _ (signs c.args.lexemes.now) (option_map (λ rest. signs rest.now) c.in_ok-behind_size.field-0) _ c.in_ok-behind_size.ensures.gives c.in_ok-size.ensures.gives)
-    (error_wrong (stmts_at c.args.room) _ (signs c.in_ok-size.rest.now) (option_map (λ rest. signs rest.now) c.in_ok-behind_not_size.field-0) c.in_err-not_size.field-0.0 c.in_ok-behind_not_size.ensures.gives c.in_err-not_size.ensures.gives))
+pub tail_in-returns-in-Err-phrase_in-2-clause-gives : goal.tail_in-returns-in-Err-phrase_in-2-clause-gives
+tail_in-returns-in-Err-phrase_in-2-clause-gives t c = tail_second (stmts_at c.args.room) c.args.end (signs c.args.lexemes.now) (option_map plain_list c.in-Ok-phrase_in.given.0, signs c.in-Ok-phrase_in.given.2.now) c.in-Err-phrase_in-2.halt (error_read (stmts_at c.args.room) _ (signs c.args.lexemes.now) (option_map (λ rest. signs rest.now) c.in-Ok.given) _ c.in-Ok.ensures.gives c.in-Ok-phrase_in.ensures.gives)
+    (error_wrong (stmts_at c.args.room) _ (signs c.in-Ok-phrase_in.given.2.now) (option_map (λ rest. signs rest.now) c.in-Ok-behind_not_size.given) c.in-Err-phrase_in-2.halt c.in-Ok-behind_not_size.ensures.gives c.in-Err-phrase_in-2.ensures.gives)
 
 pub tail_in-returns-clause-gives : goal.tail_in-returns-clause-gives
-tail_in-returns-clause-gives t c = tail_read (stmts_at c.args.room) c.args.end (signs c.args.lexemes.now) (option_map plain_list c.in_ok-size.size, signs c.in_ok-size.rest.now) (option_map plain_list c.in_ok-not_size.not_size, signs c.in_ok-not_size.rest.now) c.ended-is_ended.result.0 (signs c.ended-is_ended.result.1.now) (plain_tail c.tail.result)
-    (error_read (stmts_at c.args.room) _ (signs c.args.lexemes.now) (option_map (λ rest. signs rest.now) c.in_ok-behind_size.field-0) _ c.in_ok-behind_size.ensures.gives c.in_ok-size.ensures.gives)
-    (error_read (stmts_at c.args.room) _ (signs c.in_ok-size.rest.now) (option_map (λ rest. signs rest.now) c.in_ok-behind_not_size.field-0) _ c.in_ok-behind_not_size.ensures.gives c.in_ok-not_size.ensures.gives)
+tail_in-returns-clause-gives t c = tail_read (stmts_at c.args.room) c.args.end (signs c.args.lexemes.now) (option_map plain_list c.in-Ok-phrase_in.given.0, signs c.in-Ok-phrase_in.given.2.now) (option_map plain_list c.in-Ok-phrase_in-2.given.0, signs c.in-Ok-phrase_in-2.given.2.now) c.ended-is_ended.result.0 (signs c.ended-is_ended.result.1.now) (plain_tail c.tail.result)
+    (error_read (stmts_at c.args.room) _ (signs c.args.lexemes.now) (option_map (λ rest. signs rest.now) c.in-Ok.given) _ c.in-Ok.ensures.gives c.in-Ok-phrase_in.ensures.gives)
+    (error_read (stmts_at c.args.room) _ (signs c.in-Ok-phrase_in.given.2.now) (option_map (λ rest. signs rest.now) c.in-Ok-behind_not_size.given) _ c.in-Ok-behind_not_size.ensures.gives c.in-Ok-phrase_in-2.ensures.gives)
     c.ended-is_ended.ensures.end c.tail.ensures
 
 pub tail_in-returns-clause-takes : goal.tail_in-returns-clause-takes
-tail_in-returns-clause-takes t c = c.goes_on.ensures ∙ (ap (λ (b : Bool). not c.ended-is_ended.result.0 && b) c.in_ok-not_size.ensures.takes ∙ sym (ap tail_may c.tail.ensures))
+tail_in-returns-clause-takes t c = c.goes_on.ensures ∙ (ap (λ (b : Bool). not c.ended-is_ended.result.0 && b) c.in-Ok-phrase_in-2.ensures.takes ∙ sym (ap tail_may c.tail.ensures))
 
 -- ---- IF
 
-pub branches_in-returns-in_err-yes-clause-gives : goal.branches_in-returns-in_err-yes-clause-gives
-branches_in-returns-in_err-yes-clause-gives t c = gives_wrong _ c.from_residual.result _ c.in_err-yes.field-0.0 c.from_residual.ensures.1
-    (branches_first (stmts_at c.args.room) c.args.takes_not (signs c.args.lexemes.now) c.in_err-yes.field-0.0 c.in_err-yes.ensures.gives)
+pub branches_in-returns-in-Err-clause-gives : goal.branches_in-returns-in-Err-clause-gives
+branches_in-returns-in-Err-clause-gives t c = branches_first (stmts_at c.args.room) c.args.takes_not (signs c.args.lexemes.now) c.in-Err.halt c.in-Err.ensures.gives
 
-pub branches_in-returns-in_err-other-clause-gives : goal.branches_in-returns-in_err-other-clause-gives
-branches_in-returns-in_err-other-clause-gives t c = gives_wrong _ c.from_residual-in_err-other.result _ c.in_err-other.field-0.0 c.from_residual-in_err-other.ensures.1
-    (branches_second (stmts_at c.args.room) c.args.takes_not (signs c.args.lexemes.now) (plain_list c.in_ok-yes.yes, signs c.in_ok-yes.rest.now) c.in_ok-yes.ensures.gives (option_map (λ rest. signs rest.now) c.behind-opened.result) c.behind-opened.ensures.cut c.in_err-other.field-0.0 c.in_err-other.ensures.gives)
+pub branches_in-returns-in-Err-phrase_in-clause-gives : goal.branches_in-returns-in-Err-phrase_in-clause-gives
+branches_in-returns-in-Err-phrase_in-clause-gives t c = branches_second (stmts_at c.args.room) c.args.takes_not (signs c.args.lexemes.now) (plain_list c.in-Ok.given.0, signs c.in-Ok.given.2.now) c.in-Ok.ensures.gives (option_map (λ rest. signs rest.now) c.behind-opened.result) c.behind-opened.ensures.cut c.in-Err-phrase_in.halt c.in-Err-phrase_in.ensures.gives
 
 pub branches_in-returns-clause-gives : goal.branches_in-returns-clause-gives
-branches_in-returns-clause-gives t c = branches_read (stmts_at c.args.room) c.args.takes_not (signs c.args.lexemes.now) (plain_list c.in_ok-yes.yes, signs c.in_ok-yes.rest.now) c.in_ok-yes.ensures.gives (option_map (λ rest. signs rest.now) c.behind-opened.result) c.behind-opened.ensures.cut (option_map plain_list c.in_ok-other.other, signs c.in_ok-other.rest.now) c.ended-is_ended.result.0 (signs c.ended-is_ended.result.1.now) c.in_ok-other.ensures.gives c.ended-is_ended.ensures.end
+branches_in-returns-clause-gives t c = branches_read (stmts_at c.args.room) c.args.takes_not (signs c.args.lexemes.now) (plain_list c.in-Ok.given.0, signs c.in-Ok.given.2.now) c.in-Ok.ensures.gives (option_map (λ rest. signs rest.now) c.behind-opened.result) c.behind-opened.ensures.cut (option_map plain_list c.in-Ok-phrase_in.given.0, signs c.in-Ok-phrase_in.given.2.now) c.ended-is_ended.result.0 (signs c.ended-is_ended.result.1.now) c.in-Ok-phrase_in.ensures.gives c.ended-is_ended.ensures.end
 
 pub branches_in-returns-clause-takes : goal.branches_in-returns-clause-takes
-branches_in-returns-clause-takes t c = c.goes_on.ensures ∙ ap (λ (b : Bool). not c.ended-is_ended.result.0 && b) (c.in_ok-other.ensures.takes ∙ ap (phrase_may (plain_phrase c.in_ok-other.other)) c.in_ok-yes.ensures.takes)
+branches_in-returns-clause-takes t c = c.goes_on.ensures ∙ ap (λ (b : Bool). not c.ended-is_ended.result.0 && b) (c.in-Ok-phrase_in.ensures.takes ∙ ap (phrase_may (plain_phrase c.in-Ok-phrase_in.given.0)) c.in-Ok.ensures.takes)
 
 -- ---- an inline PERFORM
 
-pub body_in-returns-in_err-body-clause-gives : goal.body_in-returns-in_err-body-clause-gives
-body_in-returns-in_err-body-clause-gives t c = gives_wrong _ c.from_residual.result _ c.in_err-body.field-0.0 c.from_residual.ensures.1
-    (body_first (stmts_at c.args.room) c.args.takes_not (signs c.args.lexemes.now) c.in_err-body.field-0.0 c.in_err-body.ensures.gives)
+pub body_in-returns-in-Err-clause-gives : goal.body_in-returns-in-Err-clause-gives
+body_in-returns-in-Err-clause-gives t c = body_first (stmts_at c.args.room) c.args.takes_not (signs c.args.lexemes.now) c.in-Err.halt c.in-Err.ensures.gives
 
 pub body_in-returns-in-Some-clause-gives : goal.body_in-returns-in-Some-clause-gives
-body_in-returns-in-Some-clause-gives t c = body_closed (stmts_at c.args.room) c.args.takes_not (signs c.args.lexemes.now) (plain_list c.in_ok-body.body, signs c.in_ok-body.rest.now) c.in_ok-body.ensures.gives (signs c.in-Some.rest.now) c.in-Some.ensures.cut
+body_in-returns-in-Some-clause-gives t c = body_closed (stmts_at c.args.room) c.args.takes_not (signs c.args.lexemes.now) (plain_list c.in-Ok.given.0, signs c.in-Ok.given.2.now) c.in-Ok.ensures.gives (signs c.in-Some.rest.now) c.in-Some.ensures.cut
 
 pub body_in-returns-in-None-clause-gives : goal.body_in-returns-in-None-clause-gives
-body_in-returns-in-None-clause-gives t c = body_open (stmts_at c.args.room) c.args.takes_not (signs c.args.lexemes.now) (plain_list c.in_ok-body.body, signs c.in_ok-body.rest.now) c.in_ok-body.ensures.gives c.in_ok-body.takes_not _ c.in-None.ensures.cut c.in_ok-body.ensures.takes c.left_at.ensures
+body_in-returns-in-None-clause-gives t c = body_open (stmts_at c.args.room) c.args.takes_not (signs c.args.lexemes.now) (plain_list c.in-Ok.given.0, signs c.in-Ok.given.2.now) c.in-Ok.ensures.gives c.in-Ok.given.1 _ c.in-None.ensures.cut c.in-Ok.ensures.takes c.left_at.ensures
 
 -- ---- READ
 
-pub ends_in-returns-in_err-end-clause-gives : goal.ends_in-returns-in_err-end-clause-gives
-ends_in-returns-in_err-end-clause-gives t c = gives_wrong _ c.from_residual.result _ c.in_err-end.field-0.0 c.from_residual.ensures.1
-    (ends_first (stmts_at c.args.room) (signs c.args.lexemes.now) (option_map (λ rest. signs rest.now) c.behind-opened.result) c.behind-opened.ensures.cut c.in_err-end.field-0.0 c.in_err-end.ensures.gives)
+pub ends_in-returns-in-Err-clause-gives : goal.ends_in-returns-in-Err-clause-gives
+ends_in-returns-in-Err-clause-gives t c = ends_first (stmts_at c.args.room) (signs c.args.lexemes.now) (option_map (λ rest. signs rest.now) c.behind-opened.result) c.behind-opened.ensures.cut c.in-Err.halt c.in-Err.ensures.gives
 
-pub ends_in-returns-in_err-not_end-clause-gives : goal.ends_in-returns-in_err-not_end-clause-gives
-ends_in-returns-in_err-not_end-clause-gives t c = gives_wrong _ c.from_residual-in_err-not_end.result _ c.in_err-not_end.field-0.0 c.from_residual-in_err-not_end.ensures.1
-    (ends_second (stmts_at c.args.room) (signs c.args.lexemes.now) (option_map (λ rest. signs rest.now) c.behind-opened.result) c.behind-opened.ensures.cut (option_map plain_list c.in_ok-end.end, signs c.in_ok-end.rest.now) c.in_ok-end.ensures.gives (option_map (λ rest. signs rest.now) c.both_behind-opened.result) c.both_behind-opened.ensures.cut c.in_err-not_end.field-0.0 c.in_err-not_end.ensures.gives)
+pub ends_in-returns-in-Err-phrase_in-clause-gives : goal.ends_in-returns-in-Err-phrase_in-clause-gives
+ends_in-returns-in-Err-phrase_in-clause-gives t c = ends_second (stmts_at c.args.room) (signs c.args.lexemes.now) (option_map (λ rest. signs rest.now) c.behind-opened.result) c.behind-opened.ensures.cut (option_map plain_list c.in-Ok.given.0, signs c.in-Ok.given.2.now) c.in-Ok.ensures.gives (option_map (λ rest. signs rest.now) c.both_behind-opened.result) c.both_behind-opened.ensures.cut c.in-Err-phrase_in.halt c.in-Err-phrase_in.ensures.gives
 
 pub ends_in-returns-clause-gives : goal.ends_in-returns-clause-gives
-ends_in-returns-clause-gives t c = ends_read (stmts_at c.args.room) (signs c.args.lexemes.now) (option_map (λ rest. signs rest.now) c.behind-opened.result) c.behind-opened.ensures.cut (option_map plain_list c.in_ok-end.end, signs c.in_ok-end.rest.now) c.in_ok-end.ensures.gives (option_map (λ rest. signs rest.now) c.both_behind-opened.result) c.both_behind-opened.ensures.cut (option_map plain_list c.in_ok-not_end.not_end, signs c.in_ok-not_end.rest.now) c.ended-is_ended.result.0 (signs c.ended-is_ended.result.1.now) c.in_ok-not_end.ensures.gives c.ended-is_ended.ensures.end
+ends_in-returns-clause-gives t c = ends_read (stmts_at c.args.room) (signs c.args.lexemes.now) (option_map (λ rest. signs rest.now) c.behind-opened.result) c.behind-opened.ensures.cut (option_map plain_list c.in-Ok.given.0, signs c.in-Ok.given.2.now) c.in-Ok.ensures.gives (option_map (λ rest. signs rest.now) c.both_behind-opened.result) c.both_behind-opened.ensures.cut (option_map plain_list c.in-Ok-phrase_in.given.0, signs c.in-Ok-phrase_in.given.2.now) c.ended-is_ended.result.0 (signs c.ended-is_ended.result.1.now) c.in-Ok-phrase_in.ensures.gives c.ended-is_ended.ensures.end
 
 pub ends_in-returns-clause-takes : goal.ends_in-returns-clause-takes
-ends_in-returns-clause-takes t c = c.goes_on.ensures ∙ ap (λ (b : Bool). not c.ended-is_ended.result.0 && b) c.in_ok-not_end.ensures.takes
+ends_in-returns-clause-takes t c = c.goes_on.ensures ∙ ap (λ (b : Bool). not c.ended-is_ended.result.0 && b) c.in-Ok-phrase_in.ensures.takes
 
 -- ---- WHEN
 
-pub when_in-returns-in_err-choices-clause-gives : goal.when_in-returns-in_err-choices-clause-gives
-when_in-returns-in_err-choices-clause-gives t c = gives_wrong _ c.from_residual.result _ c.in_err-choices.field-0.0 c.from_residual.ensures.1
-    (when_wrong (stmts_at c.args.room) c.args.room (signs c.args.lexemes.now) c.in_err-choices.field-0.0 c.in_err-choices.ensures.gives)
+pub when_in-returns-in-Err-clause-gives : goal.when_in-returns-in-Err-clause-gives
+when_in-returns-in-Err-clause-gives t c = when_wrong (stmts_at c.args.room) c.args.room (signs c.args.lexemes.now) c.in-Err.halt c.in-Err.ensures.gives
 
-pub when_in-returns-in_err-body-clause-gives : goal.when_in-returns-in_err-body-clause-gives
-when_in-returns-in_err-body-clause-gives t c = gives_wrong _ c.from_residual-in_err-body.result _ c.in_err-body.field-0.0 c.from_residual-in_err-body.ensures.1
-    (when_second (stmts_at c.args.room) c.args.room (signs c.args.lexemes.now) (signs c.in_ok-choices.rest.now) (map plain_sel c.in_ok-choices.choices.items) c.in_ok-choices.takes_not c.in_ok-choices.ensures.gives c.in_ok-choices.ensures.takes c.in_err-body.field-0.0 c.in_err-body.ensures.gives)
+pub when_in-returns-in-Err-list_in-clause-gives : goal.when_in-returns-in-Err-list_in-clause-gives
+when_in-returns-in-Err-list_in-clause-gives t c = when_second (stmts_at c.args.room) c.args.room (signs c.args.lexemes.now) (signs c.in-Ok.given.2.now) (map plain_sel c.in-Ok.given.0.items) c.in-Ok.given.1 c.in-Ok.ensures.gives c.in-Ok.ensures.takes c.in-Err-list_in.halt c.in-Err-list_in.ensures.gives
 
 pub when_in-returns-clause-gives : goal.when_in-returns-clause-gives
-when_in-returns-clause-gives t c = when_read (stmts_at c.args.room) c.args.room (signs c.args.lexemes.now) (signs c.in_ok-choices.rest.now) (map plain_sel c.in_ok-choices.choices.items) c.in_ok-choices.takes_not c.in_ok-choices.ensures.gives c.in_ok-choices.ensures.takes (plain_list c.in_ok-body.body) (signs c.in_ok-body.rest.now) (plain_when c.when.result) c.in_ok-body.ensures.gives c.when.ensures
+when_in-returns-clause-gives t c = when_read (stmts_at c.args.room) c.args.room (signs c.args.lexemes.now) (signs c.in-Ok.given.2.now) (map plain_sel c.in-Ok.given.0.items) c.in-Ok.given.1 c.in-Ok.ensures.gives c.in-Ok.ensures.takes (plain_list c.in-Ok-list_in.given.0) (signs c.in-Ok-list_in.given.2.now) (plain_when c.when.result) c.in-Ok-list_in.ensures.gives c.when.ensures
 
 pub when_in-returns-clause-takes : goal.when_in-returns-clause-takes
-when_in-returns-clause-takes t c = c.in_ok-body.ensures.takes ∙ sym (ap (λ (w : When). may (takes_when w)) c.when.ensures)
+when_in-returns-clause-takes t c = c.in-Ok-list_in.ensures.takes ∙ sym (ap (λ (w : When). may (takes_when w)) c.when.ensures)
 
 -- ---- the WHENs
 
-pub whens_in-returns-in_err-first-clause-gives : goal.whens_in-returns-in_err-first-clause-gives
-whens_in-returns-in_err-first-clause-gives t c = gives_wrong _ c.from_residual-in_err-first.result _ c.in_err-first.field-0.0 c.from_residual-in_err-first.ensures.1
-    (chosen_wrong (stmts_at c.args.room) c.args.room (signs c.args.lexemes.now) c.in_err-first.field-0.0 c.in_err-first.ensures.gives)
+pub whens_in-returns-in-Err-clause-gives : goal.whens_in-returns-in-Err-clause-gives
+whens_in-returns-in-Err-clause-gives t c = chosen_wrong (stmts_at c.args.room) c.args.room (signs c.args.lexemes.now) c.in-Err.halt c.in-Err.ensures.gives
 
 pub whens_in-whens-init : goal.whens_in-whens-init
 whens_in-whens-init t c =
-    let one : map plain_when c.push.new.self.items ≡ plain_when c.in_ok-first.first ∷ [] = rw (c.in_ok-push.ensures.items, c.in_ok-whens.ensures) refl in
+    let one : map plain_when c.push.new.self.items ≡ plain_when c.in-Ok.given.0 ∷ [] = rw (c.in_ok-push.ensures.items, c.in_ok-whens.ensures) refl in
     record {
-      chosen = subst (λ (ws : List When). Chosen (stmts_at c.args.room) c.args.room ws (signs c.in_ok-first.left.now) (signs c.args.lexemes.now)) (sym one) (chosen_first (stmts_at c.args.room) c.args.room (signs c.args.lexemes.now) (signs c.in_ok-first.left.now) (plain_when c.in_ok-first.first) c.in_ok-first.ensures.gives);
-      takes = c.in_ok-first.ensures.takes ∙ sym (ap (λ (ws : List When). may (takes_whens (whens_of ws))) one ∙ whens_may [] (plain_when c.in_ok-first.first));
-      shorter = omega (arith, c.in_ok-first.ensures.rest);
+      chosen = subst (λ (ws : List When). Chosen (stmts_at c.args.room) c.args.room ws (signs c.in-Ok.given.2.now) (signs c.args.lexemes.now)) (sym one) (chosen_first (stmts_at c.args.room) c.args.room (signs c.args.lexemes.now) (signs c.in-Ok.given.2.now) (plain_when c.in-Ok.given.0) c.in-Ok.ensures.gives);
+      takes = c.in-Ok.ensures.takes ∙ sym (ap (λ (ws : List When). may (takes_whens (whens_of ws))) one ∙ whens_may [] (plain_when c.in-Ok.given.0));
+      shorter = omega (arith, c.in-Ok.ensures.rest);
     }
 
-pub whens_in-returns-in_err-other-clause-gives : goal.whens_in-returns-in_err-other-clause-gives
-whens_in-returns-in_err-other-clause-gives t c = gives_wrong _ c.from_residual-in_err-other.result _ c.in_err-other.field-0.0 c.from_residual-in_err-other.ensures.1
-    (other_fail (stmts_at c.args.room) c.args.room (map plain_when c.whens.whens.items) (signs c.whens.left.now) (signs c.args.lexemes.now) c.whens.invariant.chosen (sym c.when_begins.ensures ∙ c.whens-test.true) (signs c.in-Some.rest.now) (sym c.in-Some.ensures.cut) c.in_err-other.field-0.0 c.in_err-other.ensures.gives)
+pub whens_in-returns-in-Err-stmts_in-clause-gives : goal.whens_in-returns-in-Err-stmts_in-clause-gives
+whens_in-returns-in-Err-stmts_in-clause-gives t c = other_fail (stmts_at c.args.room) c.args.room (map plain_when c.whens.whens.items) (signs c.whens.left.now) (signs c.args.lexemes.now) c.whens.invariant.chosen (sym c.when_begins.ensures ∙ c.whens-test.true) (signs c.in-Some.rest.now) (sym c.in-Some.ensures.cut) c.in-Err-stmts_in.halt c.in-Err-stmts_in.ensures.gives
 
 pub whens_in-returns-in-Some-clause-gives : goal.whens_in-returns-in-Some-clause-gives
-whens_in-returns-in-Some-clause-gives t c = other_end (stmts_at c.args.room) c.args.room (map plain_when c.whens.whens.items) (signs c.whens.left.now) (signs c.args.lexemes.now) c.whens.invariant.chosen (sym c.when_begins.ensures ∙ c.whens-test.true) (signs c.in-Some.rest.now) (sym c.in-Some.ensures.cut) (plain_list c.in_ok-other.other) (signs c.in_ok-other.rest.now) c.in_ok-other.ensures.gives (simp length-map (omega (arith, c.in_ok-other.ensures.rest, c.in-Some.ensures.rest)))
+whens_in-returns-in-Some-clause-gives t c = other_end (stmts_at c.args.room) c.args.room (map plain_when c.whens.whens.items) (signs c.whens.left.now) (signs c.args.lexemes.now) c.whens.invariant.chosen (sym c.when_begins.ensures ∙ c.whens-test.true) (signs c.in-Some.rest.now) (sym c.in-Some.ensures.cut) (plain_list c.in-Ok-stmts_in.given.0) (signs c.in-Ok-stmts_in.given.2.now) c.in-Ok-stmts_in.ensures.gives (simp length-map (omega (arith, c.in-Ok-stmts_in.ensures.rest, c.in-Some.ensures.rest)))
 
-pub whens_in-returns-in_err-when-clause-gives : goal.whens_in-returns-in_err-when-clause-gives
-whens_in-returns-in_err-when-clause-gives t c = gives_wrong _ c.from_residual-in_err-when.result _ c.in_err-when.field-0.0 c.from_residual-in_err-when.ensures.1
-    (when_fail (stmts_at c.args.room) c.args.room (map plain_when c.whens.whens.items) (signs c.whens.left.now) (signs c.args.lexemes.now) c.whens.invariant.chosen (sym c.when_begins.ensures ∙ c.whens-test.true) (ap is_some (sym c.in_default.ensures.cut)) c.in_err-when.field-0.0 c.in_err-when.ensures.gives)
+pub whens_in-returns-in-Err-when_in-clause-gives : goal.whens_in-returns-in-Err-when_in-clause-gives
+whens_in-returns-in-Err-when_in-clause-gives t c = when_fail (stmts_at c.args.room) c.args.room (map plain_when c.whens.whens.items) (signs c.whens.left.now) (signs c.args.lexemes.now) c.whens.invariant.chosen (sym c.when_begins.ensures ∙ c.whens-test.true) (ap is_some (sym c.in_default.ensures.cut)) c.in-Err-when_in.halt c.in-Err-when_in.ensures.gives
 
 pub whens_in-whens-preserved : goal.whens_in-whens-preserved
 whens_in-whens-preserved t c =
-    let pushed : map plain_when c.push-in-whens.new.self.items ≡ map plain_when c.whens.whens.items ++ plain_when c.in_ok-when.when ∷ [] = rw c.in_ok-push-2.ensures.items (map_push plain_when c.whens.whens.items c.in_ok-when.when) in
+    let pushed : map plain_when c.push-in-whens.new.self.items ≡ map plain_when c.whens.whens.items ++ plain_when c.in-Ok-when_in.given.0 ∷ [] = rw c.in_ok-push-2.ensures.items (map_push plain_when c.whens.whens.items c.in-Ok-when_in.given.0) in
     record {
-      chosen = subst (λ (ws : List When). Chosen (stmts_at c.args.room) c.args.room ws (signs c.in_ok-when.rest.now) (signs c.args.lexemes.now)) (sym pushed)
-          (when_on (stmts_at c.args.room) c.args.room (map plain_when c.whens.whens.items) (signs c.whens.left.now) (signs c.args.lexemes.now) c.whens.invariant.chosen (sym c.when_begins.ensures ∙ c.whens-test.true) (ap is_some (sym c.in_default.ensures.cut)) (plain_when c.in_ok-when.when) (signs c.in_ok-when.rest.now) c.in_ok-when.ensures.gives (simp length-map (omega (arith, c.in_ok-when.ensures.rest))));
-      takes = c.in_ok-when.ensures.takes ∙ sym (ap (λ (ws : List When). may (takes_whens (whens_of ws))) pushed ∙ whens_may (map plain_when c.whens.whens.items) (plain_when c.in_ok-when.when));
-      shorter = omega (arith, c.in_ok-when.ensures.rest, c.whens.invariant.shorter);
+      chosen = subst (λ (ws : List When). Chosen (stmts_at c.args.room) c.args.room ws (signs c.in-Ok-when_in.given.2.now) (signs c.args.lexemes.now)) (sym pushed)
+          (when_on (stmts_at c.args.room) c.args.room (map plain_when c.whens.whens.items) (signs c.whens.left.now) (signs c.args.lexemes.now) c.whens.invariant.chosen (sym c.when_begins.ensures ∙ c.whens-test.true) (ap is_some (sym c.in_default.ensures.cut)) (plain_when c.in-Ok-when_in.given.0) (signs c.in-Ok-when_in.given.2.now) c.in-Ok-when_in.ensures.gives (simp length-map (omega (arith, c.in-Ok-when_in.ensures.rest))));
+      takes = c.in-Ok-when_in.ensures.takes ∙ sym (ap (λ (ws : List When). may (takes_whens (whens_of ws))) pushed ∙ whens_may (map plain_when c.whens.whens.items) (plain_when c.in-Ok-when_in.given.0));
+      shorter = omega (arith, c.in-Ok-when_in.ensures.rest, c.whens.invariant.shorter);
     }
 
 pub whens_in-returns-clause-gives : goal.whens_in-returns-clause-gives
@@ -160,15 +146,14 @@ whens_in-returns-clause-gives t c = chosen_end (stmts_at c.args.room) c.args.roo
 pub cases_in-returns-then-not-when_begins-clause-gives : goal.cases_in-returns-then-not-when_begins-clause-gives
 cases_in-returns-then-not-when_begins-clause-gives t c = cases_none (stmts_at c.args.room) c.args.room (signs c.args.lexemes.now) _ (sym c.when_begins.ensures ∙ c.if-not-when_begins.true) (signs_length c.args.lexemes.now)
 
-pub cases_in-returns-in_err-whens-clause-gives : goal.cases_in-returns-in_err-whens-clause-gives
-cases_in-returns-in_err-whens-clause-gives t c = gives_wrong _ c.from_residual.result _ c.in_err-whens.field-0.0 c.from_residual.ensures.1
-    (cases_wrong (stmts_at c.args.room) c.args.room (signs c.args.lexemes.now) c.in_err-whens.field-0.0 (sym c.when_begins.ensures ∙ c.if-not-when_begins.false) c.in_err-whens.ensures.gives)
+pub cases_in-returns-in-Err-clause-gives : goal.cases_in-returns-in-Err-clause-gives
+cases_in-returns-in-Err-clause-gives t c = cases_wrong (stmts_at c.args.room) c.args.room (signs c.args.lexemes.now) c.in-Err.halt (sym c.when_begins.ensures ∙ c.if-not-when_begins.false) c.in-Err.ensures.gives
 
 pub cases_in-returns-clause-gives : goal.cases_in-returns-clause-gives
-cases_in-returns-clause-gives t c = cases_read (stmts_at c.args.room) c.args.room (signs c.args.lexemes.now) ((whens_of (map plain_when c.in_ok-whens.whens.items), plain_phrase c.in_ok-whens.other), signs c.in_ok-whens.rest.now) c.ended-is_ended.result.0 (signs c.ended-is_ended.result.1.now) (sym c.when_begins.ensures ∙ c.if-not-when_begins.false) c.in_ok-whens.ensures.gives c.ended-is_ended.ensures.end
+cases_in-returns-clause-gives t c = cases_read (stmts_at c.args.room) c.args.room (signs c.args.lexemes.now) ((whens_of (map plain_when c.in-Ok.given.0.items), plain_phrase c.in-Ok.given.1), signs c.in-Ok.given.3.now) c.ended-is_ended.result.0 (signs c.ended-is_ended.result.1.now) (sym c.when_begins.ensures ∙ c.if-not-when_begins.false) c.in-Ok.ensures.gives c.ended-is_ended.ensures.end
 
 pub cases_in-returns-clause-takes : goal.cases_in-returns-clause-takes
-cases_in-returns-clause-takes t c = c.goes_on.ensures ∙ ap (λ (b : Bool). not c.ended-is_ended.result.0 && b) c.in_ok-whens.ensures.takes
+cases_in-returns-clause-takes t c = c.goes_on.ensures ∙ ap (λ (b : Bool). not c.ended-is_ended.result.0 && b) c.in-Ok.ensures.takes
 
 -- ---- behind a head
 

@@ -1,12 +1,16 @@
 use Rattle.std.proofs.Common.{◌++◌, ◌∙◌, ◌+◌, ap, sym, map, option_map}
 use Rattle.std.proofs.lemmas.List.{append-nil}
-use Rattle.cob_tree.specs.CondView.{plain_conj, plain_neg}
+use Rattle.cob_tree.specs.declared.cond.Cond.{out-Cond}
+use Rattle.cob_tree.specs.declared.cond.Conj.{out-Conj}
+use Rattle.cob_tree.specs.declared.cond.Simple.TheFolds.{fold_out-Cond, fold_out-Conj}
+use Rattle.cob_tree.specs.Cond.{conjs_of, negs_of}
+use Rattle.cob_tree.specs.CondView.{plain_cond, plain_conj, plain_neg}
 use Rattle.cob_program.specs.LogicView.{plain_logic}
 use Rattle.cob_typed_exprs.specs.Judged.{noted}
 use Rattle.cob_typed_conds.specs.Operands.{plain_carry}
 use Rattle.cob_typed_conds.specs.Conditions.{walk_conj, walk_conjs, walk_neg, walk_negs}
 use Rattle.cob_typed_exprs.proofs.Loops.{pushed}
-use Rattle.cob_typed_conds.proofs.Walks.{conjs_from, negs_from, conj_step, neg_step, conjs_end, negs_end}
+use Rattle.cob_typed_conds.proofs.Walks.{conjs_from, negs_from, conj_step, neg_step, conjs_end, negs_end, first_and_others, cond_value, cond_noted, conj_value, conj_carry, conj_noted}
 use Rattle.cob_typed_conds.proofs.conditions.+walk.Goals as goal
 
 pub add_conjs-loop-conj-preserved : goal.add_conjs-loop-conj-preserved
@@ -79,3 +83,46 @@ add_negs-returns-clause-carry t c =
     let l = c.loop-neg in
     sym (ap (λ ts. (walk_negs c.args.scope.now (option_map plain_carry l.carry) ts).carry) (negs_end c.args.negs.now l.neg-index c.loop-neg-test.false))
     ∙ l.invariant.carry
+
+pub condition-returns-clause-value : goal.condition-returns-clause-value
+condition-returns-clause-value t c =
+    let s = c.args.scope.now in
+    let d = c.args.cond.now in
+    c.any_or_one.ensures
+    ∙ cond_value s (plain_cond d) (plain_conj (out-Cond d).first) (conjs_of (map plain_conj (out-Cond d).others.items)) (fold_out-Cond _ _ _ _ _ _ _ _ d) _ c.in_ok-first.ensures.carry (map plain_logic c.add_conjs.new.parts.items)
+    (first_and_others c.new-parts.result.items c.push.new.self.items c.add_conjs.new.parts.items c.in_ok-first.first _ _ _ c.new-parts.ensures.items c.in_ok-push.ensures.items
+    c.in_ok-first.ensures.value c.in_ok-add_conjs.ensures.value (ap (λ xs. (walk_conjs s (option_map plain_carry c.in_ok-first.behind) (conjs_of (map plain_conj xs))).logics.value) c.deref.ensures.value))
+
+pub condition-returns-clause-noted : goal.condition-returns-clause-noted
+condition-returns-clause-noted t c =
+    let s = c.args.scope.now in
+    let d = c.args.cond.now in
+    cond_noted s (plain_cond d) (plain_conj (out-Cond d).first) (conjs_of (map plain_conj (out-Cond d).others.items)) (fold_out-Cond _ _ _ _ _ _ _ _ d) _ c.in_ok-first.ensures.carry c.args.line _ _ _
+    c.in_ok-first.ensures.noted
+    (c.in_ok-add_conjs.ensures.noted
+    ∙ ap (λ xs. noted c.args.line c.walk_conj.new.findings.items (walk_conjs s (option_map plain_carry c.in_ok-first.behind) (conjs_of (map plain_conj xs))).logics.broken) c.deref.ensures.value)
+
+pub walk_conj-returns-clause-value : goal.walk_conj-returns-clause-value
+walk_conj-returns-clause-value t c =
+    let s = c.args.scope.now in
+    let d = c.args.conj.now in
+    c.all_or_one.ensures
+    ∙ conj_value s (option_map plain_carry c.args.before) (plain_conj d) (plain_neg (out-Conj d).first) (negs_of (map plain_neg (out-Conj d).others.items)) (fold_out-Conj _ _ _ _ _ _ _ _ d) _ c.in_ok-first.ensures.carry (map plain_logic c.add_negs.new.parts.items)
+    (first_and_others c.new-parts.result.items c.push.new.self.items c.add_negs.new.parts.items c.in_ok-first.first _ _ _ c.new-parts.ensures.items c.in_ok-push.ensures.items
+    c.in_ok-first.ensures.value c.in_ok-last.ensures.value (ap (λ xs. (walk_negs s (option_map plain_carry c.in_ok-first.behind) (negs_of (map plain_neg xs))).logics.value) c.deref.ensures.value))
+
+pub walk_conj-returns-clause-carry : goal.walk_conj-returns-clause-carry
+walk_conj-returns-clause-carry t c =
+    let s = c.args.scope.now in
+    let d = c.args.conj.now in
+    conj_carry s (option_map plain_carry c.args.before) (plain_conj d) (plain_neg (out-Conj d).first) (negs_of (map plain_neg (out-Conj d).others.items)) (fold_out-Conj _ _ _ _ _ _ _ _ d) _ c.in_ok-first.ensures.carry _
+    (c.in_ok-last.ensures.carry ∙ ap (λ xs. (walk_negs s (option_map plain_carry c.in_ok-first.behind) (negs_of (map plain_neg xs))).carry) c.deref.ensures.value)
+
+pub walk_conj-returns-clause-noted : goal.walk_conj-returns-clause-noted
+walk_conj-returns-clause-noted t c =
+    let s = c.args.scope.now in
+    let d = c.args.conj.now in
+    conj_noted s (option_map plain_carry c.args.before) (plain_conj d) (plain_neg (out-Conj d).first) (negs_of (map plain_neg (out-Conj d).others.items)) (fold_out-Conj _ _ _ _ _ _ _ _ d) _ c.in_ok-first.ensures.carry c.args.line _ _ _
+    c.in_ok-first.ensures.noted
+    (c.in_ok-last.ensures.noted
+    ∙ ap (λ xs. noted c.args.line c.walk_neg.new.findings.items (walk_negs s (option_map plain_carry c.in_ok-first.behind) (negs_of (map plain_neg xs))).logics.broken) c.deref.ensures.value)

@@ -1,4 +1,4 @@
-use Rattle.std.proofs.Common.{ℕ, pos, get_or, sym, ap, ◌∙◌, arith, rules}
+use Rattle.std.proofs.Common.{ℕ, pos, get_or, refl, sym, ap, ◌∙◌, arith, rules}
 use Rattle.std.specs.Int.{w128}
 use Rattle.std.proofs.lemmas.Int.{to_z-of_z}
 use Rattle.diff_bounds.specs.Matrix.{word}
@@ -29,3 +29,15 @@ loop-column-preserved c =
           (to_z-of_z w128 _ (search rules))
           c.lesser.ensures);
     }
+
+pub lesser-requires-clause-first : goal.lesser-requires-clause-first
+lesser-requires-clause-first c = short_along _ _ c.loop-column.invariant.first c.requires.first
+
+pub returns-after-loop-column-clause-row : goal.returns-after-loop-column-clause-row
+returns-after-loop-column-clause-row c j h = c.loop-column.invariant.columns.done j (omega arith)
+
+pub returns-after-loop-column-clause-others : goal.returns-after-loop-column-clause-others
+returns-after-loop-column-clause-others c = c.loop-column.invariant.columns.others
+
+pub returns-else-first-lt-NO_PATH-clause-others : goal.returns-else-first-lt-NO_PATH-clause-others
+returns-else-first-lt-NO_PATH-clause-others c i j h g ne = refl

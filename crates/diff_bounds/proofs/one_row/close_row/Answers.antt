@@ -1,10 +1,12 @@
-use Rattle.std.proofs.Common.{◌+◌, refl, arith}
+use Rattle.std.proofs.Common.{◌+◌, pos, sym, refl, arith}
 use Rattle.std.proofs.lemmas.Bool.{false≢true}
 use Rattle.diff_bounds.specs.Matrix.{word}
 use Rattle.diff_bounds.proofs.Ends.{words_of}
 use Rattle.diff_bounds.proofs.Standing.{stands_after, stands_before, none_stands}
 use Rattle.diff_bounds.proofs.Closures.{closed_to, closed_nowhere}
 use Rattle.diff_bounds.proofs.OneRow.{found, no_cycle, closure_is, matrix_is, cycle_found, cycle_is_negative}
+use Rattle.diff_bounds.specs.RowSums.{no_sum}
+use Rattle.diff_bounds.proofs.Asked.{nine, below_next, below_nine, nine_same}
 use Rattle.diff_bounds.proofs.one_row.close_row.Goals as goal
 
 -- ---- a round trip is negative
@@ -65,3 +67,83 @@ returns-clause-meaning c t cells =
       stands_after n (word n c.args.m.now) (word n c.lower_words.new.m) cells c.requires.m.diagonal closed,
       stands_before n (word n c.args.m.now) (word n c.lower_words.new.m) cells (words_of c.args.size c.args.m.now c.requires.m).words closed,
     )
+
+-- ---- what the calls ask
+pub sums_into-requires-clause-few : goal.sums_into-requires-clause-few
+sums_into-requires-clause-few c = nine c.args.size c.requires.size
+
+pub sums_into-requires-clause-width : goal.sums_into-requires-clause-width
+sums_into-requires-clause-width c = c.requires.m.width
+
+pub sums_into-requires-clause-words : goal.sums_into-requires-clause-words
+sums_into-requires-clause-words c = (words_of c.args.size c.args.m.now c.requires.m).words
+
+pub sums_into-requires-clause-at : goal.sums_into-requires-clause-at
+sums_into-requires-clause-at c = below_next c.args.at c.args.size c.requires.at
+
+pub sums_into-requires-clause-room : goal.sums_into-requires-clause-room
+sums_into-requires-clause-room c = nine c.args.size c.requires.size
+
+pub sums_into-requires-clause-none : goal.sums_into-requires-clause-none
+sums_into-requires-clause-none c k h = nine_same no_sum (pos 0) k (below_nine k c.args.size h c.requires.size)
+
+pub is_negative_trip-requires-clause-few : goal.is_negative_trip-requires-clause-few
+is_negative_trip-requires-clause-few c = nine c.args.size c.requires.size
+
+pub is_negative_trip-requires-clause-width : goal.is_negative_trip-requires-clause-width
+is_negative_trip-requires-clause-width c = c.requires.m.width
+
+pub is_negative_trip-requires-clause-words : goal.is_negative_trip-requires-clause-words
+is_negative_trip-requires-clause-words c = (words_of c.args.size c.args.m.now c.requires.m).words
+
+pub is_negative_trip-requires-clause-at : goal.is_negative_trip-requires-clause-at
+is_negative_trip-requires-clause-at c = below_next c.args.at c.args.size c.requires.at
+
+pub sums_from-requires-clause-few : goal.sums_from-requires-clause-few
+sums_from-requires-clause-few c = nine c.args.size c.requires.size
+
+pub sums_from-requires-clause-width : goal.sums_from-requires-clause-width
+sums_from-requires-clause-width c = c.requires.m.width
+
+pub sums_from-requires-clause-words : goal.sums_from-requires-clause-words
+sums_from-requires-clause-words c = (words_of c.args.size c.args.m.now c.requires.m).words
+
+pub sums_from-requires-clause-at : goal.sums_from-requires-clause-at
+sums_from-requires-clause-at c = below_next c.args.at c.args.size c.requires.at
+
+pub sums_from-requires-clause-room : goal.sums_from-requires-clause-room
+sums_from-requires-clause-room c = nine c.args.size c.requires.size
+
+pub sums_from-requires-clause-none : goal.sums_from-requires-clause-none
+sums_from-requires-clause-none c k h = nine_same no_sum (pos 0) k (below_nine k c.args.size h c.requires.size)
+
+pub lower_words-requires-clause-few : goal.lower_words-requires-clause-few
+lower_words-requires-clause-few c = nine c.args.size c.requires.size
+
+pub lower_words-requires-clause-width : goal.lower_words-requires-clause-width
+lower_words-requires-clause-width c = c.requires.m.width
+
+pub lower_words-requires-clause-words : goal.lower_words-requires-clause-words
+lower_words-requires-clause-words c = (words_of c.args.size c.args.m.now c.requires.m).words
+
+pub is_negative_trip-requires-clause-into : goal.is_negative_trip-requires-clause-into
+is_negative_trip-requires-clause-into c = c.sums_into.ensures
+
+pub lower_words-requires-clause-into : goal.lower_words-requires-clause-into
+lower_words-requires-clause-into c k h = (c.sums_into.ensures.sums k h).pair
+
+pub lower_words-requires-clause-from : goal.lower_words-requires-clause-from
+lower_words-requires-clause-from c k h = (c.sums_from.ensures.sums k h).pair
+
+-- ---- what isn't said
+pub returns-then-is_negative_trip-clause-sums : goal.returns-then-is_negative_trip-clause-sums
+returns-then-is_negative_trip-clause-sums c t = absurd (false≢true t)
+
+pub returns-then-is_negative_trip-clause-matrix : goal.returns-then-is_negative_trip-clause-matrix
+returns-then-is_negative_trip-clause-matrix c t = absurd (false≢true t)
+
+pub returns-then-is_negative_trip-clause-meaning : goal.returns-then-is_negative_trip-clause-meaning
+returns-then-is_negative_trip-clause-meaning c t = absurd (false≢true t)
+
+pub returns-clause-empty : goal.returns-clause-empty
+returns-clause-empty c e = absurd (false≢true (sym e))

@@ -5,6 +5,7 @@ use Rattle.std.proofs.lemmas.Bool.{cases_eq, false≢true}
 use Rattle.diff_bounds.specs.Matrix.{word, IsWord}
 use Rattle.diff_bounds.specs.RowSums.{IsNegativeAt}
 use Rattle.diff_bounds.proofs.RowSums.{negative_along}
+use Rattle.diff_bounds.proofs.Asked.{pair_again}
 use Rattle.diff_bounds.proofs.one_row.is_negative_trip.Goals as goal
 
 pub is_negative-requires-clause-word : goal.is_negative-requires-clause-word
@@ -32,3 +33,15 @@ loop-over-preserved c v h =
           (subst (λ (x : ℕ). IsNegativeAt c.args.at (word c.args.places c.args.m.now) c.args.into.now x) e is)))
       | inr ne ↦ c.loop-over.invariant v (omega arith)
     ]
+
+pub is_negative-requires-clause-sum : goal.is_negative-requires-clause-sum
+is_negative-requires-clause-sum c = pair_again _ (c.requires.into.sums c.loop-over.over c.loop-over-test.true).pair
+
+pub returns-then-is_negative-clause-none : goal.returns-then-is_negative-clause-none
+returns-then-is_negative-clause-none c e = absurd (false≢true (sym e))
+
+pub returns-clause-some : goal.returns-clause-some
+returns-clause-some c t = absurd (false≢true t)
+
+pub returns-clause-none : goal.returns-clause-none
+returns-clause-none c e v h = c.loop-over.invariant v (omega arith)

@@ -1,9 +1,10 @@
-use Rattle.std.proofs.Common.{ℕ, ℤ, pos, ◌≤ℤ◌, get_or, sym, ap, subst, ◌∙◌, arith, rules}
+use Rattle.std.proofs.Common.{ℕ, ℤ, pos, ◌≤ℤ◌, get_or, refl, sym, ap, subst, ◌∙◌, arith, rules}
 use Rattle.std.specs.Int.{w128}
 use Rattle.std.proofs.lemmas.Int.{to_z-of_z}
 use Rattle.diff_bounds.specs.Matrix.{word, IsWord}
 use Rattle.diff_bounds.specs.RowSums.{no_sum, IsBetter}
-use Rattle.diff_bounds.proofs.RowSums.{sums_more, better_along, better_swapped}
+use Rattle.diff_bounds.proofs.RowSums.{sums_more, better_along, better_swapped, better_none}
+use Rattle.std.proofs.lemmas.Int.{ints}
 use Rattle.diff_bounds.proofs.one_row.lower_into.Goals as goal
 
 pub better-requires-clause-best : goal.better-requires-clause-best
@@ -35,3 +36,14 @@ loop-row-preserved c =
           c.better.ensures))
           c.loop-row.invariant.sums;
     }
+
+pub better-requires-clause-bound : goal.better-requires-clause-bound
+better-requires-clause-bound c = omega (arith, ints)
+
+pub returns-after-loop-row : goal.returns-after-loop-row
+returns-after-loop-row c i h = c.loop-row.invariant.sums.done i (omega arith)
+
+pub returns-else-number-lt-NONE : goal.returns-else-number-lt-NONE
+returns-else-number-lt-NONE c i h =
+    let number = ap (λ (p : ℕ). get_or c.args.m.now p (pos 0)) c.place_of.ensures.value in
+    better_swapped _ _ _ _ (better_none (get_or c.args.sums.now i (pos 0)) (word c.args.places c.args.m.now c.args.over c.args.at) (word c.args.places c.args.m.now i c.args.over) _ (omega (arith, ints, number)) refl)

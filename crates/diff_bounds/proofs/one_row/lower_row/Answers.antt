@@ -3,6 +3,7 @@ use Rattle.std.specs.Int.{w128}
 use Rattle.std.proofs.lemmas.Int.{to_z-of_z}
 use Rattle.diff_bounds.specs.Matrix.{IsWord}
 use Rattle.diff_bounds.proofs.RowSums.{lowered_along, columns_more}
+use Rattle.diff_bounds.proofs.Asked.{pair_again}
 use Rattle.diff_bounds.proofs.one_row.lower_row.Goals as goal
 
 pub lowered-requires-clause-word : goal.lowered-requires-clause-word
@@ -24,3 +25,16 @@ loop-column-preserved c =
     (to_z-of_z w128 _ (search rules))
     (to_z-of_z w128 _ (search rules))
     c.lowered.ensures)
+
+pub lowered-requires-clause-first : goal.lowered-requires-clause-first
+lowered-requires-clause-first c = pair_again c.args.first c.requires.first
+
+pub lowered-requires-clause-second : goal.lowered-requires-clause-second
+lowered-requires-clause-second c = pair_again _ (c.requires.from c.loop-column.column c.loop-column-test.true)
+
+pub returns-clause-row : goal.returns-clause-row
+returns-clause-row c j h =
+    lowered_along _ _ _ _ _ _ _ _ refl (to_z-of_z w128 c.args.first c.ranges.first) refl refl (c.loop-column.invariant.done j (omega arith))
+
+pub returns-clause-others : goal.returns-clause-others
+returns-clause-others c = c.loop-column.invariant.others

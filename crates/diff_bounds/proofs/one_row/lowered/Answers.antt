@@ -1,5 +1,4 @@
-use Rattle.std.proofs.Common.{◌≡◌, ℤ, pos, ◌+ℤ◌, ◌≤ℤ◌, ◌<ℤ◌, to_z, of_z, refl, arith}
-use Rattle.std.specs.Int.{w128}
+use Rattle.std.proofs.Common.{ℤ, ◌+ℤ◌, ◌≤ℤ◌, ◌<ℤ◌, refl, arith}
 use Rattle.std.proofs.lemmas.Int.{ints, clamps}
 use Rattle.diff_bounds.specs.Matrix.{largest}
 use Rattle.diff_bounds.proofs.RowSums.{lowered_by, lowered_not}

@@ -15,3 +15,6 @@ loop-over-preserved c i h =
     let over = c.loop-over.over in
     let best = get_or c.loop-over.sums i (pos 0) in
     least_over_more w i c.args.at over best (w i over) (w over c.args.at) _ best (c.requires.words i over h (omega arith)) (c.requires.words over c.args.at (omega arith) c.requires.at) refl refl refl (c.loop-over.invariant i h) (c.lower_into.ensures i h)
+
+pub lower_into-requires-clause-words : goal.lower_into-requires-clause-words
+lower_into-requires-clause-words c = c.requires.words

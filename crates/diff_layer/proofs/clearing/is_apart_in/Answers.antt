@@ -1,4 +1,8 @@
-use Rattle.std.proofs.Common.{arith, ◌∙◌}
+use Rattle.std.proofs.Common.{sym, ap, subst, arith, ◌∙◌}
+use Rattle.std.proofs.lemmas.List.{length-map}
+use Rattle.diff_bounds.specs.Matrix.{IsMatrix}
+use Rattle.diff_steps.specs.Packs.{size_of}
+use Rattle.pack_forms.specs.Cells.{plain_cell}
 use Rattle.cob_program.specs.ActView.{plain_program}
 use Rattle.borrowed_parts.specs.PartView.{plain_divisor}
 use Rattle.cell_rows.specs.Rows.{cells_of}
@@ -19,3 +23,7 @@ returns c =
     c.is_apart.ensures
     ∙ apart_is (plain_program x.program.now) (cells_of x.row.now) (plain_divisor x.divisor) c.view_of-pack.result.cells.now (plain_plan x.plan.now) x.m.now c.divisor_form.result
     c.view_of-pack.ensures.pack c.divisor_form.ensures.value
+
+pub is_apart-requires-clause-m : goal.is_apart-requires-clause-m
+is_apart-requires-clause-m c =
+    subst (λ n. IsMatrix n c.args.m.now) (sym (ap size_of c.view_of-pack.ensures.pack) ∙ length-map c.view_of-pack.result.cells.now plain_cell) c.requires.matrix

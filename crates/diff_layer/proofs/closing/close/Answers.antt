@@ -1,8 +1,12 @@
-use Rattle.std.proofs.Common.{if◌then◌else◌, Some, None, sym, ap, subst, ◌∙◌}
+use Rattle.std.proofs.Common.{List, length, if◌then◌else◌, Some, None, sym, ap, subst, ◌∙◌}
+use Rattle.std.proofs.lemmas.List.{length-map}
+use Rattle.diff_bounds.specs.Matrix.{IsMatrix}
 use Rattle.cob_program.specs.ActView.{plain_program}
 use Rattle.cell_rows.specs.Rows.{cells_of}
 use Rattle.cell_steps.specs.Homes.{homes_of}
 use Rattle.pack_forms.specs.KnownCells.{HaveEnds}
+use Rattle.pack_forms.specs.declared.cells.PackCell.{PackCell}
+use Rattle.pack_forms.specs.Cells.{plain_cell}
 use Rattle.diff_layer.specs.Plans.{plain_plan}
 use Rattle.diff_layer.proofs.KnownEnds.{known_cells_end}
 use Rattle.diff_layer.proofs.Staying.{stays_closed}
@@ -21,3 +25,13 @@ returns-clause-stays c closes =
     stays_closed p (cells_of x.row.now) (plain_plan x.plan.now) c.requires.plan.few c.requires.fits c.requires.plan.short x.m.now c.requires.matrix c.close_pack.new.m
     (c.close_pack.ensures.closing p.layout (homes_of p) (cells_of x.row.now) (plain_plan x.plan.now) c.know_cells.ensures
     ∙ ap (λ b. if b then Some c.close_pack.new.m else None) closes)
+
+pub close_pack-requires-clause-m : goal.close_pack-requires-clause-m
+close_pack-requires-clause-m c =
+    let x = c.args in
+    subst (λ n. IsMatrix n x.m.now) (length-map x.plan.now.cells.items plain_cell ∙ ap (λ (cs : List PackCell). length cs) (sym c.as_slice-size.ensures.value)) c.requires.matrix
+
+pub returns-clause-matrix : goal.returns-clause-matrix
+returns-clause-matrix c closes =
+    let x = c.args in
+    subst (λ n. IsMatrix n c.close_pack.new.m) (sym (length-map x.plan.now.cells.items plain_cell ∙ ap (λ (cs : List PackCell). length cs) (sym c.as_slice-size.ensures.value))) (c.close_pack.ensures.matrix closes)

@@ -1,5 +1,6 @@
 use Rattle.std.proofs.Common.{List, length, if◌then◌else◌, Some, None, sym, ap, subst, ◌∙◌}
 use Rattle.std.proofs.lemmas.List.{length-map}
+use Rattle.diff_bounds.specs.Matrix.{IsMatrix}
 use Rattle.cob_program.specs.ActView.{plain_program}
 use Rattle.cell_rows.specs.Rows.{cells_of}
 use Rattle.cell_steps.specs.Homes.{homes_of}
@@ -31,3 +32,18 @@ returns-clause-stays c closes =
     stays_closed p (cells_of x.row.now) (plain_plan x.plan.now) c.requires.plan.few c.requires.fit c.requires.plan.short x.m.now c.requires.matrix c.close_again.new.m
     (c.close_again.ensures.closing p.layout (homes_of p) (cells_of x.row.now) (plain_plan x.plan.now) c.know_cells.ensures
     ∙ ap (λ b. if b then Some c.close_again.new.m else None) closes)
+
+pub close_again-requires-clause-m : goal.close_again-requires-clause-m
+close_again-requires-clause-m c =
+    let x = c.args in
+    subst (λ n. IsMatrix n x.m.now) (length-map x.plan.now.cells.items plain_cell ∙ ap (λ (cs : List PackCell). length cs) (sym c.as_slice-size.ensures.value)) c.requires.matrix
+
+pub close_again-requires-clause-last : goal.close_again-requires-clause-last
+close_again-requires-clause-last c =
+    let x = c.args in
+    subst (λ n. IsMatrix n x.last.now) (length-map x.plan.now.cells.items plain_cell ∙ ap (λ (cs : List PackCell). length cs) (sym c.as_slice-size.ensures.value)) c.requires.last
+
+pub returns-clause-matrix : goal.returns-clause-matrix
+returns-clause-matrix c closes =
+    let x = c.args in
+    subst (λ n. IsMatrix n c.close_again.new.m) (sym (length-map x.plan.now.cells.items plain_cell ∙ ap (λ (cs : List PackCell). length cs) (sym c.as_slice-size.ensures.value))) (c.close_again.ensures.matrix closes)

@@ -63,3 +63,12 @@ returns-else-pass_pack-clause-closed t c wrote written =
     c.pass_pack.new.m c.split_at_mut-first.result.1.now c.pass_pack.ensures.width p (cells_of x.row.now)
     (plan_changed p (cells_of x.before.now) x.kept.now.common (latest_of x.kept.now) wrote (plain_part x.part)) c.pass_pack.result
     (matrices_for x.plans.now (c.pass_pack.new.m ++ c.split_at_mut-first.result.1.now)) (c.pass_pack.ensures.value wrote written) c.if-pass_pack.false
+
+pub pass_pack-requires-clause-plan : goal.pass_pack-requires-clause-plan
+pass_pack-requires-clause-plan t c =
+    let x = c.args in
+    let plans = subst (AllByRecursion (IsPlanOf (plain_program x.program.now))) (named x.plans.now c.plan-item.result c.in-len1-up.len_at_least c.plan-item.is) c.requires.plans in
+    plans.0
+
+pub returns-else-pass_pack-clause-matrices : goal.returns-else-pass_pack-clause-matrices
+returns-else-pass_pack-clause-matrices t c closes = absurd (cc (closes, c.if-pass_pack.false))

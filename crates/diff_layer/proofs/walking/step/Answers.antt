@@ -18,3 +18,6 @@ returns-in-Some-clause-writes c wrote written =
     ∙ (ap (λ b. b || are_written l bs items) written
     ∙ (sym (written_more l bs wrote items)
     ∙ ap (λ o. are_written l (option_map_or (part_bytes l) o [] ++ wrote) items) (sym (sym c.part_at.ensures ∙ ap (option_map plain_part) c.in-Some.is))))
+
+pub step_over-requires-clause-there : goal.step_over-requires-clause-there
+step_over-requires-clause-there c = sym c.part_at.ensures ∙ ap (option_map plain_part) c.in-Some.is

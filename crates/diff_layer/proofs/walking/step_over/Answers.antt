@@ -1,7 +1,8 @@
 use Rattle.std.proofs.Common.{Some, sym, ap, subst, ◌∙◌}
 use Rattle.std.specs.Option.{option_map_or}
+use Rattle.std.proofs.lemmas.Option.{slice_get_within}
 use Rattle.cob_program.specs.ActView.{plain_program, plain_stmt}
-use Rattle.borrowed_parts.specs.PartView.{plain_part}
+use Rattle.borrowed_parts.specs.PartView.{edge_parts, plain_part}
 use Rattle.cell_rows.specs.Rows.{cells_of}
 use Rattle.cell_walk.specs.Kept.{seen, latest_of}
 use Rattle.cell_walk.specs.Latest.{latest_behind}
@@ -48,3 +49,8 @@ returns-then-walk-clause-steps c wrote written =
     (matrices_for x.plans.now x.out.now) (matrices_for x.plans.now c.pass.new.out) c.pass.result small on
     (c.walk.ensures.latest ∙ ap (λ o. option_map_or (λ z. latest_behind p (act_in y) x.action z s (latest_of x.kept.now)) o (latest_of x.kept.now)) c.requires.there)
     (ap cells_of c.copy_from_slice.ensures.after) (c.pass.ensures.closed wrote (written_to p (act_in y) x.action part wrote x.written of_edge written))
+
+pub walk-requires-clause-within : goal.walk-requires-clause-within
+walk-requires-clause-within c =
+    let x = c.args in
+    slice_get_within (edge_parts (plain_program x.program.now) (plain_stmt x.statement.now) x.action) x.number (plain_part x.part) c.requires.there

@@ -1,6 +1,7 @@
-use Rattle.std.proofs.Common.{length, ap, sym, ◌∙◌, subst, ◌<◌}
+use Rattle.std.proofs.Common.{◌≡◌, length, ap, sym, ◌∙◌, subst, ◌<◌, arith}
 use Rattle.std.proofs.lemmas.List.{length-map}
 use Rattle.pack_choice.specs.Mentions.{lists_of}
+use Rattle.pack_choice.specs.Reaching.{reached_through}
 use Rattle.pack_choice.proofs.Marks.{wide, turned, same_width, ended_at}
 use Rattle.pack_choice.proofs.reaching.reached.Goals as goal
 
@@ -38,3 +39,10 @@ pub returns-clause-wide : goal.returns-clause-wide
 returns-clause-wide c =
     let l = c.loop-round in
     ap length l.invariant ∙ wide (lists_of c.args.texts.now) c.args.own.now l.round ∙ length-map c.args.texts.now _
+
+pub returns-clause-value : goal.returns-clause-value
+returns-clause-value c =
+    let texts = lists_of c.args.texts.now in
+    let long : length texts ≡ length c.args.texts.now = length-map c.args.texts.now _ in
+    let whole : c.loop-round.round ≡ length texts = omega (arith, long) in
+    c.loop-round.invariant ∙ ap (reached_through texts c.args.own.now) whole

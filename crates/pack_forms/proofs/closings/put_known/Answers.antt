@@ -1,7 +1,10 @@
-use Rattle.std.proofs.Common.{◌+◌, neg_ℤ, ap, ◌∙◌, rules}
+use Rattle.std.proofs.Common.{◌+◌, neg_ℤ, sym, ap, subst, ◌∙◌, rules}
+use Rattle.std.specs.Prelude.{IfSome}
 use Rattle.std.specs.Int.{w128}
 use Rattle.std.proofs.lemmas.Int.{to_z-of_z}
 use Rattle.diff_bounds.specs.Matrix.{word}
+use Rattle.pack_forms.specs.Ends.{IsNumber}
+use Rattle.pack_forms.specs.KnownCells.{AreEnds}
 use Rattle.pack_forms.proofs.KnownWords.{same_product, put_at}
 use Rattle.pack_forms.proofs.closings.put_known.Goals as goal
 
@@ -16,3 +19,15 @@ returns-in-Some-clause-words c =
     ∙ ap neg_ℤ (to_z-of_z w128 _ (search rules) ∙ c.in_units.ensures.value
     ∙ same_product _ _ c.in-Some.known.low c.args.cell.unit (to_z-of_z w128 _ (search rules)) (to_z-of_z w128 _ (search rules))))
     c.add_bound.ensures.lowered c.add_bound.ensures.others c.add_bound-in-Some.ensures.lowered c.add_bound-in-Some.ensures.others
+
+pub in_units-high-requires : goal.in_units-high-requires
+in_units-high-requires c =
+    let unit = c.args.cell.unit in
+    let ends = subst (λ known. IfSome known (AreEnds unit)) c.in-Some.is c.requires.cell.ends in
+    subst IsNumber (sym (same_product _ _ c.in-Some.known.high unit (to_z-of_z w128 _ (search rules)) (to_z-of_z w128 _ (search rules)))) ends.high
+
+pub in_units-requires : goal.in_units-requires
+in_units-requires c =
+    let unit = c.args.cell.unit in
+    let ends = subst (λ known. IfSome known (AreEnds unit)) c.in-Some.is c.requires.cell.ends in
+    subst IsNumber (sym (same_product _ _ c.in-Some.known.low unit (to_z-of_z w128 _ (search rules)) (to_z-of_z w128 _ (search rules)))) ends.low

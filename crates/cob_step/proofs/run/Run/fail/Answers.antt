@@ -1,5 +1,5 @@
 use Rattle.std.proofs.Common.{◌∙◌, ◌∷◌, ap}
-use Rattle.cob_meaning.specs.declared.straight.Outcome.TheVariants.{Fault}
+use Rattle.cob_runs.specs.declared.outcome.Outcome.TheVariants.{Fault}
 use Rattle.cob_runs.specs.State.{state}
 use Rattle.cob_step.specs.Views.{plain_doing, plain_control}
 use Rattle.cob_step.proofs.run.Run.fail.Goals as goal

@@ -1,6 +1,6 @@
 use Rattle.std.proofs.Common.{◌∙◌, ◌∷◌, List, sym, ap, subst}
-use Rattle.cob_meaning.specs.declared.straight.Outcome.TheVariants.{Ended, Fault}
 use Rattle.cob_program.specs.ActView.{plain_program}
+use Rattle.cob_runs.specs.declared.outcome.Outcome.TheVariants.{Ended, Fault}
 use Rattle.cob_runs.specs.State.{State, Doing, state}
 use Rattle.cob_runs.specs.Steps.{number_of, settled_state, step_on}
 use Rattle.cob_step.specs.Ready.{CanDoAll}

@@ -1,12 +1,13 @@
 use Rattle.std.proofs.Common.{◌++◌, ◌∙◌, ◌+◌, ap, sym, map}
 use Rattle.std.proofs.lemmas.List.{append-nil}
-use Rattle.cob_tree.specs.ExprView.{plain_expr, plain_term, plain_fact, added}
-use Rattle.cob_tree.specs.Expr.{terms_of}
+use Rattle.cob_tree.specs.ExprView.{plain_expr, plain_term, plain_fact, added, multiplied}
+use Rattle.cob_tree.specs.Expr.{terms_of, facts_of}
 use Rattle.cob_tree.specs.declared.expr.Expr.{out-Expr}
+use Rattle.cob_tree.specs.declared.expr.Term.{out-Term}
 use Rattle.cob_program.specs.SumView.{plain_part, plain_factor}
 use Rattle.cob_typed_exprs.specs.Judged.{noted}
 use Rattle.cob_typed_exprs.specs.Sums.{parts_in, factors_in, part_of, factor_of}
-use Rattle.cob_typed_exprs.proofs.Loops.{terms_from, facts_from, term_step, fact_step, terms_end, facts_end, pushed, expr_is, sum_noted}
+use Rattle.cob_typed_exprs.proofs.Loops.{terms_from, facts_from, term_step, fact_step, terms_end, facts_end, pushed, expr_is, term_is, sum_noted, sum_value, part_noted, part_value, first_and_others}
 use Rattle.cob_typed_exprs.proofs.scope.Scope.+sum.Goals as goal
 
 pub add_factors-loop-fact-preserved : goal.add_factors-loop-fact-preserved
@@ -69,3 +70,28 @@ sum-returns-clause-noted t c =
     let e = c.args.expr.now in
     sum_noted s (plain_expr e) (plain_term (out-Expr e).first) (terms_of (map added (out-Expr e).others.items)) c.args.line _ _ _ (expr_is e) c.in_ok-part.ensures.noted
     (c.in_ok-add_parts.ensures.noted ∙ ap (λ xs. noted c.args.line c.part.new.findings.items (parts_in s (terms_of (map added xs))).broken) c.deref.ensures.value)
+
+pub sum-returns-clause-value : goal.sum-returns-clause-value
+sum-returns-clause-value t c =
+    let s = c.args.self.now in
+    let e = c.args.expr.now in
+    c.of.ensures
+    ∙ sum_value s (plain_expr e) (plain_term (out-Expr e).first) (terms_of (map added (out-Expr e).others.items)) (map plain_part c.add_parts.new.parts.items) (expr_is e)
+    (first_and_others plain_part c.new-parts.result.items c.push.new.self.items c.add_parts.new.parts.items c.in_ok-part.field-0 _ _ _ c.new-parts.ensures.items c.in_ok-push.ensures.items
+    c.in_ok-part.ensures.value c.in_ok-add_parts.ensures.value (ap (λ xs. (parts_in s (terms_of (map added xs))).value) c.deref.ensures.value))
+
+pub part-returns-clause-value : goal.part-returns-clause-value
+part-returns-clause-value t c =
+    let s = c.args.self.now in
+    let x = c.args.term.now in
+    c.of.ensures
+    ∙ part_value s c.args.minus (plain_term x) (plain_fact (out-Term x).first) (facts_of (map multiplied (out-Term x).others.items)) (map plain_factor c.add_factors.new.factors.items) (term_is x)
+    (first_and_others plain_factor c.new-factors.result.items c.push.new.self.items c.add_factors.new.factors.items c.in_ok-factor.field-0 _ _ _ c.new-factors.ensures.items c.in_ok-push.ensures.items
+    c.in_ok-factor.ensures.value c.in_ok-add_factors.ensures.value (ap (λ xs. (factors_in s (facts_of (map multiplied xs))).value) c.deref.ensures.value))
+
+pub part-returns-clause-noted : goal.part-returns-clause-noted
+part-returns-clause-noted t c =
+    let s = c.args.self.now in
+    let x = c.args.term.now in
+    part_noted s c.args.minus (plain_term x) (plain_fact (out-Term x).first) (facts_of (map multiplied (out-Term x).others.items)) c.args.line _ _ _ (term_is x) c.in_ok-factor.ensures.noted
+    (c.in_ok-add_factors.ensures.noted ∙ ap (λ xs. noted c.args.line c.factor.new.findings.items (factors_in s (facts_of (map multiplied xs))).broken) c.deref.ensures.value)

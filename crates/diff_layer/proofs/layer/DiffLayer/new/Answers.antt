@@ -1,6 +1,7 @@
 use Rattle.std.proofs.Common.{◌≡◌, ◌≤◌, ◌∙◌, length, sym, ap, subst}
 use Rattle.std.specs.List.{All}
 use Rattle.cob_program.specs.ActView.{plain_program}
+use Rattle.cob_program.specs.Statements.{plain_references}
 use Rattle.cell_steps.specs.Homes.{homes_of}
 use Rattle.cell_laws.specs.Entry.{entry_cells}
 use Rattle.cell_laws.proofs.Entry.{entry_fits}
@@ -14,6 +15,7 @@ use Rattle.pack_laws.specs.Packs.{packs_of, ArePacksOfCells}
 use Rattle.diff_layer.specs.LayerLaws.{cells_for_homes}
 use Rattle.diff_layer.proofs.Layers.{are_plans}
 use Rattle.diff_layer.proofs.Rows.{same_sizes}
+use Rattle.diff_layer.proofs.Steps.{as_many}
 use Rattle.diff_layer.proofs.layer.DiffLayer.new.Goals as goal
 
 pub plans_of-requires-clause-packs : goal.plans_of-requires-clause-packs
@@ -108,3 +110,22 @@ invariant_of-result g c =
       nodes = c.requires.nodes;
       edges = few_edges p graph source c.requires.nodes;
     }
+
+pub has_few_parts-requires-clause-listed : goal.has_few_parts-requires-clause-listed
+has_few_parts-requires-clause-listed g c = ap plain_references c.as_slice.ensures.value ∙ c.in_ok-statements.ensures
+
+pub plans_of-requires-clause-statements : goal.plans_of-requires-clause-statements
+plans_of-requires-clause-statements g c = ap plain_references c.as_slice-2.ensures.value ∙ c.in_ok-statements.ensures
+
+pub entry_words-requires-clause-few : goal.entry_words-requires-clause-few
+entry_words-requires-clause-few g c = subst (λ cells. length cells ≤ 512) (sym c.get-3.ensures) c.requires.cells
+
+pub entry_words-requires-clause-packs : goal.entry_words-requires-clause-packs
+entry_words-requires-clause-packs g c =
+    let same = as_many (homes_of (plain_program c.args.program.now)) c.args.packs.now c.in_ok-plans.plans.items c.in_ok-plans.ensures.packs in
+    subst (λ n. n ≤ 32) (sym (ap length c.as_slice-3.ensures.value ∙ same)) c.requires.few
+
+pub entry_words-requires-clause-listed : goal.entry_words-requires-clause-listed
+entry_words-requires-clause-listed g c =
+    let same = as_many (homes_of (plain_program c.args.program.now)) c.args.packs.now c.in_ok-plans.plans.items c.in_ok-plans.ensures.packs in
+    c.requires.listed ∙ sym (ap length c.as_slice-3.ensures.value ∙ same)

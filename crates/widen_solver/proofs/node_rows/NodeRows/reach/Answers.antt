@@ -48,3 +48,13 @@ returns c =
     rw (← c.self.view_is) (
     ap (held_of (with_block mid c.taken-id.result ws) g.bottom g.transfer) c.put.ensures
     ∙ (slots.reaches g.blocks mid g.bottom g.transfer g.ids.items c.args.index c.taken-id.result ws c.self.invariant less (c.is_own.ensures.none c.if-is_own.false) c.taken-id.ensures copied wide).held)
+
+pub is_own-requires : goal.is_own-requires
+is_own-requires c =
+    let g = c.self.inside in
+    omega (arith, subst (λ (h : RowsHeld). c.args.index < length h.rows) (sym c.self.view_is) c.requires, slots.count_is g.blocks g.ids.items)
+
+pub put-requires : goal.put-requires
+put-requires c =
+    let g = c.self.inside in
+    omega (arith, subst (λ (h : RowsHeld). c.args.index < length h.rows) (sym c.self.view_is) c.requires, slots.count_is g.blocks g.ids.items)

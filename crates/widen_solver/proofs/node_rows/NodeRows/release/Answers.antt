@@ -28,3 +28,13 @@ returns-else-is_own c =
     let less : c.args.index < length g.ids.items = omega (arith, subst (λ (h : RowsHeld). c.args.index < length h.rows) (sym c.self.view_is) c.requires, slots.count_is g.blocks g.ids.items) in
     let empty = slots.content_at g.blocks g.ids.items c.args.index None less ∙ ap (slot_content g.blocks) (c.is_own.ensures.none c.if-is_own.false) in
     rw (← c.self.view_is) (slots.own_same (held_of g.blocks g.bottom g.transfer g.ids.items) c.args.index None empty)
+
+pub is_own-requires : goal.is_own-requires
+is_own-requires c =
+    let g = c.self.inside in
+    omega (arith, subst (λ (h : RowsHeld). c.args.index < length h.rows) (sym c.self.view_is) c.requires, slots.count_is g.blocks g.ids.items)
+
+pub emptied-id-requires-clause-index : goal.emptied-id-requires-clause-index
+emptied-id-requires-clause-index c =
+    let g = c.self.inside in
+    omega (arith, subst (λ (h : RowsHeld). c.args.index < length h.rows) (sym c.self.view_is) c.requires, slots.count_is g.blocks g.ids.items)

@@ -16,3 +16,8 @@ returns c =
     let g = c.self.inside in
     let less : c.args.index < length g.ids.items = omega (arith, subst (λ (h : RowsHeld). c.args.index < length h.rows) (sym c.self.view_is) c.requires, slots.count_is g.blocks g.ids.items) in
     rw (← c.self.view_is) (slots.seen_is g.blocks c.shown.result.now c.read.result.now c.read.ensures.value ∙ ap (content g.blocks) c.shown.ensures ∙ sym (slots.shown_is g.blocks g.bottom g.transfer g.ids.items c.args.index less))
+
+pub shown-requires : goal.shown-requires
+shown-requires c =
+    let g = c.self.inside in
+    omega (arith, subst (λ (h : RowsHeld). c.args.index < length h.rows) (sym c.self.view_is) c.requires, slots.count_is g.blocks g.ids.items)

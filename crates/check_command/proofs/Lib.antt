@@ -1,3 +1,0 @@
-pub mod Certificates
-pub mod OneCheck
-pub mod Shared

@@ -1,4 +1,0 @@
-pub mod Answers
-pub mod Steps
-pub mod Shared
-pub mod Types

@@ -1,0 +1,9 @@
+use Rattle.std.proofs.Common.{ap, ◌∙◌}
+use Rattle.cob_tree.specs.declared.front.Select.{Select}
+use Rattle.cob_data.specs.Files.{external_text}
+use Rattle.std.specs.Str.{str_to_ascii_lowercase}
+use Rattle.cob_data.proofs.StepLemmas.{mapped_step}
+use Rattle.cob_data.proofs.names.external_names.Goals as goal
+
+pub loop-select-preserved : goal.loop-select-preserved
+loop-select-preserved c = mapped_step (λ (s : Select). str_to_ascii_lowercase (external_text s.external)) c.args.selects.now c.loop-select.select-index c.select-item.result c.loop-select.names.items _ _ c.loop-select-test.true c.select-item.is (c.in_ok-name.ensures ∙ ap str_to_ascii_lowercase c.external_text.ensures) c.in_ok-push.ensures.items c.loop-select.invariant

@@ -1,3 +1,0 @@
-pub mod Program
-pub mod Run
-pub mod Progress

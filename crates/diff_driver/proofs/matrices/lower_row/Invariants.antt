@@ -1,5 +1,0 @@
-use Rattle.diff_bounds.specs.Matrix.{IsMatrix}
-use Rattle.diff_driver.proofs.matrices.lower_row.Given as goal
-
-abbrev pub invariant-loop-column : goal.invariant-loop-column
-invariant-loop-column l = IsMatrix l.size l.m

@@ -1,0 +1,4 @@
+pub mod Claims
+pub mod Numbers
+pub mod RowLemmas
+pub mod LayerRows

@@ -1,4 +1,0 @@
-pub mod Cuts
-pub mod OneLine
-pub mod Texts
-pub mod Stops
