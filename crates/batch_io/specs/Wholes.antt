@@ -75,12 +75,12 @@ with_bytes id (byte ∷ bytes) told = with_piece id (byte ∷ bytes) told
 abbrev pub Grows : FilesState → FilesState → ℕ → List ℕ → Type 0
 Grows old new id bytes = known_bytes new ≡ option_map (with_bytes id bytes) old.told
 
--- all of the bytes, or where that fails a prefix of them, stand at the end of the id's file
+-- all of the bytes, or where that fails fewer of them, a prefix, stand at the end of the id's file
 pub record PutsWhole (old new : FilesState) (id : ℕ) (bytes : List ℕ) (result : Result Unit MakeEnd) : Type 0 where
   pub writing : Counts (make_failed result) old.writing new.writing
   pub reading : new.reading ≡ old.reading
   pub ok : OnOk result (Grows old new id bytes)
-  pub err : OnErr result ((n : ℕ) × (n ≤ length bytes) × Grows old new id (take n bytes))
+  pub err : OnErr result ((n : ℕ) × (n < length bytes) × Grows old new id (take n bytes))
   pub ids : KeepsIds old new
 
 -- an open file to whose end the bytes, or a prefix of them, are put, and that is closed

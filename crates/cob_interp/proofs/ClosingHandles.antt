@@ -1,31 +1,37 @@
 -- Behind a run's end: what is still open is closed.
-use Rattle.std.proofs.Common.{◌≡◌, ℕ, ◌≤◌, List, inl, inr, Option, Result, Ok, Err, refl, sym, subst, ◌∙◌, arith}
+use Rattle.std.proofs.Common.{◌≡◌, ℕ, ◌≤◌, Bool, true, false, List, inl, inr, Option, Result, Ok, Err, refl, sym, subst, ◌∙◌, arith}
+use Rattle.std.specs.Prelude.{IfErr}
 use Rattle.batch_io.specs.Faults.{Rose}
 use Rattle.batch_io.specs.FilesState.{Contents, FilesState, known_bytes}
 use Rattle.batch_io.specs.SinkState.{SinkState}
 use Rattle.cob_program.specs.Act.{Program}
+use Rattle.cob_runs.specs.Files.{File}
 use Rattle.cob_interp.specs.declared.ends.Ended.{Ended}
 use Rattle.cob_interp.specs.declared.ends.RunEnd.{RunEnd}
 use Rattle.cob_interp.specs.declared.ends.RunEnd.TheVariants as end
-use Rattle.cob_interp.specs.Readying.{AreWell, IsRefusal, ClosesAll}
-use Rattle.cob_interp.specs.Runs.{outside, Outside, IfTold, CountsOn, EndsRunIf, EndsWell, BreaksOff, IsBroken, Runs}
+use Rattle.cob_interp.specs.Readying.{AreWell, IsRefusal, ClosesAll, IsFirst, faults_by}
+use Rattle.cob_interp.specs.Tracking.{Ids, IsHeldFor}
+use Rattle.cob_interp.specs.Runs.{outside, Outside, CountsOn, EndsRunIf, EndsWell, HasEnded, IsOpenAt, ByClose, NoClose, IsBroken, IsBrokenBefore, Runs, RunsBefore}
 use Rattle.cob_interp.specs.Meeting.{end_behind}
 use Rattle.cob_interp.specs.Walking.{IsOwnEnd, IsRefused}
+use Rattle.cob_interp.proofs.Breaking.{broken_more}
 use Rattle.cob_interp.proofs.CloseLemmas.{rose_on}
+use Rattle.cob_interp.proofs.HandleLemmas.{first_from}
 
 rose_later : (a b c : ℕ) → b ≤ c → Rose a b → Rose a c
 rose_later a b c later rose = omega (arith, later, rose)
 
 module _ (p : Program) (paths : List (List ℕ)) (budget : ℕ) (start : Outside) (sink : SinkState)
     (old new : FilesState) (same : known_bytes new ≡ known_bytes old) where
-  broken_on : (q : Result Ended RunEnd) → IsBroken p paths budget start (outside old sink) q
+  broken_on : (q : Result Ended RunEnd) → IsBrokenBefore p paths budget start (outside old sink) q
       → IsBroken p paths budget start (outside new sink) q
-  broken_on q b = subst (λ (c : Option Contents). IfTold (λ f n. BreaksOff p paths budget f n start.sink sink q)
-      (known_bytes start.files) c) (sym same) b
+  broken_on q b =
+      broken_more p paths budget NoClose (ByClose start.files new q) (λ own fs none. absurd none) start (outside old sink)
+      (known_bytes start.files) (known_bytes new) q refl (sym same) b
 
   -- behind a refusal, whatever the closes answer
   pub refused_on : (e : Result Ended RunEnd) → IsRefused e → (r : Result (Unit {0}) RunEnd) → ClosesAll old new r
-      → Runs p paths budget start (outside old sink) e → Runs p paths budget start (outside new sink) e
+      → RunsBefore p paths budget start (outside old sink) e → Runs p paths budget start (outside new sink) e
   refused_on (Ok e) refused r closes runs = absurd refused
   refused_on (Err end.ReadFault) refused r closes runs =
       record { ends = rose_later _ _ _ closes.reading runs.ends; part = broken_on (Err end.ReadFault) runs.part }
@@ -83,33 +89,70 @@ module _ (p : Program) (paths : List (List ℕ)) (budget : ℕ) (start : Outside
   own_runs (Err (end.Fault kind statement step)) own well = record { ends = well; part = tt }
 
   -- behind the run's end, where a close fails
-  closed_ill : (x : Ended) (refusal : RunEnd) → IsRefusal old new refusal
-      → EndsWell p paths budget start (outside old sink) (Ok x)
-      → ((q : Result Ended RunEnd) → IsBroken p paths budget start (outside old sink) q)
-      → Runs p paths budget start (outside new sink) (Err refusal)
-  closed_ill x end.ReadFault rose well broken = record {
-    ends = rose_on start.files.reading old.reading new.reading well.reading rose;
-    part = broken_on (Err end.ReadFault) (broken (Err end.ReadFault));
-  }
-  closed_ill x end.WriteFault rose well broken = record {
-    ends = inl (rose_on start.files.writing old.writing new.writing well.writing rose);
-    part = broken_on (Err end.WriteFault) (broken (Err end.WriteFault));
-  }
-  closed_ill x end.Memory rose well broken =
-      record { ends = tt; part = broken_on (Err end.Memory) (broken (Err end.Memory)) }
-  closed_ill x (end.Ragged file count) rose well broken = absurd rose
-  closed_ill x (end.StepsSpent count) rose well broken = absurd rose
-  closed_ill x (end.IoStop status statement) rose well broken = absurd rose
-  closed_ill x (end.Fault kind statement step) rose well broken = absurd rose
+  module _ (ids : Ids)
+      (broken : (e : RunEnd) (now : FilesState) → known_bytes now ≡ known_bytes old
+      → IsFirst (λ place writes. IsHeldFor ids place writes) start.files now e
+      → IsBroken p paths budget start (outside now sink) (Err e)) where
+    counts_same : (x : Ended) → EndsWell p paths budget start (outside old sink) (Ok x) → (writes : Bool)
+        → faults_by writes old ≡ faults_by writes start.files
+    counts_same x well true = well.writing
+    counts_same x well false = well.reading
+
+    part_of : (x : Ended) (refusal : RunEnd) → IsFirst (λ place writes. IsHeldFor ids place writes) old new refusal
+        → EndsWell p paths budget start (outside old sink) (Ok x)
+        → IsBroken p paths budget start (outside new sink) (Err refusal)
+    part_of x refusal first well =
+        broken refusal new same
+        (first_from (λ place writes. IsHeldFor ids place writes) start.files old new (counts_same x well) refusal first)
+
+    closed_ill : (x : Ended) (refusal : RunEnd) → IsRefusal old new refusal
+        → IsFirst (λ place writes. IsHeldFor ids place writes) old new refusal
+        → EndsWell p paths budget start (outside old sink) (Ok x)
+        → Runs p paths budget start (outside new sink) (Err refusal)
+    closed_ill x end.ReadFault rose first well = record {
+      ends = rose_on start.files.reading old.reading new.reading well.reading rose;
+      part = part_of x end.ReadFault first well;
+    }
+    closed_ill x end.WriteFault rose first well = record {
+      ends = inl (rose_on start.files.writing old.writing new.writing well.writing rose);
+      part = part_of x end.WriteFault first well;
+    }
+    closed_ill x end.Memory rose first well = record { ends = tt; part = part_of x end.Memory first well }
+    closed_ill x (end.Ragged file count) rose first well = absurd rose
+    closed_ill x (end.StepsSpent count) rose first well = absurd rose
+    closed_ill x (end.IoStop status statement) rose first well = absurd rose
+    closed_ill x (end.Fault kind statement step) rose first well = absurd rose
 
   -- behind the run's own end
-  pub closed_behind : (e : Result Ended RunEnd) → IsOwnEnd e → (r : Result (Unit {0}) RunEnd) → ClosesAll old new r
+  pub closed_behind : (ids : Ids) (e : Result Ended RunEnd) → IsOwnEnd e → (r : Result (Unit {0}) RunEnd)
+      → ClosesAll old new r → IfErr r (λ f. IsFirst (λ place writes. IsHeldFor ids place writes) old new f)
       → Runs p paths budget start (outside old sink) e
-      → ((q : Result Ended RunEnd) → IsBroken p paths budget start (outside old sink) q)
+      → (HasEnded e → (f : RunEnd) (now : FilesState) → known_bytes now ≡ known_bytes old
+      → IsFirst (λ place writes. IsHeldFor ids place writes) start.files now f
+      → IsBroken p paths budget start (outside now sink) (Err f))
       → Runs p paths budget start (outside new sink) (end_behind e r)
-  closed_behind (Ok x) own (Ok u) closes runs broken =
+  closed_behind ids (Ok x) own (Ok u) closes first runs broken =
       own_runs (Ok x) own (well_on (Ok x) (Ok u) closes (λ y is. closes.counts) (own_well (Ok x) own runs))
-  closed_behind (Ok x) own (Err refusal) closes runs broken =
-      closed_ill x refusal closes.counts (own_well (Ok x) own runs) broken
-  closed_behind (Err e) own r closes runs broken =
+  closed_behind ids (Ok x) own (Err refusal) closes first runs broken =
+      closed_ill ids (broken (x, refl)) x refusal closes.counts first (own_well (Ok x) own runs)
+  closed_behind ids (Err e) own r closes first runs broken =
       own_runs (Err e) own (well_on (Err e) r closes (λ y is. cc) (own_well (Err e) own runs))
+
+-- ---- a run behind files that were only read
+
+by_close_from : (a b c : FilesState) (r : Result Ended RunEnd) → ((writes : Bool) → faults_by writes b ≡ faults_by writes a)
+    → (own : Result Ended RunEnd) (files : List File) → ByClose b c r own files → ByClose a c r own files
+by_close_from a b c (Ok x) same own files closes = (closes.0, tt)
+by_close_from a b c (Err e) same own files closes = (closes.0, first_from (IsOpenAt files) a b c same e closes.1)
+
+pub broken_from : (p : Program) (paths : List (List ℕ)) (budget : ℕ) (before middle : FilesState) (sink : SinkState)
+    (new : Outside) (r : Result Ended RunEnd) → known_bytes middle ≡ known_bytes before
+    → middle.reading ≡ before.reading → middle.writing ≡ before.writing
+    → IsBroken p paths budget (outside middle sink) new r → IsBroken p paths budget (outside before sink) new r
+broken_from p paths budget before middle sink new r contents reading writing h =
+    broken_more p paths budget (ByClose middle new.files r) (ByClose before new.files r)
+    (by_close_from before middle new.files r same) (outside middle sink) new (known_bytes before) (known_bytes new.files) r
+    contents refl h where
+      same : (writes : Bool) → faults_by writes middle ≡ faults_by writes before
+      same true = writing
+      same false = reading

@@ -18,7 +18,7 @@ use Rattle.cob_interp.specs.Told.{seen, seen_file, seen_files, AreSynced, IsSync
 use Rattle.cob_interp.specs.Setting.{paths_of}
 use Rattle.cob_interp.specs.Tracking.{IsOpen, purpose_in, KeepsPlaces}
 use Rattle.cob_interp.specs.Readying.{Keeps, GoesOut, IsRefusal, emptied_in, emptied_file, emptied_on, emptied, AreEmptied, Sees}
-use Rattle.cob_interp.specs.Touching.{IsPartOf, Touches, ShutsOnly, ClosesOnly}
+use Rattle.cob_interp.specs.Touching.{IsPartOf, IsShort, Loses, Touches, ShutsOnly, ClosesOnly}
 use Rattle.cob_interp.specs.Runs.{Outside, outside, IfTold}
 use Rattle.cob_interp.specs.Running.{StandsIn, StandsIf, Stands, IsUnderway, RestsIn, Rests}
 use Rattle.cob_interp.proofs.SeenFiles.{seen_set, synced_set, seen_in_same, synced_same}
@@ -366,6 +366,24 @@ touches_sees paths makes a b c w v sees touches = record {
               (k.touches.its place path g.0 at g.1 g.2);
           others = λ name none. k.touches.others name none ∙ h.others name none;
         };
+      };
+}
+
+pub loses_sees : (paths : List (List ℕ)) (a b c : FilesState) (w v : World) → Sees paths a b w v → Loses paths v b c
+    → Loses paths w a c
+loses_sees paths a b c w v sees loses = record {
+  known = λ told e.
+      let h = sees.known told e in
+      let k = loses.known h.now h.is in
+      record {
+        now = k.now;
+        is = k.is;
+        place = k.place;
+        path = k.path;
+        at = k.at;
+        it = λ f has s.
+            let g = h.each k.place k.path f k.at has s in
+            subst (λ (x : File). IsShort x (get k.now k.path)) g.3 (k.it g.0 g.1 g.2);
       };
 }
 

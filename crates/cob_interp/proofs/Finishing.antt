@@ -1,6 +1,6 @@
 -- How a run goes on from step to step, and ends.
 use Rattle.std.proofs.Common.{◌≡◌, ℕ, ◌≤◌, ◌<◌, true, false, List, [], ◌++◌, length, map, inl, inr, Option, Some, Result, Ok, Err, ◌⊎◌, true≢false, take, refl, sym, ap, subst, ◌∙◌, append-nil, arith}
-use Rattle.std.specs.Prelude.{string_bytes}
+use Rattle.std.specs.Prelude.{string_bytes, IfOk}
 use Rattle.std.proofs.lemmas.List.{length-map}
 use Rattle.std.specs.Io.KnownBytes.{append_known}
 use Rattle.batch_io.specs.Faults.{Rose}
@@ -25,18 +25,22 @@ use Rattle.cob_interp.specs.declared.setting.Place.{Place}
 use Rattle.cob_interp.specs.declared.walk.Halt.{Halt}
 use Rattle.cob_interp.specs.declared.walk.Halt.TheVariants as halt
 use Rattle.cob_interp.specs.Setting.{program_of, paths_of, StartsAt}
-use Rattle.cob_interp.specs.Touching.{makes_by, makes_none, Touches}
+use Rattle.cob_interp.specs.Touching.{makes_by, makes_none, Loses, Touches}
 use Rattle.cob_interp.specs.Reached.{up_to, last_of}
-use Rattle.cob_interp.specs.Readying.{IsRefusal, Sees, AreEmptied}
-use Rattle.cob_interp.specs.Meeting.{is_failure, IfFailed, IsMetBy, shows_first, ShowsRest}
-use Rattle.cob_interp.specs.Runs.{Outside, outside, IfTold, CountsOn, EndsRun, EndsWell, IsBroken, IfRefused, EndsBy, Runs, TellsOfSink}
+use Rattle.cob_interp.specs.Readying.{IsFirst, IsRefusal, Sees, AreEmptied}
+use Rattle.cob_interp.specs.Tracking.{Ids, IsHeldFor, purposes_for, purposes_of}
+use Rattle.cob_interp.specs.Meeting.{is_failure, IfFailed, IsFailureBy, IsMetBy, shows_first, ShowsRest}
+use Rattle.cob_interp.specs.Runs.{Outside, outside, IfTold, CountsOn, EndsRun, EndsWell, HasEnded, IsOpenAt, ByClose, NoClose, IsBrokenBy, IsBroken, IsBrokenBefore, IfRefused, EndsBy, Runs, RunsBefore, TellsOfSink}
 use Rattle.cob_interp.specs.Running.{IsWell, Stands, RestsIn, Rests, Halts, Arrives, IsAt, GoesOn, HaltsOff}
 use Rattle.cob_interp.specs.Walking.{by_sink, as_result, IsSinkRefusal, TellsBySink, Flushes, MayFlush, Refuses, is_refused, IsOwnEnd}
 use Rattle.cob_interp.proofs.Passing.{append_none, rests_on}
 use Rattle.cob_interp.proofs.Onward.{ends_well, spends}
 use Rattle.cob_interp.proofs.CloseLemmas.{rose_on}
 use Rattle.cob_interp.proofs.Touched.{touches_stay}
-use Rattle.cob_interp.proofs.Breaking.{told_on, ShowsWaiting, broken_here, rests_break}
+use Rattle.cob_interp.proofs.Breaking.{told_on, ShowsWaiting, MeetsBehind, broken_here, rests_break}
+use Rattle.cob_interp.proofs.Failing.{failed_any}
+use Rattle.cob_interp.proofs.HandleLemmas.{first_map}
+use Rattle.cob_interp.proofs.Purposes.{file_held}
 use Rattle.cob_interp.proofs.Flushing.{stands_shown, rests_flushed}
 use Rattle.cob_interp.proofs.Putting.{contents_told, emptied_up_to}
 use Rattle.cob_interp.proofs.Emptying.{rests_sees}
@@ -116,7 +120,7 @@ module _ (p : Program) (g : Graph) (paths : List (List ℕ)) (budget : ℕ) wher
       sink_ends (λ old_ new_ r. Rests p g paths budget old_ new_ v r) start (outside files old)
           (outside files new) here.stands.text e
           here.stands.well refuses.why,
-      if_refused (Err (by_sink e)) (IsBroken p paths budget start (outside files new) (Err (by_sink e)))
+      if_refused (Err (by_sink e)) (IsBrokenBefore p paths budget start (outside files new) (Err (by_sink e)))
           (broken_here p g paths budget start (outside files old)
           (outside files new) w steps node x a (Err (by_sink e)) 0 within at starts its
           (touches_stay paths (makes_by (up_to 0 a)) w files)
@@ -154,7 +158,7 @@ module _ (p : Program) (g : Graph) (paths : List (List ℕ)) (budget : ℕ) wher
     refused_with old new mid now w v step e reached touches met all same stands halts = (halts, part e met all same) where
       broken : (r : Result Ended RunEnd) → ShowsWaiting start.sink mid now w.shown r
           → IfFailed r (Rose start.sink.faults now.faults ⊎ IsMetBy (last_of reached a) r)
-          → IsBroken p paths budget start (outside new now) r
+          → IsBrokenBefore p paths budget start (outside new now) r
       broken r shows meets =
           broken_here p g paths budget start (outside old mid) (outside new now) w steps node x a r reached within at starts its
           touches shows meets stands
@@ -162,7 +166,7 @@ module _ (p : Program) (g : Graph) (paths : List (List ℕ)) (budget : ℕ) wher
       part : (d : RunEnd) → IsMetBy {A = Ended} (last_of reached a) (Err d)
           → (is_failure d ≡ true → now.told ≡ append_known mid.told w.shown)
           → (is_failure d ≡ false → now.told ≡ mid.told)
-          → IfRefused (Err d) (IsBroken p paths budget start (outside new now) (Err d))
+          → IfRefused (Err d) (IsBrokenBefore p paths budget start (outside new now) (Err d))
       part end.ReadFault by all_ same_ = broken (Err end.ReadFault) (inl (all_ refl)) (inr by)
       part end.WriteFault by all_ same_ = broken (Err end.WriteFault) (inl (all_ refl)) (inr by)
       part end.Memory by all_ same_ =
@@ -230,7 +234,7 @@ module _ (p : Program) (g : Graph) (paths : List (List ℕ)) (budget : ℕ) wher
       shown_front why refuses waits fails = (
         sink_ends (λ old_ new_ r. Rests p g paths budget old_ new_ v r) start (outside old mid)
             (outside new now) stands.text why stands.well refuses.why,
-        if_refused (Err (by_sink why)) (IsBroken p paths budget start (outside new now) (Err (by_sink why)))
+        if_refused (Err (by_sink why)) (IsBrokenBefore p paths budget start (outside new now) (Err (by_sink why)))
             (broken_here p g paths budget start (outside old mid) (outside new now) w steps node x a
             (Err (by_sink why)) reached within at starts its touches
             (inr (
@@ -352,18 +356,22 @@ module _ (p : Program) (g : Graph) (paths : List (List ℕ)) (budget : ℕ) wher
     rests = own_rests start (outside files old) w r own off.halts
 
     -- the sink refuses the text that waits
-    pub text_refused : (e : MakeEnd) → Refuses old new w v e → Runs p paths budget start (outside files new)
+    pub text_refused : (e : MakeEnd) → Refuses old new w v e → RunsBefore p paths budget start (outside files new)
         (Err (by_sink e))
     text_refused e refuses = record {
       ends = sink_ends (EndsWell p paths budget) start (outside files old)
           (outside files new) rests.text e rests.well refuses.why;
-      part = if_refused (Err (by_sink e)) (IsBroken p paths budget start (outside files new) (Err (by_sink e)))
-          (rests_break p g paths budget start (outside files old) (outside files new) w r (Err (by_sink e))
+      part = if_refused (Err (by_sink e)) (IsBrokenBefore p paths budget start (outside files new) (Err (by_sink e)))
+          (rests_break p g paths budget NoClose start (outside files old) (outside files new) w r (Err (by_sink e))
           (touches_stay paths makes_none w files)
           (inr (
             sink_why start (outside files old) (outside files new) rests.text e rests.well refuses.why,
             refuses.front,
           ))
+          (sink_meets start (outside files old) (outside files new) rests.text e
+          (((fs : List File) → purposes_of fs ≡ purposes_of w.files → NoClose r fs)
+          ⊎ ((refusal (by_sink e) ≡ refusal end.WriteFault) × Loses paths w files files))
+          rests.well refuses.why)
           rests);
     }
 
@@ -373,16 +381,55 @@ module _ (p : Program) (g : Graph) (paths : List (List ℕ)) (budget : ℕ) wher
       shown = subst (λ (u : World). Rests p g paths budget start (outside files new) u r) (sym flushes.world)
           (rests_flushed p g paths start files old new w budget r flushes.gains rests)
 
-      pub broken : (q : Result Ended RunEnd) → IsBroken p paths budget start (outside behind new) q
-      broken q = rests_break p g paths budget start (outside files new) (outside behind new) v r q touches
-          (inl (append_none new.told ∙ ap (λ (u : World). append_known new.told u.shown) (sym flushes.world))) shown
+      breaks : (Closes : Result Ended RunEnd → List File → Type 0) (now : FilesState)
+          → known_bytes now ≡ known_bytes behind → (q : Result Ended RunEnd)
+          → IfFailed q (MeetsBehind p g paths budget Closes start (outside files new) (outside now new) v r q)
+          → IsBrokenBy p paths budget Closes start (outside now new) q
+      breaks Closes now same q meets =
+          rests_break p g paths budget Closes start (outside files new) (outside now new) v r q
+          (record {
+            known = λ told e.
+                let k = touches.known told e in record { now = k.now; is = same ∙ k.is; touches = k.touches };
+          })
+          (inl (append_none new.told ∙ ap (λ (u : World). append_known new.told u.shown) (sym flushes.world))) meets shown
+
+      -- behind a good end a close is refused
+      pub broken : (ids : Ids) → IfOk r (λ _. purposes_for ids ≡ purposes_of w.files) → HasEnded r
+          → (e : RunEnd) (now : FilesState) → known_bytes now ≡ known_bytes behind
+          → IsFirst (λ place writes. IsHeldFor ids place writes) start.files now e
+          → IsBroken p paths budget start (outside now new) (Err e)
+      broken ids placed good e now same first =
+          let own : purposes_for ids ≡ purposes_of w.files =
+          subst (λ (q : Result Ended RunEnd). IfOk q (λ _. purposes_for ids ≡ purposes_of w.files)) good.1 placed in
+          let own_ : purposes_of w.files ≡ purposes_of v.files = ap (λ (u : World). purposes_of u.files) (sym flushes.world) in
+          breaks (ByClose start.files now (Err e)) now same (Err e)
+          (failed_any (refusal e)
+          (MeetsBehind p g paths budget (ByClose start.files now (Err e)) start (outside files new) (outside now new) v r
+          (Err e))
+          (inr (inl (λ fs is. (
+            good,
+            first_map (λ place writes. IsHeldFor ids place writes) (IsOpenAt fs)
+                (file_held ids fs (own ∙ own_ ∙ sym is)) start.files now e first,
+          )))))
+
+      lost : (e : RunEnd) → IsFailureBy true e → Loses paths v files behind
+          → IfFailed (refusal e)
+          (MeetsBehind p g paths budget NoClose start (outside files new) (outside behind new) v r (Err e))
+      lost end.ReadFault by loses = absurd (true≢false by)
+      lost end.WriteFault by loses = inr (inr (refl, loses))
+      lost end.Memory by loses = tt
+      lost (end.Ragged file count) by loses = tt
+      lost (end.StepsSpent count) by loses = tt
+      lost (end.IoStop status statement) by loses = tt
+      lost (end.Fault kind statement step) by loses = tt
 
       -- a file is refused
-      pub file_refused : (e : RunEnd) → IsRefusal files behind e → Runs p paths budget start (outside behind new)
-          (Err e)
-      file_refused e why = record {
+      pub file_refused : (e : RunEnd) → IsRefusal files behind e → IsFailureBy true e → Loses paths v files behind
+          → RunsBefore p paths budget start (outside behind new) (Err e)
+      file_refused e why by loses = record {
         ends = file_ends (EndsWell p paths budget) start files behind new shown.text e shown.well why;
-        part = if_refused (Err e) (IsBroken p paths budget start (outside behind new) (Err e)) (broken (Err e));
+        part = if_refused (Err e) (IsBrokenBefore p paths budget start (outside behind new) (Err e))
+            (breaks NoClose behind refl (Err e) (lost e by loses));
       }
 
       pub finished : (u : World) (count : ℕ) → length paths ≤ count → Sees paths files behind v u
@@ -399,7 +446,7 @@ module _ (p : Program) (g : Graph) (paths : List (List ℕ)) (budget : ℕ) wher
   -- it halted by a refusal
   pub refused_runs : (start now : Outside) (w : World) (e : RunEnd) → is_refused e ≡ true
       → HaltsOff p g paths budget start now w (Err e)
-      → Runs p paths budget start now (Err e)
+      → RunsBefore p paths budget start now (Err e)
   refused_runs start now w end.ReadFault is off = record { ends = off.halts; part = off.part }
   refused_runs start now w end.WriteFault is off = record { ends = off.halts; part = off.part }
   refused_runs start now w end.Memory is off = record { ends = off.halts; part = off.part }
@@ -414,7 +461,7 @@ sink_is_refused make.Memory = refl
 
 pub sink_runs : (p : Program) (g : Graph) (paths : List (List ℕ)) (budget : ℕ) (start now : Outside) (w : World)
     (e : MakeEnd)
-    → HaltsOff p g paths budget start now w (Err (by_sink e)) → Runs p paths budget start now (Err (by_sink e))
+    → HaltsOff p g paths budget start now w (Err (by_sink e)) → RunsBefore p paths budget start now (Err (by_sink e))
 sink_runs p g paths budget start now w e off = refused_runs p g paths budget start now w (by_sink e) (sink_is_refused e) off
 
 -- ---- a step of a setting

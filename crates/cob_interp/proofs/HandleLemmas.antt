@@ -1,6 +1,6 @@
 -- What calls on the outside's files say of those that are open.
-use Rattle.std.proofs.Common.{◌≡◌, ℕ, zero, suc, ◌+◌, ◌<◌, ◌≤◌, ◌⊎◌, inl, inr, Bool, true, false, List, [], ◌∷◌, ◌++◌, length, Option, Some, None, Result, Ok, Err, refl, sym, ap, subst, ◌∙◌, arith}
-use Rattle.std.specs.Prelude.{slice_set, option_map, is_some, IsSome, IfSome}
+use Rattle.std.proofs.Common.{◌≡◌, ℕ, zero, suc, ◌+◌, ◌<◌, ◌≤◌, ◌⊎◌, inl, inr, not, Bool, true, false, List, [], ◌∷◌, ◌++◌, length, Option, Some, None, Result, Ok, Err, refl, sym, ap, subst, ◌∙◌, arith}
+use Rattle.std.specs.Prelude.{slice_get, slice_set, option_map, is_some, IsSome, IfSome, IfErr}
 use Rattle.std.specs.FinMap.{get, insert}
 use Rattle.std.proofs.Math.Seq.{take-length}
 use Rattle.std.proofs.lemmas.Bool.{false≢true, cases_order}
@@ -11,8 +11,8 @@ use Rattle.batch_io.specs.FilesState.{Contents, FilesState, Told, Handle, Purpos
 use Rattle.batch_io.specs.declared.ends.MakeEnd.{MakeEnd}
 use Rattle.batch_io.specs.FilesCalls.{OpensId, Opens, Empties, Creates, Closes}
 use Rattle.batch_io.specs.Wholes.{ReadsRecord, PutsWhole, Grows}
-use Rattle.cob_interp.specs.Tracking.{Ids, IsHeld, purpose_by, AreNone, AreOpen}
-use Rattle.cob_interp.specs.Readying.{AreWell, Keeps, IsEmpty, KeepsHandles, OpensFor, CreatesFor, IsCreatedIn, CreatesPart, PutsUnder, PutsUnderPart, ClosesFor, ClosesAll, GivesRecord, IsRefusal, close_fault, first_refusal}
+use Rattle.cob_interp.specs.Tracking.{Ids, IsHeld, IsHeldFor, purpose_by, AreNone, AreOpen}
+use Rattle.cob_interp.specs.Readying.{AreWell, Keeps, IsEmpty, KeepsHandles, OpensFor, CreatesFor, IsCreatedIn, CreatesPart, PutsUnder, PutsUnderPart, PutsShort, ClosesFor, ClosesAll, IsRefusedAt, IsFirst, faults_by, GivesRecord, IsRefusal, close_fault, first_refusal}
 use Rattle.cob_interp.specs.declared.ends.RunEnd.{RunEnd}
 use Rattle.cob_interp.specs.declared.ends.RunEnd.TheVariants as end
 use Rattle.cob_interp.proofs.TrackLemmas.{get_set_other, held_in_set}
@@ -177,6 +177,10 @@ puts_under_part old new ids place id bytes (Ok u) is puts = record {
 puts_under_part old new ids place id bytes (Err e) is puts =
     record { id = id; is = is; front = (puts.err.0, puts.err.2) }
 
+pub puts_short : (old new : FilesState) (ids : Ids) (place id : ℕ) (bytes : List ℕ) (e : MakeEnd)
+    → IsHeld ids place true id → PutsWhole old new id bytes (Err e) → PutsShort old new ids place bytes
+puts_short old new ids place id bytes e is puts = record { id = id; is = is; front = puts.err }
+
 -- ---- a CLOSE
 
 module _ (old new : FilesState) (ids : Ids) (place id : ℕ) (writes : Bool) (is : IsHeld ids place writes id)
@@ -228,6 +232,20 @@ module _ (old new : FilesState) (ids : Ids) (place id : ℕ) (writes : Bool) (is
   closes_ill e closes =
       let later = later_counts writes (Err e) (live.purpose place id writes is) closes in
       record { reading = later.0; writing = later.1; counts = close_refused e closes }
+
+  other_kept : (u : Bool) (r : Result (Unit {0}) Failed) → old.purpose id ≡ Some (purpose_by u) → Closes old new id r
+      → faults_by (not u) new ≡ faults_by (not u) old
+  other_kept true r at closes = closes.reading_kept at
+  other_kept false r at closes = closes.writing_kept at
+
+  pub refused_at : (r : Result (Unit {0}) Failed) → Closes old new id r → (e : RunEnd) → e ≡ close_fault writes
+      → IsRefusedAt old new ids place e
+  refused_at r closes e told = record {
+    writes = writes;
+    held = (id, is);
+    is = told;
+    other = other_kept writes r (live.purpose place id writes is) closes;
+  }
 
 -- ---- a record
 
@@ -298,3 +316,92 @@ closes_more a b c (Err e) other h k = record {
 pub closes_nothing : (a : FilesState) → ClosesAll a a (Ok tt)
 closes_nothing a =
     record { reading = omega arith; writing = omega arith; counts = record { reading = refl; writing = refl } }
+
+-- ---- the first refused close
+
+well_by : (a b : FilesState) (u : Bool) → AreWell a b → faults_by u b ≡ faults_by u a
+well_by a b true well = well.writing
+well_by a b false well = well.reading
+
+-- files that are closed at the first places
+abbrev pub Before : Ids → ℕ → ℕ → Bool → Type 0
+Before ids n place writes = (place < n) × IsHeldFor ids place writes
+
+pub first_map : (A B : ℕ → Bool → Type 0) → ((place : ℕ) (writes : Bool) → A place writes → B place writes)
+    → (a c : FilesState) (e : RunEnd) → IsFirst A a c e → IsFirst B a c e
+first_map A B f a c e first = record {
+  place = first.place;
+  writes = first.writes;
+  closed_ = f first.place first.writes first.closed_;
+  is = first.is;
+  other = elim first.other [
+    | inl same ↦ inl same
+    | inr b ↦ inr (b.0, b.1, f b.0 (not first.writes) b.2)
+  ];
+}
+
+-- from counts that are the same
+pub first_from : (C : ℕ → Bool → Type 0) (a b c : FilesState) → ((writes : Bool) → faults_by writes b ≡ faults_by writes a)
+    → (e : RunEnd) → IsFirst C b c e → IsFirst C a c e
+first_from C a b c same e first = record {
+  place = first.place;
+  writes = first.writes;
+  closed_ = first.closed_;
+  is = first.is;
+  other = elim first.other [
+    | inl kept ↦ inl (kept ∙ same (not first.writes))
+    | inr b_ ↦ inr b_
+  ];
+}
+
+pub first_all : (ids : Ids) (n : ℕ) (a c : FilesState) (r : Result (Unit {0}) RunEnd)
+    → IfErr r (λ e. IsFirst (Before ids n) a c e)
+    → IfErr r (λ e. IsFirst (λ place writes. IsHeldFor ids place writes) a c e)
+first_all ids n a c (Ok u) h = tt
+first_all ids n a c (Err e) h =
+    first_map (Before ids n) (λ place writes. IsHeldFor ids place writes) (λ place writes both. both.1) a c e h
+
+module _ (ids now : Ids) (n : ℕ) (same : (place : ℕ) → n ≤ place → slice_get now place ≡ slice_get ids place)
+    (a b c : FilesState) where
+  held_there : (u : Bool) → IsHeldFor now n u → IsHeldFor ids n u
+  held_there u h = (h.0, sym (same n (omega arith)) ∙ h.1)
+
+  later : (u w : Bool) → faults_by (not w) c ≡ faults_by (not w) b → IsHeldFor now n w
+      → (faults_by u c ≡ faults_by u b) ⊎ IsHeldFor now n u
+  later true true kept held = inr held
+  later false false kept held = inr held
+  later true false kept held = inl kept
+  later false true kept held = inl kept
+
+  still_first : (e : RunEnd) (first : IsFirst (Before ids n) a b e)
+      → (faults_by (not first.writes) c ≡ faults_by (not first.writes) b) ⊎ IsHeldFor now n (not first.writes)
+      → IsFirst (Before ids (n + 1)) a c e
+  still_first e first then_ =
+      let up : (place : ℕ) → place < n → place < n + 1 = λ place below. omega (arith, below) in
+      record {
+        place = first.place;
+        writes = first.writes;
+        closed_ = (up first.place first.closed_.0, first.closed_.1);
+        is = first.is;
+        other = elim first.other [
+          | inl kept ↦ elim then_ [
+            | inl on ↦ inl (on ∙ kept)
+            | inr held ↦ inr (n, first.closed_.0, (omega arith, held_there (not first.writes) held))
+          ]
+          | inr b_ ↦ inr (b_.0, b_.1, (up b_.0 b_.2.0, b_.2.1))
+        ];
+      }
+
+  pub first_more : (first other : Result (Unit {0}) RunEnd) → ClosesAll a b first → ClosesAll b c other
+      → IfErr first (λ e. IsFirst (Before ids n) a b e) → IfErr other (λ e. IsRefusedAt b c now n e)
+      → IfErr (first_refusal first other) (λ e. IsFirst (Before ids (n + 1)) a c e)
+  first_more (Ok u) (Ok v) h k f r = tt
+  first_more (Ok u) (Err e) h k f r = record {
+    place = n;
+    writes = r.writes;
+    closed_ = (omega arith, held_there r.writes r.held);
+    is = r.is;
+    other = inl (r.other ∙ well_by a b (not r.writes) h.counts);
+  }
+  first_more (Err e) (Ok v) h k f r = still_first e f (inl (well_by b c (not f.writes) k.counts))
+  first_more (Err e) (Err d) h k f r = still_first e f (later (not f.writes) r.writes r.other r.held)

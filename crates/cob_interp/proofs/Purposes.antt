@@ -3,9 +3,10 @@ use Rattle.std.proofs.Common.{◌≡◌, ℕ, zero, suc, ◌+◌, Bool, true, fa
 use Rattle.std.specs.Prelude.{slice_get, slice_set, option_map}
 use Rattle.std.proofs.lemmas.List.{length-map}
 use Rattle.std.proofs.lemmas.Option.{slice_get-map}
-use Rattle.batch_io.specs.FilesState.{Purpose}
-use Rattle.cob_runs.specs.Files.{File}
+use Rattle.batch_io.specs.FilesState.{Contents, Purpose}
+use Rattle.cob_runs.specs.Files.{File, file, Mode, closed, reading, writing}
 use Rattle.cob_interp.specs.declared.handles.Held.{Held}
+use Rattle.cob_interp.specs.Told.{seen_file, seen_files}
 use Rattle.cob_interp.specs.Tracking.{Ids, IsHeldFor, purpose_by, purpose_in, purposes_of, purpose_for, purposes_for}
 
 -- ---- one element is new
@@ -120,3 +121,35 @@ module _ (ids : Ids) (fs : List File) (same : purposes_for ids ≡ purposes_of f
       let s = slot_at in
       let h = held s.0 writes (s.2 ∙ e) in
       (h.0, s.1 ∙ ap (λ (o : Option Held). Some o) h.1)
+
+-- ---- the file of an id
+
+file_is : (fs : List File) (place : ℕ) (p : Option Purpose) → slice_get (purposes_of fs) place ≡ Some p
+    → (f : File) × (slice_get fs place ≡ Some f) × (purpose_in f.mode ≡ p)
+file_is [] place p at = cc
+file_is (f ∷ fs) zero p at = (f, refl, cc)
+file_is (f ∷ fs) (suc place) p at = file_is fs place p at
+
+pub file_held : (ids : Ids) (fs : List File) → purposes_for ids ≡ purposes_of fs → (place : ℕ) (writes : Bool)
+    → IsHeldFor ids place writes
+    → (f : File) × (slice_get fs place ≡ Some f) × (purpose_in f.mode ≡ Some (purpose_by writes))
+file_held ids fs same place writes h =
+    file_is fs place (Some (purpose_by writes))
+    (sym (ap (λ (ps : List (Option Purpose)). slice_get ps place) same) ∙ slice_get-map purpose_for ids place
+    ∙ ap (λ (o : Option (Option Held)). option_map purpose_for o) h.1)
+
+seen_purpose : (told : Contents) (path : List ℕ) (content : Option (List ℕ)) (m : Mode) (place : ℕ)
+    → purpose_in (seen_file told path (file content m place)).mode ≡ purpose_in m
+seen_purpose told path content closed place = refl
+seen_purpose told path content (reading ended) place = refl
+seen_purpose told path content writing place = refl
+
+-- what the run sees of them is open for the same
+pub seen_purposes : (told : Contents) (paths : List (List ℕ)) (fs : List File)
+    → purposes_of (seen_files told paths fs) ≡ purposes_of fs
+seen_purposes told [] fs = refl
+seen_purposes told (path ∷ paths) [] = refl
+seen_purposes told (path ∷ paths) (f ∷ fs) =
+    ap (λ (p : Option Purpose). p ∷ purposes_of (seen_files told paths fs))
+    (seen_purpose told path f.content f.mode f.place)
+    ∙ ap (λ (ps : List (Option Purpose)). purpose_in f.mode ∷ ps) (seen_purposes told paths fs)

@@ -20,13 +20,13 @@ use Rattle.cob_graph_laws.specs.Told.{Way, WaysTellOfRuns}
 use Rattle.cob_interp.specs.declared.ends.RunEnd.TheVariants as end
 use Rattle.cob_interp.specs.Ends.{told_files, AreFree, state_after}
 use Rattle.cob_interp.specs.Told.{seen, seen_files, AreSynced}
-use Rattle.cob_interp.specs.Runs.{Outside, IfTold, makes_next, BreaksOff, Runs}
+use Rattle.cob_interp.specs.Runs.{Outside, IfTold, makes_next, ByClose, NoClose, BreaksOff, Runs}
 use Rattle.cob_interp.specs.Running.{StandsIn, StandsIf, IsAt}
 use Rattle.cob_interp.proofs.Passing.{append_none, well_stays}
 use Rattle.cob_interp.specs.Tracking.{Ids, AreNone, purposes_of, purposes_for, ArePlaced}
 use Rattle.cob_interp.proofs.TrackLemmas.{none_stand}
 use Rattle.cob_interp.proofs.Waiting.{part_held}
-use Rattle.cob_interp.proofs.Breaking.{part_seen}
+use Rattle.cob_interp.proofs.Breaking.{broken_more, part_seen}
 
 -- ---- the first files
 
@@ -130,7 +130,7 @@ module _ (p : Program) (g : Graph) (paths : List (List ℕ)) (same : length path
         (rest (body_at p 0) ∷ paras 1 (length p.paras - 1) ∷ []) Going
         ∙ first_as_seen told
 
-    breaks_first : (told : Contents) → BreaksOff p paths budget told told start.sink start.sink (Err end.Memory)
+    breaks_first : (told : Contents) → BreaksOff p paths budget NoClose told told start.sink start.sink (Err end.Memory)
     breaks_first told = record {
       steps = 0;
       within = omega arith;
@@ -158,7 +158,7 @@ module _ (p : Program) (g : Graph) (paths : List (List ℕ)) (same : length path
       stands (Some told) = stands_first told
 
       breaks : (known : Option Contents)
-          → IfTold (λ first told. BreaksOff p paths budget first told start.sink start.sink (Err end.Memory)) known
+          → IfTold (λ first told. BreaksOff p paths budget NoClose first told start.sink start.sink (Err end.Memory)) known
           known
       breaks None = tt
       breaks (Some told) = breaks_first told
@@ -172,4 +172,8 @@ module _ (p : Program) (g : Graph) (paths : List (List ℕ)) (same : length path
 
     -- where memory runs out before the run
     pub refused_first : Runs p paths budget start start (Err end.Memory)
-    refused_first = record { ends = tt; part = begins_run.part }
+    refused_first = record {
+      ends = tt;
+      part = broken_more p paths budget NoClose (ByClose start.files start.files (Err end.Memory)) (λ own fs none. absurd none)
+          start start (known_bytes start.files) (known_bytes start.files) (Err end.Memory) refl refl begins_run.part;
+    }

@@ -14,7 +14,7 @@ use Rattle.cob_runs.specs.Files.{File, Mode, closed, writing}
 use Rattle.cob_runs.specs.State.{World}
 use Rattle.cob_interp.specs.Told.{seen_in, seen_file, IsSynced, AreDistinct, AgreeBut}
 use Rattle.cob_interp.specs.Readying.{CreatesPart}
-use Rattle.cob_interp.specs.Touching.{IsEmptied, IsPartOf, makes_in, makes_by, makes_none, TouchesOne, Touches, Makes, ClosesOnly, OpensOnly}
+use Rattle.cob_interp.specs.Touching.{IsEmptied, IsPartOf, makes_in, makes_by, makes_none, IsShort, LosesOne, Loses, TouchesOne, Touches, Makes, ClosesOnly, OpensOnly}
 use Rattle.cob_interp.proofs.SeenFiles.{contains_at}
 use Rattle.cob_interp.proofs.Waiting.{part_held}
 use Rattle.cob_interp.proofs.CallsLead.{others_keep}
@@ -90,6 +90,22 @@ module _ (paths : List (List ℕ)) (makes : ℕ → Bool) (w : World) (old new :
             ];
             others = others_keep told told k.now paths place path at k.others (λ name none. refl);
           };
+        };
+  }
+
+  pub loses_by_one : LosesOne old new path f → Loses paths w old new
+  loses_by_one one = record {
+    known = λ told is.
+        let k = one.known told is in
+        record {
+          now = k.now;
+          is = k.is;
+          place = place;
+          path = path;
+          at = at;
+          it = λ g has_ s.
+              let same : f ≡ g = cc in
+              subst (λ (x : File). IsSynced told path x → IsShort (seen_file told path x) (get k.now path)) same k.it s;
         };
   }
 

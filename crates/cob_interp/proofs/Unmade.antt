@@ -26,7 +26,7 @@ use Rattle.cob_interp.specs.Ends.{told_files, state_after}
 use Rattle.cob_interp.specs.Touching.{IsPartOf, makes_in, makes_by}
 use Rattle.cob_interp.specs.Reached.{up_to}
 use Rattle.cob_interp.proofs.Touched.{any_up}
-use Rattle.cob_interp.specs.Runs.{Outside, IfTold, makes_next, EndsRun, EndsWell, BreaksOff, IsBroken, Runs, KeepsUnmade}
+use Rattle.cob_interp.specs.Runs.{Outside, IfTold, makes_next, EndsRun, EndsWell, ByClose, BreaksOff, IsBroken, Runs, KeepsUnmade}
 
 if_told : (P Q : Contents → Contents → Type 0) → ((first told : Contents) → P first told → Q first told)
     → (a b : Option Contents) → IfTold P a b → IfTold Q a b
@@ -115,9 +115,10 @@ module _ (p : Program) (g : Graph) (whole : IsWellFormed p) (is : IsGraph p g) (
         → KeepsUnmade p paths first told
     ended before after r x place path at within never = by_content place path at never x.steps x.holds.its
 
-    broken : (before after : SinkState) (r : Result Ended RunEnd) → BreaksOff p paths budget first told before after r
+    broken : (Closes : Result Ended RunEnd → List File → Type 0) (before after : SinkState) (r : Result Ended RunEnd)
+        → BreaksOff p paths budget Closes first told before after r
         → KeepsUnmade p paths first told
-    broken before after r x place path at within never =
+    broken Closes before after r x place path at within never =
         by_part place path at never x.steps x.reached within (λ f has. x.files place path f at has)
 
   module _ (old new : Outside) where
@@ -133,8 +134,9 @@ module _ (p : Program) (g : Graph) (whole : IsWellFormed p) (is : IsGraph p g) (
 
     by_break : (r : Result Ended RunEnd) → IsBroken p paths budget old new r → IsUnmadeKept
     by_break r x =
-        if_told (λ first told. BreaksOff p paths budget first told old.sink new.sink r)
-        (λ first told. KeepsUnmade p paths first told) (λ first told y. broken first told old.sink new.sink r y)
+        let closes = ByClose old.files new.files r in
+        if_told (λ first told. BreaksOff p paths budget closes first told old.sink new.sink r)
+        (λ first told. KeepsUnmade p paths first told) (λ first told y. broken first told closes old.sink new.sink r y)
         (known_bytes old.files) (known_bytes new.files) x
 
     -- however the run ends

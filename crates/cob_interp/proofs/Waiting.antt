@@ -1,6 +1,6 @@
 -- What waits of a file that is written, before it goes out and behind it.
-use Rattle.std.proofs.Common.{◌≡◌, ℕ, ◌+◌, Bool, true, false, List, [], ◌∷◌, ◌++◌, length, take, take_at, append-nil, Option, Some, None, Result, Ok, Err, inl, inr, ◌⊎◌, refl, sym, ap, subst, ◌∙◌}
-use Rattle.std.specs.Prelude.{option_map, unwrap_or, IfSome, MatchResult}
+use Rattle.std.proofs.Common.{◌≡◌, ℕ, ◌+◌, Bool, true, false, ◌<◌, List, [], ◌∷◌, ◌++◌, length, take, take_at, append-nil, length-append, arith, Option, Some, None, Result, Ok, Err, inl, inr, ◌⊎◌, refl, sym, ap, subst, ◌∙◌}
+use Rattle.std.specs.Prelude.{option_map, unwrap_or, IfSome, IfErr, MatchResult}
 use Rattle.std.specs.FinMap.{get, insert}
 use Rattle.std.proofs.Math.Seq.{take-append-add}
 use Rattle.batch_io.specs.FilesState.{Contents, FilesState, Told, Handle, bytes_at}
@@ -11,9 +11,9 @@ use Rattle.cob_world.specs.declared.files.FileMode.TheVariants as mode
 use Rattle.cob_world.specs.Views.{plain_mode}
 use Rattle.cob_interp.specs.Told.{seen_file, IsSyncedIn, IsSynced, IsOutIn, IsOut, AgreeBut}
 use Rattle.cob_interp.specs.Tracking.{Ids}
-use Rattle.cob_interp.specs.Touching.{IsPartOf, TouchesOne}
+use Rattle.cob_interp.specs.Touching.{IsPartOf, IsShort, LosesOne, TouchesOne}
 use Rattle.cob_interp.specs.declared.ends.RunEnd.{RunEnd}
-use Rattle.cob_interp.specs.Readying.{IsRefusal, Readies, IsNamed, PutsUnder, PutsUnderPart, emptied_in, emptied_file}
+use Rattle.cob_interp.specs.Readying.{IsRefusal, Readies, IsNamed, PutsUnder, PutsUnderPart, PutsShort, emptied_in, emptied_file}
 use Rattle.cob_interp.proofs.SeenFiles.{insert_agrees, insert_gets}
 
 -- ---- a name with more bytes at its end
@@ -124,6 +124,46 @@ module _ (old new : FilesState) (ids : Ids) (place : ℕ) (path : List ℕ) (f :
       it = λ s. part_put told puts.front.0 f.content f.mode f.place mode_ s (bytes_in f) refl;
     };
   }
+
+  short_put : (told : Contents) (n : ℕ) (content : Option (List ℕ)) (m : Mode) (at : ℕ) → m ≡ writing
+      → IsSyncedIn told m path content at → (b : List ℕ) → b ≡ bytes_in (file content m at) → n < length b
+      → IsShort (seen_file told path (file content m at)) (get (appended told path (take n b)) path)
+  short_put told n content closed at e s b is less = cc
+  short_put told n content (reading ended) at e s b is less = cc
+  short_put told n content writing at e s b is less =
+      let w = bytes_in (file content writing at) in
+      let front : take (length s.0 + n) (bytes_at told path ++ w) ≡ s.0 ++ take n w =
+      ap (λ (c : Option (List ℕ)). take (length s.0 + n) (unwrap_or c [] ++ w)) s.1 ∙ take-append-add s.0 w n in
+      let size : length (bytes_at told path ++ w) ≡ length s.0 + length w =
+      ap (λ (c : Option (List ℕ)). length (unwrap_or c [] ++ w)) s.1 ∙ length-append s.0 w in
+      let fewer : n < length w = subst (λ (x : List ℕ). n < length x) is less in (
+        refl,
+        (
+          length s.0 + n,
+          omega (arith, size, fewer),
+          appended_gets told path (take n b) s.0 s.1
+              ∙ ap (λ (x : List ℕ). Some (s.0 ++ take n x)) is ∙ ap (λ (x : List ℕ). Some x) (sym front),
+        ),
+      )
+
+  pub put_loses : PutsShort old new ids place (bytes_in f) → LosesOne old new path f
+  put_loses puts = record {
+    known = λ told e. record {
+      now = appended told path (take puts.front.0 (bytes_in f));
+      is = puts.front.2
+          ∙ grown_by old.told puts.id told path f.place (take puts.front.0 (bytes_in f)) e
+          (named puts.id true puts.is mode_);
+      it = λ s. short_put told puts.front.0 f.content f.mode f.place mode_ s (bytes_in f) refl puts.front.1;
+    };
+  }
+
+pub writes_lose : (old new : FilesState) (ids : Ids) (place : ℕ) (f : File) → f.mode ≡ writing
+    → (bytes : List ℕ) → bytes ≡ bytes_in f → (result : Result (Unit {0}) RunEnd)
+    → IfErr result (λ _. PutsShort old new ids place bytes)
+    → IfErr result (λ _. (path : List ℕ) → IsNamed old ids place path f → LosesOne old new path f)
+writes_lose old new ids place f mode_ bytes is (Ok u) puts = tt
+writes_lose old new ids place f mode_ bytes is (Err e) puts = λ path named.
+    put_loses old new ids place path f named mode_ (subst (λ (b : List ℕ). PutsShort old new ids place b) is puts)
 
 pub writes_readies : (old new : FilesState) (ids : Ids) (place : ℕ) (f : File) → f.mode ≡ writing
     → (bytes : List ℕ) → bytes ≡ bytes_in f → (result : Result (Unit {0}) RunEnd)

@@ -1,5 +1,5 @@
 -- How the outside's files are opened and closed, and what waits of them goes out.
-use Rattle.std.specs.Prelude.{◌≡◌, ◌<◌, ◌≤◌, ◌⊎◌, ◌+◌, ℕ, Bool, true, false, List, [], length, take, slice_get, slice_set, Option, Some, None, IsSome, IfSome, is_some, Result, Ok, Err, MatchResult}
+use Rattle.std.specs.Prelude.{◌≡◌, ◌<◌, ◌≤◌, ◌⊎◌, ◌+◌, ℕ, Bool, true, false, not, List, [], length, take, slice_get, slice_set, Option, Some, None, IsSome, IfSome, is_some, Result, Ok, Err, MatchResult}
 use Rattle.std.specs.FinMap.{get}
 use Rattle.batch_io.specs.FilesState.{Contents, FilesState, Gives, known_bytes, known_handle, known_rest}
 use Rattle.batch_io.specs.Faults.{Rose}
@@ -14,7 +14,7 @@ use Rattle.cob_interp.specs.declared.ends.RunEnd.{RunEnd}
 use Rattle.cob_interp.specs.declared.ends.RunEnd.TheVariants as end
 use Rattle.cob_interp.specs.declared.setting.Setting.{Setting}
 use Rattle.cob_interp.specs.Told.{seen, seen_file, seen_files, IsSynced, AreSynced, AgreeBut, KeepsNames, IsReadyToOpen, IsOut}
-use Rattle.cob_interp.specs.Tracking.{Ids, IsHeld, IsOpen, purpose_in, purposes_of, purposes_for, KeepsPlaces}
+use Rattle.cob_interp.specs.Tracking.{Ids, IsHeld, IsHeldFor, IsOpen, purpose_in, purposes_of, purposes_for, KeepsPlaces}
 use Rattle.cob_interp.specs.Setting.{paths_of}
 
 -- no fault was met
@@ -70,6 +70,12 @@ pub record PutsUnderPart (old new : FilesState) (ids : Ids) (place : ℕ) (bytes
   pub id : ℕ
   pub is : IsHeld ids place true id
   pub front : (n : ℕ) × Grows old new id (take n bytes)
+
+-- A front of them does, and not all.
+pub record PutsShort (old new : FilesState) (ids : Ids) (place : ℕ) (bytes : List ℕ) : Type 0 where
+  pub id : ℕ
+  pub is : IsHeld ids place true id
+  pub front : (n : ℕ) × (n < length bytes) × Grows old new id (take n bytes)
 
 -- What is told of the id at a place, where its file is written, is this path.
 abbrev pub IsNamed : FilesState → Ids → ℕ → List ℕ → File → Type 0
@@ -191,6 +197,27 @@ pub record ClosesAll (old new : FilesState) (result : Result (Unit {0}) RunEnd) 
   pub reading : old.reading ≤ new.reading
   pub writing : old.writing ≤ new.writing
   pub counts : MatchResult result (λ _. AreWell old new) (λ e. IsRefusal old new e)
+
+-- the count of faults of files that are written, or of those that are read
+abbrev pub faults_by : Bool → FilesState → ℕ
+faults_by true state = state.writing
+faults_by false state = state.reading
+
+-- The close of the file at a place was refused.
+pub record IsRefusedAt (old new : FilesState) (ids : Ids) (place : ℕ) (e : RunEnd) : Type 0 where
+  pub writes : Bool
+  pub held : IsHeldFor ids place writes
+  pub is : e ≡ close_fault writes
+  pub other : faults_by (not writes) new ≡ faults_by (not writes) old
+
+-- Of files that are closed in their order this fault is the first: the other count rose, if it did, by one behind it.
+pub record IsFirst (IsClosed : ℕ → Bool → Type 0) (old new : FilesState) (e : RunEnd) : Type 0 where
+  pub place : ℕ
+  pub writes : Bool
+  pub closed_ : IsClosed place writes
+  pub is : e ≡ close_fault writes
+  pub other : (faults_by (not writes) new ≡ faults_by (not writes) old)
+      ⊎ ((behind : ℕ) × (place < behind) × IsClosed behind (not writes))
 
 -- The next bytes of the file at a place stand at the front of its room, which holds so many: as many as fit, or those to
 -- the end.

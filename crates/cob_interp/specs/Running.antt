@@ -14,7 +14,7 @@ use Rattle.cob_interp.specs.declared.ends.RunEnd.{RunEnd}
 use Rattle.cob_interp.specs.declared.ends.RunEnd.TheVariants as end
 use Rattle.cob_interp.specs.Ends.{told_files, AreFree, IsEnd, state_after}
 use Rattle.cob_interp.specs.Told.{seen, seen_files, AreSynced, KeepsNames}
-use Rattle.cob_interp.specs.Runs.{Outside, IfTold, IsBroken, IfRefused, EndsBy}
+use Rattle.cob_interp.specs.Runs.{Outside, IfTold, IsBrokenBefore, IfRefused, EndsBy}
 
 -- ---- while it runs
 
@@ -82,13 +82,13 @@ module _ (p : Program) (g : Graph) (paths : List (List ℕ)) where
     -- The run is at a node at which a step begins, or at the last one, wherever it might be broken off now.
     pub record IsAt (start now : Outside) (w : World) (steps node : ℕ) : Type 0 where
       pub stands : Stands start now w steps steps node
-      pub part : IsBroken p paths budget start now (Err end.Memory)
+      pub part : IsBrokenBefore p paths budget start now (Err end.Memory)
 
     -- the run goes on at a node, or halts
     abbrev pub GoesOn : Outside → Outside → World → ℕ → Result ℕ RunEnd → Type 0
     GoesOn start now w step (Ok node) = IsAt start now w step node
-    GoesOn start now w step (Err e) = Halts start now w (Err e) × IfRefused (Err e) (IsBroken p paths budget start now (Err e))
+    GoesOn start now w step (Err e) = Halts start now w (Err e) × IfRefused (Err e) (IsBrokenBefore p paths budget start now (Err e))
 
     pub record HaltsOff (start now : Outside) (w : World) (result : Result Ended RunEnd) : Type 0 where
       pub halts : Halts start now w result
-      pub part : IfRefused result (IsBroken p paths budget start now result)
+      pub part : IfRefused result (IsBrokenBefore p paths budget start now result)

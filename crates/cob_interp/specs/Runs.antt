@@ -1,5 +1,5 @@
 -- What a run answers, and what it leaves in the outside's files and sink.
-use Rattle.std.specs.Prelude.{◌≡◌, ◌≤◌, ◌<◌, ◌⊎◌, ℕ, Bool, true, false, List, take, length, slice_get, Option, Some, None, Result, Ok, Err}
+use Rattle.std.specs.Prelude.{◌≡◌, ◌≤◌, ◌<◌, ◌⊎◌, ℕ, Bool, true, false, IfErr, List, take, length, slice_get, Option, Some, None, Result, Ok, Err}
 use Rattle.std.specs.Option.{option_map_or}
 use Rattle.std.specs.Io.KnownBytes.{append_known}
 use Rattle.std.specs.FinMap.{get}
@@ -18,9 +18,11 @@ use Rattle.cob_interp.specs.declared.ends.RunEnd.{RunEnd}
 use Rattle.cob_interp.specs.declared.ends.RunEnd.TheVariants as end
 use Rattle.cob_interp.specs.Ends.{told_files, AreFree, IsEnd, state_after}
 use Rattle.cob_interp.specs.Told.{KeepsNames, Holds}
-use Rattle.cob_interp.specs.Touching.{IsPartOf, makes_by}
+use Rattle.cob_interp.specs.Touching.{IsPartOf, IsShort, makes_by}
 use Rattle.cob_interp.specs.Meeting.{IsMetBy, IfFailed}
 use Rattle.cob_interp.specs.Reached.{up_to, last_of}
+use Rattle.cob_interp.specs.Readying.{IsFirst}
+use Rattle.cob_interp.specs.Tracking.{purpose_by, purpose_in}
 
 -- ---- the outside, and why a run ends
 
@@ -43,6 +45,32 @@ RoseReading old new = Rose old.files.reading new.files.reading
 
 abbrev pub RoseWriting : Outside → Outside → Type 0
 RoseWriting old new = Rose old.files.writing new.files.writing ⊎ Rose old.sink.faults new.sink.faults
+
+-- some file that is being written holds fewer bytes than it has behind the run
+pub record HasShort (paths : List (List ℕ)) (files : List File) (told : Contents) : Type 0 where
+  pub place : ℕ
+  pub path : List ℕ
+  pub file : File
+  pub at : slice_get paths place ≡ Some path
+  pub has : slice_get files place ≡ Some file
+  pub short : IsShort file (get told path)
+
+-- the run came to its end
+abbrev pub HasEnded : Result Ended RunEnd → Type 0
+HasEnded own = (e : Ended) × (own ≡ Ok e)
+
+-- the file at a place is open, to be written or to be read
+abbrev pub IsOpenAt : List File → ℕ → Bool → Type 0
+IsOpenAt files place writes =
+    (f : File) × (slice_get files place ≡ Some f) × (purpose_in f.mode ≡ Some (purpose_by writes))
+
+-- The run came to its end. Of the files that are open then, which are closed in their order, this fault is the first.
+abbrev pub ByClose : FilesState → FilesState → Result Ended RunEnd → Result Ended RunEnd → List File → Type 0
+ByClose old new result own files = HasEnded own × IfErr result (λ e. IsFirst (IsOpenAt files) old new e)
+
+-- no close is told
+abbrev pub NoClose : Result Ended RunEnd → List File → Type 0
+NoClose own files = ⊥
 
 -- A count of faults stays where the run came to its end. Behind another end of its own a close may have been refused.
 abbrev pub CountsOn : Result Ended RunEnd → ℕ → ℕ → Type 0
@@ -101,44 +129,61 @@ module _ (p : Program) (paths : List (List ℕ)) (budget : ℕ) where
     pub faults : new.sink.faults ≡ old.sink.faults
     pub run : EndsRunIf (known_bytes old.files) (known_bytes new.files) old.sink new.sink result
 
-  -- The run's own end comes behind so many steps: each file holds what it holds there, or a front of it.
-  pub record IsOver (first told : Contents) (steps : ℕ) : Type 0 where
-    pub own : Result Ended RunEnd
-    pub ends : IsEnd p (told_files first paths) budget own steps
-    pub files : (place : ℕ) (path : List ℕ) (f : File) → slice_get paths place ≡ Some path
-        → slice_get (state_after p (told_files first paths) steps).world.files place ≡ Some f
-        → IsPartOf false f f.content (get told path)
+  -- which closes are told behind the run's own end
+  module _ (Closes : Result Ended RunEnd → List File → Type 0) where
+    -- The run's own end comes behind so many steps: each file holds what it holds there, or a front of it. A fault is told
+    -- there by a close, or where a write of what waited was refused: then some file holds less.
+    pub record IsOver (first told : Contents) (steps : ℕ) (result : Result Ended RunEnd) : Type 0 where
+      pub own : Result Ended RunEnd
+      pub ends : IsEnd p (told_files first paths) budget own steps
+      pub files : (place : ℕ) (path : List ℕ) (f : File) → slice_get paths place ≡ Some path
+          → slice_get (state_after p (told_files first paths) steps).world.files place ≡ Some f
+          → IsPartOf false f f.content (get told path)
+      pub why : Closes own (state_after p (told_files first paths) steps).world.files ⊎ ((result ≡ Err end.WriteFault)
+          × HasShort paths (state_after p (told_files first paths) steps).world.files told)
 
-  -- The run was broken off behind so many steps, or in the next one: each file holds what it holds there, or a part
-  -- of it; what is shown is all that is shown there, unless the sink refused it or memory ran out. A fault of files was
-  -- met by the next statement, in an OPEN at the last file to which it came, or behind the run's own end. No file that
-  -- stands behind that one in the statement is made anew.
-  pub record BreaksOff (first told : Contents) (sink_before sink_after : SinkState) (result : Result Ended RunEnd)
-      : Type 0 where
-    pub steps : ℕ
-    pub within : steps ≤ budget
-    pub free : AreFree p (told_files first paths) steps
-    pub reached : ℕ
-    pub files : (place : ℕ) (path : List ℕ) (f : File) → slice_get paths place ≡ Some path
-        → slice_get (state_after p (told_files first paths) steps).world.files place ≡ Some f
-        → IsPartOf (makes_next p (state_after p (told_files first paths) steps) reached place) f f.content (get told path)
-    pub others : KeepsNames first told paths
-    pub shows : (sink_after.told ≡ append_known sink_before.told
-        (state_after p (told_files first paths) steps).world.shown)
-        ⊎ ShowsFront sink_before sink_after result (state_after p (told_files first paths) steps).world.shown
-    pub meets : IfFailed result (IsOver first told steps
-        ⊎ (Rose sink_before.faults sink_after.faults
-        ⊎ IsMetNext p (state_after p (told_files first paths) steps) reached result))
+    -- The run was broken off behind so many steps, or in the next one: each file holds what it holds there, or a part
+    -- of it; what is shown is all that is shown there, unless the sink refused it or memory ran out. A fault of files was
+    -- met by the next statement, in an OPEN at the last file to which it came, or behind the run's own end. No file that
+    -- stands behind that one in the statement is made anew.
+    pub record BreaksOff (first told : Contents) (sink_before sink_after : SinkState) (result : Result Ended RunEnd)
+        : Type 0 where
+      pub steps : ℕ
+      pub within : steps ≤ budget
+      pub free : AreFree p (told_files first paths) steps
+      pub reached : ℕ
+      pub files : (place : ℕ) (path : List ℕ) (f : File) → slice_get paths place ≡ Some path
+          → slice_get (state_after p (told_files first paths) steps).world.files place ≡ Some f
+          → IsPartOf (makes_next p (state_after p (told_files first paths) steps) reached place) f f.content (get told path)
+      pub others : KeepsNames first told paths
+      pub shows : (sink_after.told ≡ append_known sink_before.told
+          (state_after p (told_files first paths) steps).world.shown)
+          ⊎ ShowsFront sink_before sink_after result (state_after p (told_files first paths) steps).world.shown
+      pub meets : IfFailed result (IsOver first told steps result
+          ⊎ (Rose sink_before.faults sink_after.faults
+          ⊎ IsMetNext p (state_after p (told_files first paths) steps) reached result))
+
+    abbrev pub IsBrokenBy : Outside → Outside → Result Ended RunEnd → Type 0
+    IsBrokenBy start now result =
+        IfTold (λ first told. BreaksOff first told start.sink now.sink result) (known_bytes start.files)
+        (known_bytes now.files)
 
   abbrev pub IsBroken : Outside → Outside → Result Ended RunEnd → Type 0
-  IsBroken start now result =
-      IfTold (λ first told. BreaksOff first told start.sink now.sink result) (known_bytes start.files)
-      (known_bytes now.files)
+  IsBroken start now result = IsBrokenBy (ByClose start.files now.files result) start now result
+
+  -- before files are closed behind the run
+  abbrev pub IsBrokenBefore : Outside → Outside → Result Ended RunEnd → Type 0
+  IsBrokenBefore start now result = IsBrokenBy NoClose start now result
 
   -- how a run ended, and what is left where it was refused
   pub record Runs (old new : Outside) (result : Result Ended RunEnd) : Type 0 where
     pub ends : EndsBy EndsWell old new result
     pub part : IfRefused result (IsBroken old new result)
+
+  -- how it was refused before files are closed behind it
+  pub record RunsBefore (old new : Outside) (result : Result Ended RunEnd) : Type 0 where
+    pub ends : EndsBy EndsWell old new result
+    pub part : IfRefused result (IsBrokenBefore old new result)
 
 -- ---- files that are never made
 

@@ -1,5 +1,5 @@
 -- What a statement that isn't done, or a call within it, leaves of the outside's files.
-use Rattle.std.specs.Prelude.{◌≡◌, ℕ, ◌==◌, ◌&&◌, ◌⊎◌, Bool, true, false, List, [], take, slice_get, Option, Some}
+use Rattle.std.specs.Prelude.{◌≡◌, ℕ, ◌==◌, ◌&&◌, ◌<◌, ◌⊎◌, Bool, true, false, List, [], length, take, slice_get, Option, Some}
 use Rattle.std.specs.List.{list_any}
 use Rattle.std.specs.FinMap.{get}
 use Rattle.batch_io.specs.FilesState.{Contents, FilesState, known_bytes}
@@ -23,6 +23,10 @@ IsEmptied makes f now = (makes ≡ true) × ((f.mode ≡ closed) × (now ≡ Som
 -- output, nothing yet.
 abbrev pub IsPartOf : Bool → File → Option (List ℕ) → Option (List ℕ) → Type 0
 IsPartOf makes f whole now = (now ≡ whole) ⊎ (IsFront f now ⊎ IsEmptied makes f now)
+
+-- Of a file that is being written fewer bytes are told than it has.
+abbrev pub IsShort : File → Option (List ℕ) → Type 0
+IsShort f now = (f.mode ≡ writing) × ((n : ℕ) × (n < length (bytes_in f)) × (now ≡ Some (take n (bytes_in f))))
 
 -- ---- the files that an OPEN makes anew
 
@@ -48,6 +52,15 @@ pub record TouchesOneIn (path : List ℕ) (f : File) (told : Contents) (known : 
 
 pub record TouchesOne (old new : FilesState) (path : List ℕ) (f : File) : Type 0 where
   pub known : (told : Contents) → known_bytes old ≡ Some told → TouchesOneIn path f told (known_bytes new)
+
+-- the name holds fewer bytes than its file has, as the run sees it
+pub record LosesOneIn (path : List ℕ) (f : File) (told : Contents) (known : Option Contents) : Type 0 where
+  pub now : Contents
+  pub is : known ≡ Some now
+  pub it : IsSynced told path f → IsShort (seen_file told path f) (get now path)
+
+pub record LosesOne (old new : FilesState) (path : List ℕ) (f : File) : Type 0 where
+  pub known : (told : Contents) → known_bytes old ≡ Some told → LosesOneIn path f told (known_bytes new)
 
 -- ---- all names
 
@@ -80,6 +93,20 @@ module _ (paths : List (List ℕ)) (makes : ℕ → Bool) (w : World) where
 
   pub record Makes (old new : FilesState) : Type 0 where
     pub known : (told : Contents) → known_bytes old ≡ Some told → IsMade told (known_bytes new)
+
+-- one path holds fewer bytes than its file has, as the run sees it
+pub record LosesIn (paths : List (List ℕ)) (w : World) (told : Contents) (known : Option Contents) : Type 0 where
+  pub now : Contents
+  pub is : known ≡ Some now
+  pub place : ℕ
+  pub path : List ℕ
+  pub at : slice_get paths place ≡ Some path
+  pub it : (f : File) → slice_get w.files place ≡ Some f → IsSynced told path f
+      → IsShort (seen_file told path f) (get now path)
+
+-- A write of what waits was refused.
+pub record Loses (paths : List (List ℕ)) (w : World) (old new : FilesState) : Type 0 where
+  pub known : (told : Contents) → known_bytes old ≡ Some told → LosesIn paths w told (known_bytes new)
 
 -- ---- how files change within a statement
 

@@ -1,9 +1,9 @@
 //! Files that are open outside.
-ghost use Rattle.std.specs.Prelude.{◌≡◌, ◌<◌, ◌≤◌, ◌+◌, ℕ, Bool, true, false, IfOk, IfSome, MatchResult, Some, None, [], length, replicate, slice_get, slice_set};
+ghost use Rattle.std.specs.Prelude.{◌≡◌, ◌<◌, ◌≤◌, ◌+◌, ℕ, Bool, true, false, IfOk, IfErr, IfSome, MatchResult, Some, None, [], length, replicate, slice_get, slice_set};
 ghost use Rattle.batch_io.specs.FilesState.{known_bytes, KeepsIds};
 ghost use Rattle.cob_interp.specs.Tracking.{IsHeld, IsHeldFor, AreNone, AreOpen, Tracks, purposes_for};
 ghost use Rattle.cob_interp.specs.Meeting.{FailsBy};
-ghost use Rattle.cob_interp.specs.Readying.{IsRefusal, OpensFor, CreatesFor, CreatesPart, ClosesFor, ClosesAll, GivesRecord, PutsUnder, PutsUnderPart, close_fault, first_refusal};
+ghost use Rattle.cob_interp.specs.Readying.{IsRefusal, OpensFor, CreatesFor, CreatesPart, ClosesFor, ClosesAll, GivesRecord, IsRefusedAt, IsFirst, PutsUnder, PutsUnderPart, PutsShort, close_fault, first_refusal};
 
 use crate::ends::RunEnd;
 use batch_io::{Failed, Files, MakeEnd, OpenEnd, put_whole, read_record};
@@ -238,6 +238,7 @@ impl Handles {
             (λ e. IsRefusal (F.state files.old) (F.state files.new) e) }
         ensures fault { FailsBy true result }
         ensures part { PutsUnderPart (F.state files.old) (F.state files.new) self.now place bytes.now }
+        ensures short { IfErr result (λ _. PutsShort (F.state files.old) (F.state files.new) self.now place bytes.now) }
         ensures ids { KeepsIds (F.state files.old) (F.state files.new) }
     {
         let id = self.id_for(place, true);
@@ -254,6 +255,7 @@ impl Handles {
         ensures tracks { Tracks (F.state files.old) (F.state files.new) self.old self.new }
         ensures emptied { self.new ≡ slice_set self.old place None }
         ensures counts { ClosesAll (F.state files.old) (F.state files.new) result }
+        ensures refused { IfErr result (λ e. IsRefusedAt (F.state files.old) (F.state files.new) self.old place e) }
         ensures same { known_bytes (F.state files.new) ≡ known_bytes (F.state files.old) }
         ensures closes { MatchResult result
             (λ _. ClosesFor (F.state files.old) (F.state files.new) self.old self.new place)
@@ -269,13 +271,16 @@ impl Handles {
         }
     }
 
-    /// Closes all that are open. A close that fails keeps none of them open.
+    /// Closes all that are open, in the order of their places. A close that fails keeps none of them open; the first one
+    /// that fails is told.
     pub fn close_all<F: Files>(&mut self, files: &mut F) -> Result<(), RunEnd>
         requires live { AreOpen (F.state files.old) self.old }
         ensures tracks { Tracks (F.state files.old) (F.state files.new) self.old self.new }
         ensures none { AreNone self.new }
         ensures same { known_bytes (F.state files.new) ≡ known_bytes (F.state files.old) }
         ensures counts { ClosesAll (F.state files.old) (F.state files.new) result }
+        ensures first { IfErr result
+            (λ e. IsFirst (λ place writes. IsHeldFor self.old place writes) (F.state files.old) (F.state files.new) e) }
     {
         let mut closed = Ok(());
         for place in 0..self.ids.len() {

@@ -8,7 +8,7 @@ ghost use Rattle.cob_runs.specs.Files as file;
 ghost use Rattle.cob_runs.specs.Files.{writing};
 ghost use Rattle.cob_interp.specs.Ends.{is_closed};
 ghost use Rattle.cob_interp.specs.Told.{IsOut};
-ghost use Rattle.cob_interp.specs.Touching.{TouchesOne, Touches, Makes, OpensOnly, makes_in, makes_none};
+ghost use Rattle.cob_interp.specs.Touching.{LosesOne, Loses, TouchesOne, Touches, Makes, OpensOnly, makes_in, makes_none};
 ghost use Rattle.cob_interp.specs.Setting.{IsReady, paths_of};
 ghost use Rattle.cob_world.specs.Views.{plain_mode};
 
@@ -36,6 +36,8 @@ fn put_waiting<F: Files>(
     ensures fault { FailsBy true result }
     ensures touches { (path : List ℕ) → IsNamed (F.state files.old) handles.now place path file.now
         → TouchesOne (F.state files.old) (F.state files.new) path file.now }
+    ensures loses { IfErr result (λ _. (path : List ℕ) → IsNamed (F.state files.old) handles.now place path file.now
+        → LosesOne (F.state files.old) (F.state files.new) path file.now) }
     ensures ids { KeepsIds (F.state files.old) (F.state files.new) }
 {
     match file.mode() {
@@ -62,6 +64,8 @@ fn put_out<F: Files>(
     ensures fault { FailsBy true result }
     ensures touches { Touches (paths_of setting.now) makes_none world.now.world (F.state files.old)
         (F.state files.new) }
+    ensures loses { IfErr result
+        (λ _. Loses (paths_of setting.now) world.now.world (F.state files.old) (F.state files.new)) }
     ensures ids { KeepsIds (F.state files.old) (F.state files.new) }
 {
     match world.file(place) {
@@ -119,6 +123,8 @@ pub fn write_out<F: Files>(
     ensures emptied { IfOk result (λ _. world.new.world ≡ emptied place world.old.world) }
     ensures touches { Touches (paths_of setting.now) makes_none world.old.world (F.state files.old)
         (F.state files.new) }
+    ensures loses { IfErr result
+        (λ _. Loses (paths_of setting.now) world.old.world (F.state files.old) (F.state files.new)) }
     ensures ids { KeepsIds (F.state files.old) (F.state files.new) }
 {
     put_out(setting, files, handles, world, place)?;

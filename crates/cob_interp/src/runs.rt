@@ -1,6 +1,6 @@
 //! A program is run on the outside's files.
 ghost use Rattle.std.specs.Prelude.{◌≡◌, ℕ, List, true, false, IfOk, IfErr, MatchResult, Result, Err, length, map, string_bytes};
-ghost use Rattle.batch_io.specs.FilesState.{KeepsIds, known_bytes};
+ghost use Rattle.batch_io.specs.FilesState.{FilesState, KeepsIds, known_bytes};
 ghost use Rattle.batch_io.specs.SinkState.{SinkState};
 ghost use Rattle.cob_graph.specs.Graphs.{IsGraph};
 ghost use Rattle.cob_graph.specs.WellFormed.{IsWellFormed};
@@ -9,15 +9,15 @@ ghost use Rattle.cob_program.specs.ActView.{plain_program};
 ghost use Rattle.cob_world.specs.Doing.{CanDoProgram};
 ghost use Rattle.cob_interp.specs.declared.ends.Ended.{Ended};
 ghost use Rattle.cob_interp.specs.declared.ends.RunEnd.{RunEnd};
-ghost use Rattle.cob_interp.specs.Meeting.{end_behind};
+ghost use Rattle.cob_interp.specs.Meeting.{FailsBy, end_behind};
 ghost use Rattle.cob_interp.specs.Able.{CanBeRun, HasItsFiles};
-ghost use Rattle.cob_interp.specs.Readying.{IsRefusal, Sees, AreEmptied};
-ghost use Rattle.cob_interp.specs.Runs.{Outside, outside, IsBroken, IfTold, KeepsUnmade, Runs, TellsOfSink};
+ghost use Rattle.cob_interp.specs.Readying.{IsFirst, IsRefusal, Sees, AreEmptied};
+ghost use Rattle.cob_interp.specs.Runs.{Outside, outside, HasEnded, IsBroken, IfTold, KeepsUnmade, Runs, RunsBefore, TellsOfSink};
 ghost use Rattle.cob_interp.specs.Running.{HaltsOff};
 ghost use Rattle.cob_interp.specs.Setting.{IsReady, program_of, paths_of};
 ghost use Rattle.cob_interp.specs.Told.{AreDistinct};
-ghost use Rattle.cob_interp.specs.Touching.{Touches, makes_none};
-ghost use Rattle.cob_interp.specs.Tracking.{AreLeft, AreNone, AreOpen, AreWritten, Tracks};
+ghost use Rattle.cob_interp.specs.Touching.{Loses, Touches, makes_none};
+ghost use Rattle.cob_interp.specs.Tracking.{AreLeft, AreNone, AreOpen, AreWritten, IsHeldFor, Tracks, purposes_for, purposes_of};
 ghost use Rattle.cob_interp.specs.Walking.{by_sink, as_result, TellsBySink, is_refused, IsOwnEnd, IsRefused};
 ghost use Rattle.cob_program.specs.Act as act;
 ghost use Rattle.cob_graph.specs.declared.graph.Graph as graph;
@@ -50,8 +50,11 @@ fn write_all<F: Files>(
         (λ _. Sees (paths_of setting.now) (F.state files.old) (F.state files.new) world.old.world world.new.world
         × AreEmptied world.new.world.files (length setting.now.paths.now))
         (λ end. IsRefusal (F.state files.old) (F.state files.new) end) }
+    ensures fault { FailsBy true result }
     ensures touches { Touches (paths_of setting.now) makes_none world.old.world (F.state files.old)
         (F.state files.new) }
+    ensures loses { IfErr result
+        (λ _. Loses (paths_of setting.now) world.old.world (F.state files.old) (F.state files.new)) }
     ensures ids { KeepsIds (F.state files.old) (F.state files.new) }
 {
     for place in 0..setting.paths.len() {
@@ -82,7 +85,7 @@ fn give_up<F: Files>(files: &mut F, handles: &mut Handles, ending: Ending) -> En
     ensures tracks { Tracks (F.state files.old) (F.state files.new) handles.old handles.new }
     ensures none { AreNone handles.new }
     ensures runs { (p : act.Program) (paths : List (List ℕ)) (budget : ℕ) (start : Outside) (sink : SinkState)
-        → Runs p paths budget start (outside (F.state files.old) sink) ending.end
+        → RunsBefore p paths budget start (outside (F.state files.old) sink) ending.end
         → Runs p paths budget start (outside (F.state files.new) sink) result.end }
 {
     let _ = handles.close_all(files);
@@ -116,8 +119,9 @@ fn close_handles<F: Files>(
     ensures none { AreNone handles.new }
     ensures runs { (p : act.Program) (paths : List (List ℕ)) (budget : ℕ) (start : Outside) (sink : SinkState)
         → Runs p paths budget start (outside (F.state files.old) sink) end
-        → ((broken : Result Ended RunEnd)
-        → IsBroken p paths budget start (outside (F.state files.old) sink) broken)
+        → (HasEnded end → (e : RunEnd) (now : FilesState) → known_bytes now ≡ known_bytes (F.state files.old)
+        → IsFirst (λ place writes. IsHeldFor handles.old place writes) start.files now e
+        → IsBroken p paths budget start (outside now sink) (Err e))
         → Runs p paths budget start (outside (F.state files.new) sink) result.end }
 {
     let closed = handles.close_all(files);
@@ -141,6 +145,7 @@ fn finish<F: Files, O: Sink>(
     requires own { IsOwnEnd end }
     requires live { AreOpen (F.state files.old) handles.old }
     requires written { AreWritten (paths_of setting.now) (F.state files.old) handles.old world.old.world.files }
+    requires purposes { IfOk end (λ _. purposes_for handles.old ≡ purposes_of world.old.world.files) }
     ensures runs { (budget : ℕ) (start : Outside)
         → HaltsOff (program_of setting.now) setting.now.graph.now (paths_of setting.now) budget start
         (outside (F.state files.old) (O.state out.old)) world.old.world end

@@ -8,7 +8,8 @@ use Rattle.cob_interp.specs.declared.ends.Ended.{Ended}
 use Rattle.cob_interp.specs.declared.ends.RunEnd.{RunEnd}
 use Rattle.cob_interp.specs.declared.ends.RunEnd.TheVariants as end
 use Rattle.cob_interp.specs.Ends.{told_files, IsEnd}
-use Rattle.cob_interp.specs.Runs.{Outside, outside, IfTold, CountsOn, EndsRunIf, EndsWell, EndsBy, BreaksOff, IsBroken, IfRefused, KeepsUnmade, Runs}
+use Rattle.cob_interp.specs.Runs.{Outside, outside, IfTold, CountsOn, EndsRunIf, EndsWell, EndsBy, IsBroken, IfRefused, KeepsUnmade, Runs}
+use Rattle.cob_interp.proofs.ClosingHandles.{broken_from}
 use Rattle.cob_interp.proofs.Passing.{ids_pass}
 use Rattle.command_words.specs.Commands.{Run, IsCommand}
 use Rattle.command_words.specs.Commands as command
@@ -61,8 +62,7 @@ module _ (p : Program) (paths : List (List ℕ)) (budget : ℕ) where
     broken_on : (result : Result Ended RunEnd) → IsBroken p paths budget (outside middle sink) new result
         → IsBroken p paths budget (outside before sink) new result
     broken_on result h =
-        let broken = λ (first told : Contents). BreaksOff p paths budget first told sink new.sink result in
-        subst (λ (k : Option Contents). IfTold broken k (known_bytes new.files)) reads.contents h
+        broken_from p paths budget before middle sink new result reads.contents same_reading reads.writing h
 
     well_on : (result : Result Ended RunEnd) → EndsWell p paths budget (outside middle sink) new result
         → EndsWell p paths budget (outside before sink) new result

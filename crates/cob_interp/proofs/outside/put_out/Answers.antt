@@ -1,7 +1,8 @@
 use Rattle.std.proofs.Common.{sym}
+use Rattle.std.proofs.lemmas.Result.{IfErr-weaker}
 use Rattle.cob_interp.specs.Setting.{paths_of}
 use Rattle.cob_interp.specs.Touching.{makes_none}
-use Rattle.cob_interp.proofs.Touched.{touches_by_one}
+use Rattle.cob_interp.proofs.Touched.{loses_by_one, touches_by_one}
 use Rattle.cob_interp.proofs.Declared.{path_there, no_file}
 use Rattle.cob_interp.proofs.Going.{named_at, goes_by}
 use Rattle.cob_interp.proofs.outside.put_out.Goals as goal
@@ -29,3 +30,14 @@ returns-clause-touches g c =
     (c.put_waiting.ensures.touches path.0
     (named_at c.args.setting.now c.args.world.now.world c.args.place _ (g.F.Files.state c.put_waiting.new.files)
     c.args.handles.now path.0 c.in-Some.file.now path.1 (sym c.in-Some.ensures) c.requires.written))
+
+pub returns-clause-loses : goal.returns-clause-loses
+returns-clause-loses g c =
+    let path = path_there c.args.setting.now c.requires.ready.count c.args.place c.requires.declared in
+    IfErr-weaker c.put_waiting.result _ _
+    (λ e one. loses_by_one (paths_of c.args.setting.now) makes_none c.args.world.now.world _ _ c.args.place path.0
+    c.in-Some.file.now c.requires.ready.distinct path.1.path_ (sym c.in-Some.ensures)
+    (one path.0
+    (named_at c.args.setting.now c.args.world.now.world c.args.place _ (g.F.Files.state c.put_waiting.new.files)
+    c.args.handles.now path.0 c.in-Some.file.now path.1 (sym c.in-Some.ensures) c.requires.written)))
+    c.put_waiting.ensures.loses

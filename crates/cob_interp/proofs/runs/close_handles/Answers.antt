@@ -13,5 +13,5 @@ pub returns-clause-runs : goal.returns-clause-runs
 returns-clause-runs g c p paths budget start sink runs broken =
     subst (λ (r : Result Ended RunEnd). Runs p paths budget start
     (outside (g.F.Files.state c.close_all-closed.new.files) sink) r) (sym c.end_behind.ensures)
-    (closed_behind p paths budget start sink _ _ c.close_all-closed.ensures.same c.args.end c.requires.own
-    c.close_all-closed.result c.close_all-closed.ensures.counts runs broken)
+    (closed_behind p paths budget start sink _ _ c.close_all-closed.ensures.same c.args.handles.now c.args.end c.requires.own
+    c.close_all-closed.result c.close_all-closed.ensures.counts c.close_all-closed.ensures.first runs broken)

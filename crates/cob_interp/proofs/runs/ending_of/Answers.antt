@@ -21,3 +21,8 @@ finish-requires-else-is_refused-clause-written g c =
     left_own (paths_of c.args.setting.now) (g.F.Files.state c.args.files.now) c.args.handles.now
     c.args.world.now.world.files c.args.halted c.in-Err-End.end
     (c.in-Err-End.is ∙ ap (λ (x : Halt). Err x) e) (sym c.is_refused.ensures ∙ c.if-is_refused.false) c.requires.placed
+
+pub finish-requires-clause-purposes : goal.finish-requires-clause-purposes
+finish-requires-clause-purposes g c =
+    (subst (λ (h : Result Ended Halt). AreLeft (paths_of c.args.setting.now) (g.F.Files.state c.args.files.now)
+    c.args.handles.now c.args.world.now.world.files (as_result h)) c.in-Ok.is c.requires.placed).purposes

@@ -46,7 +46,8 @@ returns-in-Err-write_all-clause-runs g c budget start off =
     (paths_of c.args.setting.now) budget start _ _ _
     c.args.world.now.world c.flush.new.world.world c.args.end c.requires.own off c.in-Ok.ensures.flushes _
     c.in-Err-write_all.ensures.touches
-    c.in-Err-write_all.refusal c.in-Err-write_all.ensures.writes)
+    c.in-Err-write_all.refusal c.in-Err-write_all.ensures.writes c.in-Err-write_all.ensures.fault
+    c.in-Err-write_all.ensures.loses)
 
 pub returns-in-Ok-write_all-clause-runs : goal.returns-in-Ok-write_all-clause-runs
 returns-in-Ok-write_all-clause-runs g c budget start off =
@@ -58,7 +59,7 @@ returns-in-Ok-write_all-clause-runs g c budget start off =
     c.args.world.now.world c.flush.new.world.world c.args.end c.requires.own off c.in-Ok.ensures.flushes _
     c.in-Ok-write_all.ensures.touches
     c.write_all.new.world.world _ (paths_count c.args.setting.now) written.0 written.1)
-    (λ q. broken (program_of c.args.setting.now) c.args.setting.now.graph.now
+    (λ good e now same first. broken (program_of c.args.setting.now) c.args.setting.now.graph.now
     (paths_of c.args.setting.now) budget start _ _ _
     c.args.world.now.world c.flush.new.world.world c.args.end c.requires.own off c.in-Ok.ensures.flushes _
-    c.in-Ok-write_all.ensures.touches q)
+    c.in-Ok-write_all.ensures.touches c.args.handles.now c.requires.purposes good e now same first)

@@ -6,7 +6,7 @@ use Rattle.cob_interp.specs.Setting.{paths_of}
 use Rattle.cob_interp.specs.Touching.{makes_none}
 use Rattle.cob_interp.specs.Tracking.{AreWritten}
 use Rattle.cob_interp.proofs.Declared.{declared_below}
-use Rattle.cob_interp.proofs.Emptying.{emptied_keeps, emptied_next, emptied_none, sees_out, sees_pass, sees_stay, touches_sees}
+use Rattle.cob_interp.proofs.Emptying.{emptied_keeps, emptied_next, emptied_none, loses_sees, sees_out, sees_pass, sees_stay, touches_sees}
 use Rattle.cob_interp.proofs.Passing.{ids_stay, ids_pass}
 use Rattle.cob_interp.proofs.Putting.{refused_on}
 use Rattle.cob_interp.proofs.Touched.{touches_stay}
@@ -69,3 +69,15 @@ pub returns-clause-touches : goal.returns-clause-touches
 returns-clause-touches g c =
     touches_sees (paths_of c.args.setting.now) makes_none _ _ _ c.args.world.now.world _ c.loop-place.invariant.sees
     (touches_stay (paths_of c.args.setting.now) makes_none _ _)
+
+pub returns-in_err-write_out-clause-fault : goal.returns-in_err-write_out-clause-fault
+returns-in_err-write_out-clause-fault g c =
+    let p = err_from_is_err_and c.from_residual.result c.from_residual.ensures.1 in
+    rw (p.1, p.2) c.in_err-write_out.ensures.fault
+
+pub returns-in_err-write_out-clause-loses : goal.returns-in_err-write_out-clause-loses
+returns-in_err-write_out-clause-loses g c =
+    let p = err_from_is_err_and c.from_residual.result c.from_residual.ensures.1 in
+    rw p.1
+    (loses_sees (paths_of c.args.setting.now) _ _ _ c.args.world.now.world _ c.loop-place.invariant.sees
+    c.in_err-write_out.ensures.loses)

@@ -3,7 +3,7 @@ use Rattle.std.proofs.lemmas.Option.{slice_get_within}
 use Rattle.cob_interp.specs.Tracking.{Ids, Tracks}
 use Rattle.cob_interp.specs.Readying.{ClosesFor}
 use Rattle.cob_interp.proofs.TrackLemmas.{tracks_closed}
-use Rattle.cob_interp.proofs.HandleLemmas.{set_none, closes_for}
+use Rattle.cob_interp.proofs.HandleLemmas.{set_none, closes_for, refused_at}
 use Rattle.cob_interp.proofs.handles.Handles.close.Goals as goal
 
 pub returns-in_default-clause-emptied : goal.returns-in_default-clause-emptied
@@ -36,3 +36,9 @@ returns-in-Ok-clause-closes g c =
     (closes_for _ _ c.args.self.now c.args.place c.in-Some.held.id c.in-Some.held.writes c.in-Some.ensures.some
     (slice_get_within c.args.self.now c.args.place (Some c.in-Some.held) c.in-Some.ensures.some) c.requires.live
     c.in-Ok.ensures.call)
+
+pub returns-in-Err-clause-refused : goal.returns-in-Err-clause-refused
+returns-in-Err-clause-refused g c =
+    refused_at _ _ c.args.self.now c.args.place c.in-Some.held.id c.in-Some.held.writes c.in-Some.ensures.some
+    (slice_get_within c.args.self.now c.args.place (Some c.in-Some.held) c.in-Some.ensures.some) c.requires.live
+    _ c.in-Err.ensures.call _ c.close_fault.ensures

@@ -1,7 +1,9 @@
-use Rattle.std.proofs.Common.{◌≡◌, ℕ, ◌<◌, Bool, length}
+use Rattle.std.proofs.Common.{◌≡◌, ℕ, ◌<◌, ◌≤◌, Bool, length}
+use Rattle.std.specs.Prelude.{slice_get, IfErr}
 use Rattle.batch_io.specs.FilesState.{known_bytes}
-use Rattle.cob_interp.specs.Readying.{ClosesAll}
+use Rattle.cob_interp.specs.Readying.{ClosesAll, IsFirst}
 use Rattle.cob_interp.specs.Tracking.{IsHeld, AreOpen, Tracks}
+use Rattle.cob_interp.proofs.HandleLemmas.{Before}
 use Rattle.cob_interp.proofs.handles.Handles.close_all.Given as goal
 
 -- those at the first places are closed
@@ -13,4 +15,7 @@ invariant-loop-place g l = record {
   size : length l.self ≡ length l.fn.self;
   same : known_bytes (g.F.Files.state l.files) ≡ known_bytes (g.F.Files.state l.fn.files);
   counts : ClosesAll (g.F.Files.state l.fn.files) (g.F.Files.state l.files) l.closed;
+  rest : (p : ℕ) → l.place ≤ p → slice_get l.self p ≡ slice_get l.fn.self p;
+  first : IfErr l.closed
+      (λ e. IsFirst (Before l.fn.self l.place) (g.F.Files.state l.fn.files) (g.F.Files.state l.files) e);
 }
