@@ -3,6 +3,7 @@ pub mod OneLine
 pub mod Texts
 pub mod Stops
 pub mod Loops
+mod CellLoops
 pub mod Numbers
 pub mod Printed
 pub mod Words

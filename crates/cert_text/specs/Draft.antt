@@ -64,6 +64,11 @@ node_closed d = record d { nodes = closed d; open_node = false; claims = []; bou
 
 -- ---- the numbers of a line
 
+-- the cell that a number tells behind the last one
+abbrev pub next_cell : ℕ → ℕ → ℤ → Option ℕ
+next_cell cells last (pos c) = if nat_lt last c && nat_le c cells then Some c else None
+next_cell cells last (negsuc n) = None
+
 -- the cells of a pack, after the last one
 abbrev pub cells_among : ℕ → ℕ → List ℤ → Option (List ℕ)
 cells_among cells last [] = Some []

@@ -3,7 +3,7 @@ ghost use Rattle.std.specs.Prelude.{◌≡◌, ◌++◌, ◌+◌, ◌-◌, ◌<�
 ghost use Rattle.std.specs.Prelude.{IfOk, OnOk, IfSome, if◌then◌else◌};
 ghost use Rattle.cert_text.specs.Reading.{Reads, ◌▷◌};
 ghost use Rattle.cert_text.specs.Allowed.{key_of, no_key, is_before, places_fit, claim_fits, bound_fits};
-ghost use Rattle.cert_text.specs.Draft.{is_at, small_natural, small_integer, one_number, cells_among, pack_among, claim_among, bound_among};
+ghost use Rattle.cert_text.specs.Draft.{is_at, small_natural, small_integer, one_number, next_cell, cells_among, pack_among, claim_among, bound_among};
 ghost use Rattle.cert_text.specs.Draft.{Parts, Stepped, parts_of, nothing_read, closed, is_next, title_read, cells_read, nodes_read, packs_read, pack_read, never_read, node_read, claim_read, bound_read, end_read, step, one_step, node_closed, line_read};
 ghost use Rattle.cert_text.specs.View.{view};
 
@@ -123,18 +123,34 @@ fn bound_among(numbers: &[i128]) -> Option<Bound>
     }
 }
 
+// The cell of a pack that a number tells behind the last one, where it is one.
+fn next_cell(cells: u32, last: u32, number: &i128) -> Option<u32>
+    ensures { Reads (λ n. n) result (next_cell cells last number.now) }
+{
+    match small_natural(*number) {
+        None => None,
+        Some(cell) => {
+            if last < cell && cell <= cells {
+                Some(cell)
+            } else {
+                None
+            }
+        }
+    }
+}
+
 // Adds the cells of a pack, and answers whether they rise up to the number of cells.
 fn push_cells(cells: u32, numbers: &[i128], pack: &mut Vec<u32>) -> Result<bool, AllocError>
     ensures { IfOk result (λ whole. cells_among cells 0 numbers.now ▷ (λ cs. Some (pack.old.items ++ cs)) ≡ (if whole then Some pack.new.items else None)) }
 {
     let mut last = 0;
     for number in numbers {
-        match small_natural(*number) {
-            Some(cell) if last < cell && cell <= cells => {
+        match next_cell(cells, last, number) {
+            None => return Ok(false),
+            Some(cell) => {
                 pack.push(cell)?;
                 last = cell;
             }
-            _ => return Ok(false),
         }
     }
     Ok(true)
