@@ -4,13 +4,13 @@ use Rattle.std.specs.Prelude.{unsigned_abs}
 use Rattle.std.specs.List.{AllByRecursion, range_with_len}
 use Rattle.std.proofs.lemmas.Bool.Decides.{nat_tests}
 use Rattle.std.proofs.lemmas.Int.{ints}
-use Rattle.decimal_interval.specs.declared.bounds.Interval.{Interval}
-use Rattle.cell_rows.specs.Known.{Known}
-use Rattle.cell_rows.specs.Elements.{Element, CellsFit, ElementFits}
-use Rattle.cell_rows.proofs.AllCells.{fits_length}
+use Rattle.interval_domain.specs.declared.bounds.Interval.{Interval}
+use Rattle.interval_domain.specs.Known.{Known}
+use Rattle.interval_domain.specs.Elements.{Element, CellsFit, ElementFits}
+use Rattle.interval_domain.proofs.AllCells.{fits_length}
 use Rattle.cert_text.specs.Allowed.{bounds_fit, claim_fits, claims_fit, no_key, place_fits, places_all_fit}
-use Rattle.claimed_rows.specs.Gaps.{IsSmall}
-use Rattle.claimed_rows.specs.Bounds.{row_bounds}
+use Rattle.cert_text.specs.Gaps.{IsSmall}
+use Rattle.cert_text.specs.Bounds.{row_bounds}
 use Rattle.analyse_core.specs.Certificates.{claim, claims_from, place_for}
 
 module _ (cells : ℕ) where

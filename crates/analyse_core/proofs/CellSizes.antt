@@ -14,7 +14,7 @@ use Rattle.cob_program.specs.Statements.{program_statements}
 use Rattle.cob_runs.specs.declared.action.Cell.{Cell}
 use Rattle.cob_graph.specs.declared.graph.Graph.{Graph}
 use Rattle.cob_graph.specs.Graphs.{cell, cell_of, if_named, item_cells, counters_of, act_counters, counters, cells_of}
-use Rattle.cob_items.specs.WellFormed.{IsWellFormedForm, IsWellFormedItem}
+use Rattle.cob_store.specs.WellFormed.{IsWellFormedForm, IsWellFormedItem}
 use Rattle.graph_runs.specs.Sources.{IsSourceGraph}
 use Rattle.analyse_core.specs.Thresholds.{IsSmallCell}
 

@@ -5,15 +5,15 @@ use Rattle.std.proofs.lemmas.List.{append-nil, map-append, drop_all}
 use Rattle.std.proofs.lemmas.List.FromFn.{get_or-map-range_with_len, map-range_with_len_more}
 use Rattle.std.proofs.lemmas.Bool.Decides.{nat_tests}
 use Rattle.std.proofs.lemmas.Int.{ints, clamps}
-use Rattle.decimal_interval.specs.declared.bounds.Interval.{Interval}
-use Rattle.decimal_interval.specs.Corners.{interval}
-use Rattle.cell_rows.specs.Known.{Known, KnownFits}
-use Rattle.cell_rows.specs.Elements.{Element, CellsFit, ElementFits}
-use Rattle.cell_rows.specs.Rows.{IsRow, known_at, element_of, row_from, width_of}
-use Rattle.cell_rows.proofs.AllCells.{fits_length}
+use Rattle.interval_domain.specs.declared.bounds.Interval.{Interval}
+use Rattle.interval_domain.specs.Corners.{interval}
+use Rattle.interval_domain.specs.Known.{Known, KnownFits}
+use Rattle.interval_domain.specs.Elements.{Element, CellsFit, ElementFits}
+use Rattle.interval_domain.specs.Rows.{IsRow, known_at, element_of, row_from, width_of}
+use Rattle.interval_domain.proofs.AllCells.{fits_length}
 use Rattle.cert_text.specs.declared.cert.Claim.{Claim}
 use Rattle.cert_text.specs.View.{Place, NotReached}
-use Rattle.claimed_rows.specs.Claims.{claim_at, claims_behind, written_from, written_element, met, met_known, if_ordered, with_cell, met_cells, met_element, claimed_element, claimed_row}
+use Rattle.cert_text.specs.Claims.{claim_at, claims_behind, written_from, written_element, met, met_known, if_ordered, with_cell, met_cells, met_element, claimed_element, claimed_row}
 use Rattle.analyse_core.specs.Certificates.{claim, known_claims, claims_from, place_for, places_for}
 
 -- ---- claims as they are made

@@ -7,13 +7,13 @@ use Rattle.cob_program.specs.Act.{Program}
 use Rattle.cob_graph.specs.declared.graph.Graph.{Graph}
 use Rattle.cob_graph.specs.Graphs.{cells_of}
 use Rattle.graph_runs.specs.Places.{edge_at}
-use Rattle.decimal_interval.specs.declared.bounds.Interval.{Interval}
+use Rattle.interval_domain.specs.declared.bounds.Interval.{Interval}
 use Rattle.dom_laws.specs.Lattice.{Lattice, IsElement}
 use Rattle.dom_laws.specs.Flow.{IsEdge, IsHead, IsInductive}
-use Rattle.cell_rows.specs.Elements.{Element, ElementFits, ElementBelow, joined_element}
-use Rattle.cell_rows.specs.Rows.{cells_lattice, element_of, row_from, width_of}
-use Rattle.cell_rows.proofs.AllCells.{element_reflexive, element_transitive, element_join_fits, element_join_left, element_join_right}
-use Rattle.cell_rows.proofs.Rows.{element_back}
+use Rattle.interval_domain.specs.Elements.{Element, ElementFits, ElementBelow, joined_element}
+use Rattle.interval_domain.specs.Rows.{cells_lattice, element_of, row_from, width_of}
+use Rattle.interval_domain.proofs.AllCells.{element_reflexive, element_transitive, element_join_fits, element_join_left, element_join_right}
+use Rattle.interval_domain.proofs.Rows.{element_back}
 use Rattle.cell_steps.specs.Homes.{owns}
 use Rattle.cell_laws.specs.Entry.{entry_cells}
 use Rattle.cell_laws.specs.Layer.{cell_flow, post_at, row_for}

@@ -13,20 +13,20 @@ use Rattle.cob_graph.specs.Graphs.{cells_of}
 use Rattle.graph_runs.specs.Sources.{IsSourceGraph}
 use Rattle.dom_laws.specs.Lattice.{Lattice, IsElement}
 use Rattle.dom_laws.specs.Flow.{Flow, IsNode, IsHead, IsInductive}
-use Rattle.cell_rows.specs.Elements.{Element}
-use Rattle.cell_rows.specs.Rows.{cells_lattice, element_of}
+use Rattle.interval_domain.specs.Elements.{Element}
+use Rattle.interval_domain.specs.Rows.{cells_lattice, element_of}
 use Rattle.cell_steps.specs.Homes.{owns}
 use Rattle.cell_laws.specs.Layer.{cell_flow, clears_at, statement_at}
 use Rattle.cert_text.specs.View.{Certificate}
 use Rattle.cert_text.specs.Allowed.{IsAllowed}
-use Rattle.claimed_rows.specs.MatrixClaims as matrices
+use Rattle.cert_text.specs.MatrixClaims as matrices
 use Rattle.diff_bounds.specs.PackRows.{matrices_in, packs_lattice}
 use Rattle.pack_laws.specs.Layer.{clears_at2, sizes_of}
 use Rattle.pack_laws.specs.Laws.{AreBelow}
 use Rattle.pack_laws.proofs.Clears.{cleared_stays}
 use Rattle.pack_laws.proofs.Flow.{posts_fall}
-use Rattle.pack_choice.specs.Choice.{packs_of}
-use Rattle.claimed_rows.proofs.Fitting.{bounds_are_fit}
+use Rattle.analyse_core.specs.Choice.{packs_of}
+use Rattle.cert_text.proofs.Fitting.{bounds_are_fit}
 use Rattle.cert_check.specs.OpenPairs.{all_kinds, if_open, is_cleared_by, node_clears_by, open_at}
 use Rattle.cert_check.specs.Claims.{bounds_at, cells_clear, claims_at, claims_clear, clears_with, is_cleared, open_of, open_pairs, opens_of, pack_leaks, row_at}
 use Rattle.cert_check.specs.Checking.{Accepts}

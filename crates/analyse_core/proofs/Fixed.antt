@@ -2,18 +2,18 @@
 use Rattle.std.proofs.Common.{◌≡◌, ℕ, ◌<◌, List, [], ◌∷◌, length, Option, Some, None, ℤ, ◌≤ℤ◌, ◌<ℤ◌, int_lt, int_le, if◌then◌else◌, Bool, true, false, refl, sym, ap, ◌∙◌, subst, arith}
 use Rattle.std.specs.List.{AllByRecursion}
 use Rattle.std.proofs.lemmas.Int.{ints, by_lt_z}
-use Rattle.decimal_interval.specs.declared.bounds.Interval.{Interval}
-use Rattle.decimal_interval.specs.Thresholds.{IsListed}
+use Rattle.interval_domain.specs.declared.bounds.Interval.{Interval}
+use Rattle.interval_domain.specs.Thresholds.{IsListed}
 use Rattle.dom_laws.specs.Lattice.{IsElement}
 use Rattle.dom_laws.specs.Flow.{Flow, IsHead, HeadsAreFixed}
-use Rattle.cell_rows.specs.Known.{Known, KnownFits, KnownBelow, first_of, last_of, nearest_below, nearest_above, widened_low, widened_high, widened_known, HasEnds}
-use Rattle.cell_rows.specs.Elements.{Element, CellsFit, ElementFits, CellsBelow, ElementBelow, widened, widened_element, AreThresholds}
-use Rattle.cell_rows.specs.Rows.{row_from, element_of, widened_row, cells_lattice}
-use Rattle.cell_rows.proofs.Ends.{nearest_below_is_nearest, nearest_above_is_nearest}
-use Rattle.cell_rows.proofs.OneKnown.{below_anything}
-use Rattle.cell_rows.proofs.AllCells.{element_widen_fits}
-use Rattle.cell_rows.proofs.Rows.{element_back}
-use Rattle.claimed_rows.specs.Claims.{if_ordered, met_known, with_cell, met_cells, met_element}
+use Rattle.interval_domain.specs.Known.{Known, KnownFits, KnownBelow, first_of, last_of, nearest_below, nearest_above, widened_low, widened_high, widened_known, HasEnds}
+use Rattle.interval_domain.specs.Elements.{Element, CellsFit, ElementFits, CellsBelow, ElementBelow, widened, widened_element, AreThresholds}
+use Rattle.interval_domain.specs.Rows.{row_from, element_of, widened_row, cells_lattice}
+use Rattle.interval_domain.proofs.Ends.{nearest_below_is_nearest, nearest_above_is_nearest}
+use Rattle.interval_domain.proofs.OneKnown.{below_anything}
+use Rattle.interval_domain.proofs.AllCells.{element_widen_fits}
+use Rattle.interval_domain.proofs.Rows.{element_back}
+use Rattle.cert_text.specs.Claims.{if_ordered, met_known, with_cell, met_cells, met_element}
 use Rattle.analyse_core.specs.Assignments.{HasListedEnds, AreListed, IsListedElement}
 use Rattle.analyse_core.proofs.Claiming.{met_whole}
 use Rattle.analyse_core.proofs.Rising.{LiesIn, listed_lies}

@@ -1,3 +1,14 @@
+pub mod OwnFirst
+pub mod Marks
+pub mod Reached
+pub mod MentionNoting
+pub mod Chosen
+pub mod Fitting
+pub mod PackRising
+pub mod PackUnits
+pub mod Examples
+pub mod Pushing
+pub mod MentionCuts
 pub mod Claiming
 pub mod Rising
 pub mod CellLists

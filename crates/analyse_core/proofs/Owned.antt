@@ -12,14 +12,14 @@ use Rattle.cob_runs.specs.declared.action.Cell.{Cell}
 use Rattle.cob_graph.specs.declared.graph.Graph.{Graph}
 use Rattle.cob_graph.specs.Graphs.{cells_of}
 use Rattle.graph_runs.specs.Sources.{IsSourceGraph}
-use Rattle.decimal_interval.specs.declared.bounds.Interval.{Interval}
+use Rattle.interval_domain.specs.declared.bounds.Interval.{Interval}
 use Rattle.dom_laws.specs.Flow.{IsInductive}
-use Rattle.cell_rows.specs.Elements.{AreThresholds}
-use Rattle.cell_rows.specs.Rows.{cells_lattice}
+use Rattle.interval_domain.specs.Elements.{AreThresholds}
+use Rattle.interval_domain.specs.Rows.{cells_lattice}
 use Rattle.cell_steps.specs.Homes.{own_range, picture_range, owns}
 use Rattle.cell_laws.proofs.Homes.{homes_have_own_ranges}
 use Rattle.cell_laws.specs.Layer.{cell_flow}
-use Rattle.claimed_rows.specs.Gaps.{IsSmall}
+use Rattle.cert_text.specs.Gaps.{IsSmall}
 use Rattle.cert_check.proofs.Asking.{is_said, is_small}
 use Rattle.analyse_core.specs.Literals.{program_literals}
 use Rattle.analyse_core.specs.Thresholds.{IsSmallCell, thresholds_of}

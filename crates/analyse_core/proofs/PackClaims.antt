@@ -13,17 +13,17 @@ use Rattle.graph_runs.specs.Places.{edge_at}
 use Rattle.graph_runs.specs.Sources.{IsSourceGraph}
 use Rattle.dom_laws.specs.Lattice.{Lattice, IsElement, IsLattice}
 use Rattle.dom_laws.specs.Flow.{Flow, IsNode, IsEdge, IsFlow, IsInductive}
-use Rattle.cell_rows.specs.Elements.{Element, ElementBelow, ElementFits}
-use Rattle.cell_rows.specs.Rows.{element_of}
-use Rattle.cell_rows.proofs.Rows.{element_back}
+use Rattle.interval_domain.specs.Elements.{Element, ElementBelow, ElementFits}
+use Rattle.interval_domain.specs.Rows.{element_of}
+use Rattle.interval_domain.proofs.Rows.{element_back}
 use Rattle.cell_steps.specs.Homes.{homes_of, owns}
-use Rattle.cell_walk.proofs.FirstCells.{homes_many}
+use Rattle.cell_layer.proofs.FirstCells.{homes_many}
 use Rattle.cell_laws.specs.Entry.{entry_cells}
 use Rattle.cell_laws.specs.Layer.{cell_flow, post_at}
 use Rattle.cert_text.specs.View.{Certificate, Place}
-use Rattle.claimed_rows.specs.Claims.{place_at}
-use Rattle.claimed_rows.specs.MatrixClaims as matrices
-use Rattle.claimed_rows.proofs.Standing.{rows_are_least}
+use Rattle.cert_text.specs.Claims.{place_at}
+use Rattle.cert_text.specs.MatrixClaims as matrices
+use Rattle.cert_text.proofs.Standing.{rows_are_least}
 use Rattle.diff_steps.specs.Packs.{Pack}
 use Rattle.diff_steps.specs.Edges.{bottoms}
 use Rattle.diff_bounds.specs.PackRows.{matrices_in, row_of, packs_lattice}
@@ -34,9 +34,9 @@ use Rattle.pack_laws.specs.Packs.{pack_in}
 use Rattle.pack_laws.proofs.Distinct.{homes_of_sources_are_distinct}
 use Rattle.pack_laws.proofs.Flow.{packs_flow}
 use Rattle.pack_laws.proofs.Packed.{HasDistinctHomes}
-use Rattle.pack_choice.specs.Choice.{packs_of}
-use Rattle.pack_choice.specs.PackThresholds.{thresholds_of_pack}
-use Rattle.claimed_rows.proofs.Meaning.{bounds_mean}
+use Rattle.analyse_core.specs.Choice.{packs_of}
+use Rattle.analyse_core.specs.PackThresholds.{thresholds_of_pack}
+use Rattle.cert_text.proofs.Meaning.{bounds_mean}
 use Rattle.cert_check.specs.Claims.{bounds_row, row_at}
 use Rattle.cert_check.proofs.BoundsKept.{sizes_are}
 use Rattle.cert_check.proofs.LayerLaws.{LayerLaws, layer_laws}

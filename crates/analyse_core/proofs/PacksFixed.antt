@@ -15,7 +15,7 @@ use Rattle.diff_bounds.specs.Lattice.{next_threshold, widened_word, widened}
 use Rattle.diff_bounds.proofs.WordByWord.{next_of_all}
 use Rattle.diff_bounds.specs.PackRows.{words_of, matrices_in, matrices_beside, is_least, packs_lattice}
 use Rattle.diff_bounds.proofs.PackRows.{packs_are_a_lattice}
-use Rattle.claimed_rows.proofs.MatrixFilling.{matrix_word, matrix_width}
+use Rattle.cert_text.proofs.MatrixFilling.{matrix_word, matrix_width}
 use Rattle.analyse_core.specs.Assignments.{IsListedWord, HasListedWords, HaveListedWords, IsListedRow}
 
 -- ---- one word

@@ -12,18 +12,18 @@ use Rattle.cob_runs.specs.declared.action.Cell.{Cell}
 use Rattle.cob_graph.specs.declared.graph.Graph.{Graph}
 use Rattle.cob_graph.specs.Graphs.{cells_of}
 use Rattle.graph_runs.specs.Sources.{IsSourceGraph}
-use Rattle.decimal_interval.specs.declared.bounds.Interval.{Interval}
+use Rattle.interval_domain.specs.declared.bounds.Interval.{Interval}
 use Rattle.cell_steps.specs.Homes.{owns}
 use Rattle.cert_text.specs.Allowed.{packs_fit}
-use Rattle.claimed_rows.specs.Gaps.{IsSmall}
-use Rattle.claimed_rows.specs.MatrixClaims.{cells_in, sizes_of}
-use Rattle.claimed_rows.proofs.Allowing.{claims_fit_there}
+use Rattle.cert_text.specs.Gaps.{IsSmall}
+use Rattle.cert_text.specs.MatrixClaims.{cells_in, sizes_of}
+use Rattle.cert_text.proofs.Allowing.{claims_fit_there}
 use Rattle.diff_bounds.specs.declared.Pack as declared
 use Rattle.diff_bounds.specs.Widening.{AreThresholds}
 use Rattle.pack_laws.specs.Packs.{ArePacksOfCells}
 use Rattle.diff_bounds.specs.PackRows.{lists_of}
-use Rattle.pack_choice.specs.Choice.{packs_of}
-use Rattle.pack_choice.specs.PackThresholds.{HasFewCells, HasFewDecimals, IsCellList, thresholds_of_pack}
+use Rattle.analyse_core.specs.Choice.{packs_of}
+use Rattle.analyse_core.specs.PackThresholds.{HasFewCells, HasFewDecimals, IsCellList, thresholds_of_pack}
 use Rattle.cert_check.proofs.PackNumbers.{packs_rise}
 use Rattle.analyse_core.specs.Thresholds.{IsSmallCell, thresholds_of}
 use Rattle.analyse_core.specs.Literals.{program_literals}

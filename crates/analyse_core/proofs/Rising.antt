@@ -2,9 +2,9 @@
 use Rattle.std.proofs.Common.{◌≡◌, ℕ, zero, suc, ◌-◌, ◌<◌, ◌≤◌, List, [], ◌∷◌, length, get_or, Bool, true, false, ℤ, pos, ◌≤ℤ◌, ◌<ℤ◌, ◌⊎◌, inl, inr, int_lt, int_le, if◌then◌else◌, refl, sym, ap, ◌∙◌, subst, arith}
 use Rattle.std.specs.List.{insert, AllByRecursion}
 use Rattle.std.proofs.lemmas.Int.{ints, by_lt_z}
-use Rattle.decimal_interval.specs.declared.bounds.Interval.{Interval}
-use Rattle.decimal_interval.specs.Thresholds.{IsListed}
-use Rattle.cell_rows.specs.Known.{HasEnds}
+use Rattle.interval_domain.specs.declared.bounds.Interval.{Interval}
+use Rattle.interval_domain.specs.Thresholds.{IsListed}
+use Rattle.interval_domain.specs.Known.{HasEnds}
 use Rattle.analyse_core.specs.Thresholds.{inserted, rank_in, holds_at, RisesFrom, Rises}
 
 below_is : (t z : ℤ) → t <ℤ z → int_lt t z ≡ true

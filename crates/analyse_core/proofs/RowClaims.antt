@@ -9,12 +9,12 @@ use Rattle.cob_graph.specs.Graphs.{cells_of}
 use Rattle.graph_runs.specs.Sources.{IsSourceGraph}
 use Rattle.dom_laws.specs.Lattice.{Lattice}
 use Rattle.dom_laws.specs.Flow.{Flow, IsNode, IsInductive}
-use Rattle.cell_rows.specs.Rows.{cells_lattice, element_of}
+use Rattle.interval_domain.specs.Rows.{cells_lattice, element_of}
 use Rattle.cell_steps.specs.Homes.{owns}
 use Rattle.cell_laws.specs.Layer.{cell_flow}
 use Rattle.cert_text.specs.View.{Certificate}
-use Rattle.claimed_rows.specs.Claims.{claimed_row, place_at}
-use Rattle.claimed_rows.specs.MatrixClaims.{sizes_of}
+use Rattle.cert_text.specs.Claims.{claimed_row, place_at}
+use Rattle.cert_text.specs.MatrixClaims.{sizes_of}
 use Rattle.cert_check.specs.Claims.{cell_leaks, claims_at, row_at}
 use Rattle.cert_check.specs.Checking.{HasShape}
 use Rattle.cert_check.proofs.Accepting.{claimed, claimed_back}

@@ -1,6 +1,6 @@
 -- Certificates of equal sizes, packs and rows are one.
 use Rattle.std.specs.Prelude.{◌≡◌, ℕ, List, ℤ}
-use Rattle.cell_rows.specs.Elements.{Element}
+use Rattle.interval_domain.specs.Elements.{Element}
 use Rattle.analyse_core.specs.Certificates.{certificate_for}
 
 pub same_certificate : (x : ℕ → Element) (bounds : ℕ → List ℤ) (a b : ℕ) (ps qs : List (List ℕ)) (m n : ℕ) →

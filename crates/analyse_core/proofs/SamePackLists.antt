@@ -2,8 +2,8 @@
 use Rattle.std.specs.Prelude.{◌≡◌, List, ℤ, map}
 use Rattle.cob_runs.specs.declared.action.Cell.{Cell}
 use Rattle.diff_bounds.specs.declared.Pack as declared
-use Rattle.pack_choice.specs.Choice.{numbers_of}
-use Rattle.pack_choice.specs.PackThresholds.{thresholds_of_pack}
+use Rattle.analyse_core.specs.Choice.{numbers_of}
+use Rattle.analyse_core.specs.PackThresholds.{thresholds_of_pack}
 
 pub same_pack_lists : (lists : List (List ℤ)) (cs ds : List Cell) (ps qs : List declared.Pack) → cs ≡ ds → ps ≡ qs →
     map (thresholds_of_pack cs lists) (numbers_of ps) ≡ map (thresholds_of_pack ds lists) (numbers_of qs)

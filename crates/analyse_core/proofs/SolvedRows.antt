@@ -15,19 +15,19 @@ use Rattle.cell_laws.specs.Layer.{cell_flow}
 use Rattle.diff_bounds.specs.declared.Pack as declared
 use Rattle.diff_steps.specs.Packs.{Pack}
 use Rattle.diff_bounds.specs.PackRows.{lists_of, width_of}
-use Rattle.claimed_rows.specs.MatrixClaims.{cells_in, sizes_of}
+use Rattle.cert_text.specs.MatrixClaims.{cells_in, sizes_of}
 use Rattle.pack_laws.specs.Layer as layer
 use Rattle.pack_laws.specs.Layer.{diff_flow, diff_lattice}
 use Rattle.pack_laws.specs.Packs as of_code
 use Rattle.pack_laws.specs.Packs.{pack_in}
-use Rattle.pack_choice.specs.Choice.{packs_of}
-use Rattle.pack_choice.specs.PackThresholds.{thresholds_of_pack}
+use Rattle.analyse_core.specs.Choice.{packs_of}
+use Rattle.analyse_core.specs.PackThresholds.{thresholds_of_pack}
 use Rattle.cert_check.proofs.BoundsKept.{sizes_are}
 use Rattle.cert_check.proofs.PackNumbers.{packs_in_are}
 use Rattle.diff_layer.proofs.Rows.{few_words, width_is}
 use Rattle.widen_solver.specs.Solving.{step_bound}
-use Rattle.cell_rows.specs.Elements.{height_of}
-use Rattle.cell_rows.specs.Rows.{cells_lattice}
+use Rattle.interval_domain.specs.Elements.{height_of}
+use Rattle.interval_domain.specs.Rows.{cells_lattice}
 use Rattle.analyse_core.specs.Thresholds.{thresholds_of}
 use Rattle.analyse_core.specs.Packs.{ArePacksGiven, packs_for, pack_lattice, pack_lists}
 use Rattle.analyse_core.specs.Assignments.{layer_steps, pack_steps}

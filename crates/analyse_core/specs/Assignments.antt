@@ -5,19 +5,19 @@ use Rattle.std.specs.List.{Contains}
 use Rattle.cob_tree.specs.declared.fault.Kind.{Kind}
 use Rattle.cob_program.specs.Act.{Program}
 use Rattle.cob_graph.specs.declared.graph.Graph.{Graph}
-use Rattle.decimal_interval.specs.Thresholds.{IsListed}
+use Rattle.interval_domain.specs.Thresholds.{IsListed}
 use Rattle.dom_laws.specs.Flow.{IsHead, IsInductive, head_count}
-use Rattle.cell_rows.specs.Known.{Known}
-use Rattle.cell_rows.specs.Elements.{Element, height_of}
+use Rattle.interval_domain.specs.Known.{Known}
+use Rattle.interval_domain.specs.Elements.{Element, height_of}
 use Rattle.cert_text.specs.View.{Certificate}
-use Rattle.claimed_rows.specs.Claims.{place_at, written_element}
+use Rattle.cert_text.specs.Claims.{place_at, written_element}
 use Rattle.cell_steps.specs.Homes.{owns}
 use Rattle.cell_laws.specs.Layer.{cell_flow}
 use Rattle.diff_bounds.specs.Matrix.{none}
 use Rattle.diff_bounds.specs.Widening as words
 use Rattle.diff_bounds.specs.PackRows.{matrices_in, packs_lattice}
 use Rattle.pack_laws.specs.Layer.{sizes_of, clears_at2}
-use Rattle.pack_choice.specs.Choice.{packs_of}
+use Rattle.analyse_core.specs.Choice.{packs_of}
 use Rattle.cert_check.specs.OpenPairs.{open_at, is_cleared_by}
 use Rattle.cert_check.specs.Claims.{cell_leaks, cells_clear, claims_at, open_pairs, row_at}
 use Rattle.cert_check.specs.Checking.{HasShape}

@@ -2,15 +2,15 @@
 -- each word of a matrix that is a number.
 use Rattle.std.specs.Prelude.{◌≡◌, ◌+◌, ◌*◌, ℕ, suc, List, [], ◌∷◌, ◌++◌, map, length, Some, None, IfSome, ℤ}
 use Rattle.std.specs.List.{range_with_len}
-use Rattle.decimal_interval.specs.declared.bounds.Interval.{Interval}
-use Rattle.cell_rows.specs.Known.{Known}
-use Rattle.cell_rows.specs.Elements.{Element}
-use Rattle.cell_rows.specs.Rows.{IsSaid, element_of}
+use Rattle.interval_domain.specs.declared.bounds.Interval.{Interval}
+use Rattle.interval_domain.specs.Known.{Known}
+use Rattle.interval_domain.specs.Elements.{Element}
+use Rattle.interval_domain.specs.Rows.{IsSaid, element_of}
 use Rattle.cert_text.specs.declared.cert.Claim.{Claim}
 use Rattle.cert_text.specs.View.{Place, NotReached, Holds, Certificate}
-use Rattle.claimed_rows.specs.Gaps.{AreSmall}
-use Rattle.claimed_rows.specs.MatrixClaims.{sizes_of}
-use Rattle.claimed_rows.specs.Bounds.{row_bounds}
+use Rattle.cert_text.specs.Gaps.{AreSmall}
+use Rattle.cert_text.specs.MatrixClaims.{sizes_of}
+use Rattle.cert_text.specs.Bounds.{row_bounds}
 
 abbrev pub claim : ℕ → Interval → Claim
 claim cell i = record { cell = cell; low = i.low; high = i.high }

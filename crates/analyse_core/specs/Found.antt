@@ -4,11 +4,11 @@ use Rattle.cob_program.specs.Act.{Program}
 use Rattle.cob_graph.specs.declared.graph.Graph.{Graph}
 use Rattle.cob_graph.specs.Graphs.{cells_of}
 use Rattle.dom_laws.specs.Flow.{IsInductive, IsDominated}
-use Rattle.cell_rows.specs.Rows.{cells_lattice, element_of}
+use Rattle.interval_domain.specs.Rows.{cells_lattice, element_of}
 use Rattle.cell_steps.specs.Homes.{owns}
 use Rattle.cell_laws.specs.Layer.{cell_flow}
 use Rattle.cert_text.specs.View.{Certificate}
-use Rattle.pack_choice.specs.Choice.{packs_of}
+use Rattle.analyse_core.specs.Choice.{packs_of}
 use Rattle.analyse_core.specs.Thresholds.{thresholds_of}
 use Rattle.analyse_core.specs.Packs.{ArePacksReady, pack_lattice, pack_flow}
 use Rattle.analyse_core.specs.Certificates.{certificate_for}

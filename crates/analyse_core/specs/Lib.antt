@@ -1,3 +1,9 @@
+pub mod Mentions
+pub mod Reaching
+pub mod Firsts
+pub mod Choice
+pub mod Rising
+pub mod PackThresholds
 pub mod Literals
 pub mod Thresholds
 pub mod Certificates
@@ -5,4 +11,4 @@ pub mod Packs
 pub mod Assignments
 pub mod Found
 pub mod Plain
-pub use Rattle.pack_choice.specs.Choice
+pub use Rattle.analyse_core.specs.Choice

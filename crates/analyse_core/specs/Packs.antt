@@ -15,9 +15,9 @@ use Rattle.diff_steps.specs.Packs.{Pack}
 use Rattle.pack_laws.specs.Packs.{pack_in}
 use Rattle.pack_laws.specs.Layer.{Facts, diff_lattice, diff_flow}
 use Rattle.diff_bounds.specs.PackRows.{lists_of}
-use Rattle.claimed_rows.specs.MatrixClaims.{cells_in}
-use Rattle.pack_choice.specs.Choice.{packs_of}
-use Rattle.pack_choice.specs.PackThresholds.{thresholds_of_pack}
+use Rattle.cert_text.specs.MatrixClaims.{cells_in}
+use Rattle.analyse_core.specs.Choice.{packs_of}
+use Rattle.analyse_core.specs.PackThresholds.{thresholds_of_pack}
 use Rattle.analyse_core.specs.Thresholds.{thresholds_of}
 
 -- the packs, by what their cells are of

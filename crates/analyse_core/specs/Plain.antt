@@ -5,7 +5,7 @@ use Rattle.cob_program.specs.Act.{Program}
 use Rattle.cob_graph.specs.declared.graph.Graph.{Graph}
 use Rattle.cob_graph.specs.Graphs.{cells_of}
 use Rattle.graph_runs.specs.Places.{edge_at}
-use Rattle.cell_rows.specs.Elements.{Element, joined_element}
+use Rattle.interval_domain.specs.Elements.{Element, joined_element}
 use Rattle.cell_laws.specs.Entry.{entry_cells}
 use Rattle.cell_laws.specs.Layer.{post_at}
 use Rattle.cert_text.specs.View.{Certificate}

@@ -3,27 +3,28 @@ ghost use Rattle.std.specs.Prelude.{◌≡◌, ◌+◌, ◌≤◌, [], length, I
 ghost use Rattle.cob_program.specs.ActView.{plain_program};
 ghost use Rattle.cob_graph_build.specs.Limits.{IsWithinLimits};
 ghost use Rattle.graph_runs.specs.Sources.{IsSourceGraph};
-ghost use Rattle.cell_rows.specs.Rows.{lists_of};
+ghost use Rattle.interval_domain.specs.Rows.{lists_of};
 ghost use Rattle.cert_text.specs.View.{view};
 ghost use Rattle.cert_text.specs.Allowed.{IsAllowed};
 ghost use Rattle.cert_check.specs.Claims.{open_pairs};
 ghost use Rattle.cert_check.specs.Checking.{Accepts};
-ghost use Rattle.pack_choice.specs.Choice.{packs_of};
+ghost use Rattle.analyse_core.specs.Choice.{packs_of};
 ghost use Rattle.analyse_core.specs.Thresholds.{thresholds_of};
 ghost use Rattle.analyse_core.specs.Packs.{ArePacksGiven, ArePacksReady};
 ghost use Rattle.analyse_core.specs.Assignments.{MissesNothing, MissesNothingTogether, most_steps};
 ghost use Rattle.analyse_core.specs.Found.{IsFound};
 
 use crate::certificate::certificate_of;
+use crate::choice::packs;
 use crate::listing::thresholds;
 use crate::solving::{NoBounds, solve_cells, solve_packs};
+use crate::thresholds::pack_thresholds;
 use cell_layer::CellLayer;
 use cert_text::Cert;
 use cob_graph::Graph;
 use cob_program::Program;
 use diff_bounds::Pack;
 use dom_laws::{Steps, System};
-use pack_choice::{pack_thresholds, packs};
 use std::alloc::{AllocError, Global};
 use std::sync::ledger::Ledger;
 

@@ -1,10 +1,10 @@
 //! The certificate of solved rows.
 ghost use Rattle.std.specs.Prelude.{◌≡◌, ◌≤◌, ◌<◌, ◌-◌, ◌^◌, ◌++◌, ℕ, map, length, IfOk, OnOk, IfSome, unsigned_abs};
 ghost use Rattle.std.specs.List.{AllByRecursion};
-ghost use Rattle.cell_rows.specs.Rows.{IsReached, cells_of, element_of};
+ghost use Rattle.interval_domain.specs.Rows.{IsReached, cells_of, element_of};
 ghost use Rattle.cert_text.specs.View.{place_of, view};
-ghost use Rattle.claimed_rows.specs.Gaps.{AreSmall, IsSmall};
-ghost use Rattle.claimed_rows.specs.MatrixClaims.{cells_in, sizes_of};
+ghost use Rattle.cert_text.specs.Gaps.{AreSmall, IsSmall};
+ghost use Rattle.cert_text.specs.MatrixClaims.{cells_in, sizes_of};
 ghost use Rattle.diff_bounds.specs.PackRows.{width_of};
 ghost use Rattle.analyse_core.specs.Certificates.{
   CanBeClaimed,
@@ -15,12 +15,10 @@ ghost use Rattle.analyse_core.specs.Certificates.{
   places_for,
 };
 
-use cell_rows::{is_reached, known_at};
-use cert_text::{Cert, Claim, Element};
-use claimed_rows::bounds_of;
-use decimal_interval::Interval;
+use cert_text::{Cert, Claim, Element, bounds_of};
 use diff_bounds::Pack;
 use dom_laws::Rows;
+use interval_domain::{Interval, is_reached, known_at};
 use std::alloc::{AllocError, Global};
 
 // An end has at most 18 digits.

@@ -4,15 +4,28 @@
 
 mod analysis;
 mod certificate;
+mod choice;
+mod choice_laws;
 mod conditions;
+mod firsts;
 mod laws;
 mod listing;
 mod literals;
+mod mention;
+mod mentioned_conditions;
+mod mentioned_statements;
+mod mentioned_sums;
 mod program;
+mod reaching;
 mod solving;
 mod statements;
 mod sums;
+mod thresholds;
 
 pub use analysis::analyse;
+pub use choice::packs;
+pub use choice_laws::reached_paragraphs_are_marked;
 pub use laws::plain_evaluation_assigns;
 pub use listing::thresholds;
+pub use mention::Mention;
+pub use thresholds::pack_thresholds;

@@ -3,8 +3,8 @@ ghost use Rattle.std.specs.Prelude.{◌≡◌, ◌≤◌, ◌≤ℤ◌, ◌*ℤ�
 ghost use Rattle.std.specs.List.{All, AllByRecursion, fold};
 ghost use Rattle.cob_program.specs.ActView.{plain_program};
 ghost use Rattle.cob_program.specs.Values.{literal};
-ghost use Rattle.claimed_rows.specs.Gaps.{IsSmall};
-ghost use Rattle.cell_rows.specs.Rows.{lists_of};
+ghost use Rattle.cert_text.specs.Gaps.{IsSmall};
+ghost use Rattle.interval_domain.specs.Rows.{lists_of};
 ghost use Rattle.cell_steps.specs.Homes.{own_range};
 ghost use Rattle.graph_runs.specs.Sources.{IsSourceGraph};
 ghost use Rattle.analyse_core.specs.Literals.{numbers_of};
@@ -36,18 +36,18 @@ ghost use Rattle.analyse_core.specs.Thresholds.{
 use crate::program::program_literals;
 use cert_check::own_ranges;
 use cob_graph::Graph;
-use cob_items::literal;
 use cob_program::Program;
 use cob_runs::Cell;
+use cob_store::literal;
 use cob_tree::Num;
 use dec_num::{Scaled, pow10};
-use decimal_interval::Interval;
+use interval_domain::Interval;
 use std::alloc::{AllocError, Global};
 
 // ---- a literal in a cell's units
 
 // n / d, cut downwards
-#[tactic(auto, using(guard_ranges::proofs::Division::floor_size))]
+#[tactic(auto, using(transfer_ranges::proofs::Division::floor_size))]
 fn floor(n: i128, d: i128) -> i128
     requires n { unsigned_abs n ≤ 10 ^ 36 }
     requires d { pos 1 ≤ℤ d }

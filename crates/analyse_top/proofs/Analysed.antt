@@ -12,27 +12,27 @@ use Rattle.cob_graph.specs.declared.graph.Graph.{Graph}
 use Rattle.cob_graph.specs.Graphs.{OneGraph, cells_of}
 use Rattle.cert_text.specs.Allowed.{IsAllowed}
 use Rattle.cert_text.specs.Lengths.{most_bounds, most_bytes}
-use Rattle.analyse_command.specs.Choice.{packs_of}
+use Rattle.commands.specs.Choice.{packs_of}
 use Rattle.cert_text.specs.Text.{spelling}
 use Rattle.cert_text.specs.View.{Certificate}
 use Rattle.cob_front.specs.Laws.{OneAnswer}
 use Rattle.cob_interp.proofs.SeenFiles.{insert_agrees, insert_gets}
-use Rattle.command_answers.specs.declared.alarms.Alarm.{Alarm}
-use Rattle.command_answers.specs.Alarms.{alarms_of}
+use Rattle.commands.specs.declared.alarms.Alarm.{Alarm}
+use Rattle.commands.specs.Alarms.{alarms_of}
 use Rattle.command_words.specs.Commands.{Command, IsCommand, OneReading, analyse, trial}
-use Rattle.command_answers.specs.Text.{memory_line, write_fault_line}
-use Rattle.command_answers.specs.Profile.{IsProgramOf}
-use Rattle.command_answers.specs.Answer.{Answer, Report, CertificateLong, answer_text, status_of}
-use Rattle.command_answers.specs.Showing.{Gains, ShowsRefusal}
-use Rattle.command_answers.specs.Call.{Call}
-use Rattle.command_answers.proofs.Statuses.{above_one, low_status, never_low}
-use Rattle.command_answers.proofs.Limits.{within_limits}
-use Rattle.command_answers.proofs.Sources.{Ending, read, one_ending}
-use Rattle.command_answers.specs.CheckAnswers.{certificate_limit, HoldsCertificate}
-use Rattle.analyse_command.specs.Analysis.{Analysis, CanBeClean, IsAnalysisOf, IsFound, pairs_of, report_of, text_of}
-use Rattle.analyse_command.specs.Endings.{EndsByAnalysis, EndsWithAnalysis, IsTooLong, TellsAnalysis, TellsUnwritten}
-use Rattle.analyse_command.specs.Trial.{trial_text}
-use Rattle.analyse_command.specs.TrialEndings.{EndsByTrial, nodes_line, trial_name}
+use Rattle.commands.specs.Text.{memory_line, write_fault_line}
+use Rattle.commands.specs.Profile.{IsProgramOf}
+use Rattle.commands.specs.Answer.{Answer, Report, CertificateLong, answer_text, status_of}
+use Rattle.commands.specs.Showing.{Gains, ShowsRefusal}
+use Rattle.commands.specs.Call.{Call}
+use Rattle.commands.proofs.Statuses.{above_one, low_status, never_low}
+use Rattle.commands.proofs.Limits.{within_limits}
+use Rattle.commands.proofs.Sources.{Ending, read, one_ending}
+use Rattle.commands.specs.CheckAnswers.{certificate_limit, HoldsCertificate}
+use Rattle.commands.specs.Analysis.{Analysis, CanBeClean, IsAnalysisOf, IsFound, pairs_of, report_of, text_of}
+use Rattle.commands.specs.Endings.{EndsByAnalysis, EndsWithAnalysis, IsTooLong, TellsAnalysis, TellsUnwritten}
+use Rattle.commands.specs.Trial.{trial_text}
+use Rattle.commands.specs.TrialEndings.{EndsByTrial, nodes_line, trial_name}
 use Rattle.analyse_top.specs.Answers.{Answers, AnswersCommand}
 use Rattle.analyse_top.specs.Conclusion.{Concludes, AnalysesAreAccepted, EndsBy, EndsByAnswer, FindsClean, IsAccepted, IsAnalysed, IsLarge, IsTried, LongTextsAreOfLargePrograms, TrialsAreAccepted}
 use Rattle.analyse_top.proofs.Clean.{CheckingIsSound, names_all}

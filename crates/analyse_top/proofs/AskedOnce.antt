@@ -9,14 +9,14 @@ use Rattle.cob_graph.specs.Graphs.{OneGraph}
 use Rattle.cob_front.specs.Laws.{OneAnswer}
 use Rattle.command_words.specs.Commands.{Command, Run, IsCommand, OneReading}
 use Rattle.command_words.specs.Commands as command
-use Rattle.command_answers.specs.Profile.{IsProgramOf, IsProfileCause}
-use Rattle.command_answers.specs.Answer.{Answer, Usage, Absent, Refused, CertificateLong, CertificateBad, CertificateMisfit, NotInductive, Report, AnswersSource, HoldsProgram}
-use Rattle.command_answers.proofs.Found.{held_bytes}
-use Rattle.command_answers.proofs.Sources.{no_cause}
-use Rattle.analyse_command.specs.Trial.{trial_text}
-use Rattle.analyse_command.specs.TrialEndings.{AnswersTrial}
-use Rattle.run_command.specs.Runs.{Task, HoldsTask, AsksFor}
-use Rattle.run_command.proofs.Asked.{answer_or_task, one_held_task}
+use Rattle.commands.specs.Profile.{IsProgramOf, IsProfileCause}
+use Rattle.commands.specs.Answer.{Answer, Usage, Absent, Refused, CertificateLong, CertificateBad, CertificateMisfit, NotInductive, Report, AnswersSource, HoldsProgram}
+use Rattle.commands.proofs.Found.{held_bytes}
+use Rattle.commands.proofs.Sources.{no_cause}
+use Rattle.commands.specs.Trial.{trial_text}
+use Rattle.commands.specs.TrialEndings.{AnswersTrial}
+use Rattle.commands.specs.Runs.{Task, HoldsTask, AsksFor}
+use Rattle.commands.proofs.Asked.{answer_or_task, one_held_task}
 use Rattle.analyse_top.specs.Answers.{Answers, AnswersCommand}
 use Rattle.analyse_top.proofs.Words.{one_run}
 

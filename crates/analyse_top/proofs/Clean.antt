@@ -9,20 +9,20 @@ use Rattle.cob_runs.specs.Runs.{IsFaultless}
 use Rattle.cob_graph.specs.declared.graph.Graph.{Graph}
 use Rattle.cert_text.specs.View.{Certificate}
 use Rattle.cert_text.specs.Allowed.{IsAllowed}
-use Rattle.command_answers.specs.Checker.OpenPairs.{open_at}
-use Rattle.command_answers.specs.Checker.Checking.{Accepts, AcceptedClaimsCoverRuns, CoversRuns}
+use Rattle.commands.specs.Checker.OpenPairs.{open_at}
+use Rattle.commands.specs.Checker.Checking.{Accepts, AcceptedClaimsCoverRuns, CoversRuns}
 use Rattle.source_facts.specs.Sources.{SourcesHaveSourceGraphs}
-use Rattle.command_answers.specs.declared.alarms.Alarm.{Alarm}
-use Rattle.command_answers.specs.Alarms.{alarm_in, alarms_of}
-use Rattle.command_answers.specs.ReportText.{report_text}
+use Rattle.commands.specs.declared.alarms.Alarm.{Alarm}
+use Rattle.commands.specs.Alarms.{alarm_in, alarms_of}
+use Rattle.commands.specs.ReportText.{report_text}
 use Rattle.cob_program.specs.Statements.{program_statements}
 use Rattle.command_words.specs.Commands.{Command, IsCommand, OneReading, check}
-use Rattle.command_answers.specs.Profile.{IsProgramOf}
-use Rattle.command_answers.specs.Answer.{Answer, Report, HoldsProgram, answer_text, status_of}
-use Rattle.command_answers.specs.Showing.{Gains}
-use Rattle.command_answers.specs.Call.{Call}
-use Rattle.command_answers.proofs.Statuses.{above_one, low_status, never_low, no_alarm}
-use Rattle.command_answers.specs.CheckAnswers.{AnswersCheck, AnswersProgram}
+use Rattle.commands.specs.Profile.{IsProgramOf}
+use Rattle.commands.specs.Answer.{Answer, Report, HoldsProgram, answer_text, status_of}
+use Rattle.commands.specs.Showing.{Gains}
+use Rattle.commands.specs.Call.{Call}
+use Rattle.commands.proofs.Statuses.{above_one, low_status, never_low, no_alarm}
+use Rattle.commands.specs.CheckAnswers.{AnswersCheck, AnswersProgram}
 use Rattle.analyse_top.specs.Answers.{Answers, AnswersCommand}
 use Rattle.analyse_top.specs.Conclusion.{Concludes, IsExact, CleanIsSafe, EndsBy, EndsByAnswer, NameAllFaults, ReportsAreComplete, IsAccepted, AcceptsExactly, report_on}
 use Rattle.analyse_top.proofs.Words.{analyse_or_check, check_or_run, check_or_trial}

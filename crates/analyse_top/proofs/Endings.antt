@@ -9,16 +9,16 @@ use Rattle.batch_io.specs.FilesState.{Contents, FilesState, known_bytes}
 use Rattle.batch_io.specs.SinkState.{SinkState}
 use Rattle.cob_interp.proofs.Passing.{ids_stay}
 use Rattle.command_words.specs.Commands.{Command, IsCommand}
-use Rattle.command_answers.specs.declared.answer.Stop.{Stop}
-use Rattle.command_answers.specs.declared.answer.Stop.TheVariants as stop
-use Rattle.command_answers.specs.declared.answer.Answer as code
-use Rattle.command_answers.specs.Answer.{Answer, answer_text}
-use Rattle.command_answers.specs.Text.{memory_line, read_fault_line}
-use Rattle.command_answers.specs.Showing.{Gains, GainsFront, ShowsRefusal}
-use Rattle.command_answers.specs.Call.{Call}
-use Rattle.command_answers.specs.Steps.{Reads, stopped_by_fault, ShowsAnswer, ShowsFound}
-use Rattle.command_answers.specs.View.{plain_answer, plain_result}
-use Rattle.analyse_command.specs.TrialEndings.{AnswersTrial}
+use Rattle.commands.specs.declared.answer.Stop.{Stop}
+use Rattle.commands.specs.declared.answer.Stop.TheVariants as stop
+use Rattle.commands.specs.declared.answer.Answer as code
+use Rattle.commands.specs.Answer.{Answer, answer_text}
+use Rattle.commands.specs.Text.{memory_line, read_fault_line}
+use Rattle.commands.specs.Showing.{Gains, GainsFront, ShowsRefusal}
+use Rattle.commands.specs.Call.{Call}
+use Rattle.commands.specs.Steps.{Reads, stopped_by_fault, ShowsAnswer, ShowsFound}
+use Rattle.commands.specs.View.{plain_answer, plain_result}
+use Rattle.commands.specs.TrialEndings.{AnswersTrial}
 use Rattle.analyse_top.specs.Answers.{Answers, AnswersCommand, IfKnown}
 use Rattle.analyse_top.specs.Conclusion.{EndsBy, EndsByAnswer, MayBeShown}
 

@@ -11,14 +11,14 @@ use Rattle.cob_interp.specs.Ends.{told_files, IsEnd}
 use Rattle.cob_interp.specs.OneEnd.{OneEnd}
 use Rattle.cob_interp.specs.Runs.{outside}
 use Rattle.command_words.specs.Commands.{OneReading}
-use Rattle.command_answers.specs.Answer.{Answer, HoldsProgram}
-use Rattle.command_answers.specs.Call.{Call}
-use Rattle.command_answers.proofs.Sources.{one_ending}
-use Rattle.command_answers.proofs.OneCheck.{TextsAreApart}
-use Rattle.analyse_command.specs.Endings.{EndsByAnalysis}
-use Rattle.run_command.specs.Runs.{Task, AsksFor}
-use Rattle.run_command.proofs.Asked.{one_for_run}
-use Rattle.run_command.proofs.RunEnds.{IsRefusal, EndsSomewhere, refused_or_ends}
+use Rattle.commands.specs.Answer.{Answer, HoldsProgram}
+use Rattle.commands.specs.Call.{Call}
+use Rattle.commands.proofs.Sources.{one_ending}
+use Rattle.commands.proofs.OneCheck.{TextsAreApart}
+use Rattle.commands.specs.Endings.{EndsByAnalysis}
+use Rattle.commands.specs.Runs.{Task, AsksFor}
+use Rattle.commands.proofs.Asked.{one_for_run}
+use Rattle.commands.proofs.RunEnds.{IsRefusal, EndsSomewhere, refused_or_ends}
 use Rattle.analyse_top.specs.Answers.{Answers}
 use Rattle.analyse_top.specs.Conclusion.{Concludes, IsExact, AnalysesExactly, AnswersExactly, RunsExactly, TrialsExactly, FailsToRun, EndsBy, EndsByAnswer, EndsByMemory, EndsByReadFault, EndsByRun}
 use Rattle.analyse_top.proofs.AskedOnce.{asked_once, answered_or_analysed, answered_or_asked, answered_or_tried}

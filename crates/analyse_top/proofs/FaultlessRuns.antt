@@ -15,14 +15,14 @@ use Rattle.cob_interp.specs.declared.ends.RunEnd.{RunEnd}
 use Rattle.cob_interp.specs.declared.ends.RunEnd.TheVariants as end
 use Rattle.cob_interp.specs.Ends.{told_files, IsEnd}
 use Rattle.cob_interp.specs.Runs.{outside}
-use Rattle.command_answers.specs.declared.alarms.Alarm.{Alarm}
+use Rattle.commands.specs.declared.alarms.Alarm.{Alarm}
 use Rattle.command_words.specs.Commands.{Command, Run, OneReading}
 use Rattle.command_words.specs.Commands as command
-use Rattle.command_answers.specs.Answer.{Answer, Report}
-use Rattle.command_answers.specs.Call.{Call}
-use Rattle.command_answers.proofs.Statuses.{low_status, never_low}
-use Rattle.run_command.specs.Runs.{Task, HoldsTask, AsksFor, TellsEnd, run_status}
-use Rattle.run_command.proofs.RunEnds.{refused_or_ends}
+use Rattle.commands.specs.Answer.{Answer, Report}
+use Rattle.commands.specs.Call.{Call}
+use Rattle.commands.proofs.Statuses.{low_status, never_low}
+use Rattle.commands.specs.Runs.{Task, HoldsTask, AsksFor, TellsEnd, run_status}
+use Rattle.commands.proofs.RunEnds.{refused_or_ends}
 use Rattle.analyse_top.specs.Answers.{Answers, AnswersCommand}
 use Rattle.analyse_top.specs.Conclusion.{Concludes, IsClean, EndsBy, EndsByRun, EndsByAnswer, RunsClean, CleanRunsMeetNoFault}
 use Rattle.analyse_top.proofs.Words.{analyse_or_run, one_run, trial_or_run}

@@ -4,12 +4,12 @@ use Rattle.batch_io.specs.FilesState.{Contents}
 use Rattle.command_words.specs.Commands.{Command, Run, OneReading}
 use Rattle.command_words.specs.Commands as command
 use Rattle.cob_front.specs.declared.refusal.Refusal.{Refusal}
-use Rattle.command_answers.specs.Answer.{Answer, Usage, Absent, Refused, CertificateLong, CertificateBad, CertificateMisfit, NotInductive, Report}
-use Rattle.command_answers.proofs.Sources.{Ending, EndsIn, read, refused}
-use Rattle.command_answers.proofs.OneCheck.{TextsAreApart, one_for_check}
-use Rattle.analyse_command.specs.Trial.{trial_text}
-use Rattle.analyse_command.specs.TrialEndings.{AnswersTrial}
-use Rattle.run_command.specs.Runs.{AnswersRun}
+use Rattle.commands.specs.Answer.{Answer, Usage, Absent, Refused, CertificateLong, CertificateBad, CertificateMisfit, NotInductive, Report}
+use Rattle.commands.proofs.Sources.{Ending, EndsIn, read, refused}
+use Rattle.commands.proofs.OneCheck.{TextsAreApart, one_for_check}
+use Rattle.commands.specs.Trial.{trial_text}
+use Rattle.commands.specs.TrialEndings.{AnswersTrial}
+use Rattle.commands.specs.Runs.{AnswersRun}
 use Rattle.analyse_top.specs.Answers.{Answers, AnswersCommand}
 
 module _ (contents : Contents) (one_ending : (bytes : List ℕ) (a b : Ending) → EndsIn bytes a → EndsIn bytes b → a ≡ b)

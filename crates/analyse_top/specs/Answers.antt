@@ -3,10 +3,10 @@ use Rattle.std.specs.Prelude.{◌≡◌, ℕ, ◌⊎◌, false, List, [], ◌∷
 use Rattle.batch_io.specs.FilesState.{Contents}
 use Rattle.command_words.specs.Commands.{Command, IsCommand}
 use Rattle.command_words.specs.Commands as command
-use Rattle.command_answers.specs.Answer.{Answer, Usage, AnswersSource, is_usage}
-use Rattle.command_answers.specs.CheckAnswers.{AnswersCheck}
-use Rattle.analyse_command.specs.TrialEndings.{AnswersTrial}
-use Rattle.run_command.specs.Runs.{AnswersRun, BlamesIfUsage}
+use Rattle.commands.specs.Answer.{Answer, Usage, AnswersSource, is_usage}
+use Rattle.commands.specs.CheckAnswers.{AnswersCheck}
+use Rattle.commands.specs.TrialEndings.{AnswersTrial}
+use Rattle.commands.specs.Runs.{AnswersRun, BlamesIfUsage}
 
 -- ---- the words
 

@@ -18,26 +18,26 @@ use Rattle.cob_interp.specs.declared.ends.RunEnd.{RunEnd}
 use Rattle.cob_interp.specs.declared.ends.RunEnd.TheVariants as end
 use Rattle.cob_interp.specs.Ends.{told_files, IsEnd}
 use Rattle.cob_interp.specs.Runs.{outside}
-use Rattle.command_answers.specs.declared.alarms.Alarm.{Alarm}
-use Rattle.command_answers.specs.Alarms.{alarms_of}
-use Rattle.command_answers.specs.ReportText.{report_text}
+use Rattle.commands.specs.declared.alarms.Alarm.{Alarm}
+use Rattle.commands.specs.Alarms.{alarms_of}
+use Rattle.commands.specs.ReportText.{report_text}
 use Rattle.cert_text.specs.View.{Certificate}
 use Rattle.cert_text.specs.Lengths.{most_bounds}
-use Rattle.analyse_command.specs.Choice.{packs_of}
-use Rattle.command_answers.specs.Checker.Checking.{Accepts}
+use Rattle.commands.specs.Choice.{packs_of}
+use Rattle.commands.specs.Checker.Checking.{Accepts}
 use Rattle.command_words.specs.Commands.{Run, IsCommand}
 use Rattle.command_words.specs.Commands as command
-use Rattle.command_answers.specs.Text.{memory_line, read_fault_line}
-use Rattle.command_answers.specs.Showing.{Gains, GainsFront, Shows}
-use Rattle.command_answers.specs.Profile.{IsProgramOf}
-use Rattle.command_answers.specs.Answer.{Answer, Report, HoldsProgram, answer_text, status_of, status_unwritten}
-use Rattle.command_answers.specs.Call.{Call}
-use Rattle.command_answers.specs.CheckAnswers.{HoldsCertificate, certificate_limit}
-use Rattle.analyse_command.specs.Analysis.{Analysis, CanBeClean, IsAnalysisOf, pairs_of, report_of, text_of}
-use Rattle.analyse_command.specs.Endings.{IsTooLong, EndsByAnalysis}
-use Rattle.analyse_command.specs.Trial.{trial_text}
-use Rattle.analyse_command.specs.TrialEndings.{EndsByTrial, IsTrialOf, nodes_line, trial_name}
-use Rattle.run_command.specs.Runs.{Task, HoldsTask, AsksFor, RunsTo}
+use Rattle.commands.specs.Text.{memory_line, read_fault_line}
+use Rattle.commands.specs.Showing.{Gains, GainsFront, Shows}
+use Rattle.commands.specs.Profile.{IsProgramOf}
+use Rattle.commands.specs.Answer.{Answer, Report, HoldsProgram, answer_text, status_of, status_unwritten}
+use Rattle.commands.specs.Call.{Call}
+use Rattle.commands.specs.CheckAnswers.{HoldsCertificate, certificate_limit}
+use Rattle.commands.specs.Analysis.{Analysis, CanBeClean, IsAnalysisOf, pairs_of, report_of, text_of}
+use Rattle.commands.specs.Endings.{IsTooLong, EndsByAnalysis}
+use Rattle.commands.specs.Trial.{trial_text}
+use Rattle.commands.specs.TrialEndings.{EndsByTrial, IsTrialOf, nodes_line, trial_name}
+use Rattle.commands.specs.Runs.{Task, HoldsTask, AsksFor, RunsTo}
 use Rattle.analyse_top.specs.Answers.{Answers}
 
 -- ---- the ways to end

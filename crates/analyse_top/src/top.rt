@@ -3,21 +3,22 @@ ghost use Rattle.std.specs.Prelude.{ℕ, List, Ok};
 ghost use Rattle.command_words.specs.Words.{texts};
 ghost use Rattle.command_words.specs.Commands as word;
 ghost use Rattle.command_words.specs.Commands.{IsCommand, plain_command, plain_run};
-ghost use Rattle.command_answers.specs.Answer.{Usage};
-ghost use Rattle.command_answers.specs.Call.{call};
-ghost use Rattle.command_answers.specs.Steps.{ShowsFound};
+ghost use Rattle.commands.specs.Answer.{Usage};
+ghost use Rattle.commands.specs.Call.{call};
+ghost use Rattle.commands.specs.Steps.{ShowsFound};
 ghost use Rattle.analyse_top.specs.Answers.{first_word};
 ghost use Rattle.analyse_top.specs.Conclusion.{Concludes, IsExact, AcceptsExactly, AnalysesAreAccepted, CleanIsSafe, CleanRunsMeetNoFault, FindsClean, LongTextsAreOfLargePrograms, ReportsAreComplete, TrialsAreAccepted};
 
-use analyse_command::{TRIAL_NAME, findings_for, tell, trial_findings};
 use batch_io::{Files, Sink};
 use cert_text::{no_bad_line, one_place, one_spelling, texts_of_certificates_are_short};
 use cob_front::one_answer;
 use cob_graph_laws::graphs_are_one;
 use cob_interp::one_end;
-use command_answers::{Answer, Stop, accepted_claims_cover_runs, check, show_found};
 use command_words::{Command, RunWords, command_of, one_reading};
-use run_command::{run, task_for};
+use commands::{
+    Answer, Stop, TRIAL_NAME, accepted_claims_cover_runs, check, findings_for, run, show_found,
+    task_for, tell, trial_findings,
+};
 use source_facts::sources_have_source_graphs;
 use std::alloc::Global;
 

@@ -8,7 +8,7 @@ ghost use Rattle.cob_graph.specs.declared.graph.Graph.{Graph as AnyGraph};
 ghost use Rattle.cob_graph.specs.Graphs.{IsGraph};
 ghost use Rattle.cob_graph_build.specs.Limits.{IsWithinLimits};
 ghost use Rattle.graph_runs.specs.Sources.{IsSourceGraph};
-ghost use Rattle.cell_rows.specs.Rows.{lists_of};
+ghost use Rattle.interval_domain.specs.Rows.{lists_of};
 ghost use Rattle.cell_steps.specs.Homes.{owns};
 ghost use Rattle.cell_ranges.specs.Ranges.{ends_of};
 
@@ -19,7 +19,7 @@ use cob_front::program_in;
 use cob_graph::Graph;
 use cob_graph_build::{graph_of, nested};
 use cob_program::Program;
-use decimal_interval::Interval;
+use interval_domain::Interval;
 use source_facts::sources_have_source_graphs;
 use std::marker::Brand;
 use std::sync::ledger::Blank;

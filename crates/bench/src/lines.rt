@@ -1,7 +1,6 @@
 //! Counts the characters of the text of a source, and its tokens where that is asked for, for bench/lines.
 
-use cob_lex::{LexEnd, tokens_of};
-use cob_lines::{Mark, SOURCE_LIMIT, TextEnd, text_of};
+use cob_lex::{LexEnd, Mark, SOURCE_LIMIT, TextEnd, text_of, tokens_of};
 use std::rt::Files;
 use std::{fs, io};
 

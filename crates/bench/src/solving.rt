@@ -3,8 +3,7 @@ ghost use Rattle.std.specs.Prelude.{◌≡◌, ◌+◌, ◌*◌, ◌^◌, ◌≤
 ghost use Rattle.dom_laws.specs.Flow.{IsNode, IsInductive};
 ghost use Rattle.widen_solver.specs.Stored.{HasShape, row_at};
 
-use dom_laws::{Domain, Rows, Steps, System};
-use inductive_pass::pass;
+use dom_laws::{Domain, Rows, Steps, System, pass};
 use std::alloc::{AllocError, Global};
 use std::sync::ledger::Ledger;
 use widen_solver::{Store, solve};

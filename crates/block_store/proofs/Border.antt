@@ -2,8 +2,8 @@
 use Rattle.std.proofs.Common.{◌≡◌, ℕ, ◌≤◌, List, [], ◌++◌, ℤ, pos, replicate, append-nil, length, take, drop, map, ap, sym, ◌∙◌, refl, arith}
 use Rattle.std.specs.Prelude.{Option, Some}
 use Rattle.std.proofs.lemmas.List.{take-map, drop-map, map-append, take-append-drop, length-take, length-map, length-replicate}
-use Rattle.block_cells.specs.Places.{somes}
-use Rattle.block_cells.proofs.Places.{somes-map}
+use Rattle.block_store.specs.Places.{somes}
+use Rattle.block_store.proofs.Places.{somes-map}
 use Rattle.block_store.specs.Slots.{IsFullOf, IsZeros}
 use Rattle.block_store.proofs.SlotsLemmas.{zero_words, zero_full}
 

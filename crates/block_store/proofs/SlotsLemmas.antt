@@ -4,9 +4,9 @@ use Rattle.std.specs.Prelude.{Option, Some, None}
 use Rattle.std.specs.List.{refill, length_refill}
 use Rattle.std.proofs.lemmas.Bool.{cases_eq, cases_lt}
 use Rattle.std.proofs.lemmas.List.{take-map, drop-map, map-append, length-map, length-take, length-drop, length-append, length-replicate, get_or-replicate, get_or_past, ext_get_or, get_or-map}
-use Rattle.block_cells.specs.Places.{somes, IsRun, IsFilled}
-use Rattle.block_cells.specs.Lends.{spliced}
-use Rattle.block_cells.proofs.Places.{somes-map, same_values}
+use Rattle.block_store.specs.Places.{somes, IsRun, IsFilled}
+use Rattle.block_store.specs.Lends.{spliced}
+use Rattle.block_store.proofs.Places.{somes-map, same_values}
 use Rattle.block_store.specs.Slots.{IsFullOf, IsFull, IsZeros}
 use Rattle.block_store.specs.Words.{run_at, with_run}
 

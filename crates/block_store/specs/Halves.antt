@@ -2,8 +2,8 @@
 use Rattle.std.specs.Prelude.{◌≡◌, ◌++◌, length}
 use Rattle.std.specs.Borrow.{i128}
 use Rattle.std.specs.Vec.Ownership.{FitsInBlock}
-use Rattle.block_cells.specs.Places.{somes}
-use Rattle.block_cells.specs.Ownership.{place_on}
+use Rattle.block_store.specs.Places.{somes}
+use Rattle.block_store.specs.Ownership.{place_on}
 use Rattle.block_store.specs.Slots.{IsFullOf}
 use Rattle.block_store.specs.Parts.{Parts}
 use Rattle.block_store.specs.declared.halves.Halves.TheInside.{Inside}

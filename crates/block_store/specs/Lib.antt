@@ -1,3 +1,6 @@
+pub mod Lends
+pub mod Ownership
+pub mod Places
 pub mod Slots
 pub mod Parts
 pub mod Words

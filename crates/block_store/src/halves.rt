@@ -4,7 +4,7 @@ ghost use Rattle.std.specs.Prelude.{◌≡◌, ◌+◌, ◌^◌, ◌≤◌, ◌+
 ghost use Rattle.std.specs.Borrow.{sem};
 ghost use Rattle.block_store.specs.Slots.{IsFull, IsZeros};
 
-use block_cells::{Base, Cells, Deed, allocate, deallocate, end, none, part_at};
+use crate::cells::{Base, Cells, Deed, allocate, deallocate, end, none, part_at};
 use std::alloc::{AllocError, Global};
 use std::marker::Model;
 use std::mem::replace;

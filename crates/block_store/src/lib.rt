@@ -2,6 +2,7 @@
 #![tactic(auto)]
 
 mod blocks;
+mod cells;
 mod halves;
 mod region;
 

@@ -1,7 +1,6 @@
 //! Cases of whole sources: their text, and its tokens.
 use crate::words::{bytes_of, push_bytes};
-use cob_lex::{LexEnd, tokens_of};
-use cob_lines::{Mark, TextEnd, text_of};
+use cob_lex::{LexEnd, Mark, TextEnd, text_of, tokens_of};
 use cob_tree::{Num, Rel, Tok, Token};
 use std::alloc::{AllocError, Global};
 

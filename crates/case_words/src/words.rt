@@ -5,7 +5,7 @@ ghost use Rattle.case_words.specs.Words.{how_word, mode_word, relation_word, IsN
 use cob_program::How;
 use cob_tree::{Bytes, Num, Rel};
 use dec_num::Mode;
-use decimal_interval::Interval;
+use interval_domain::Interval;
 use std::alloc::{AllocError, Global};
 
 /// The words of a part of a line.

@@ -10,8 +10,8 @@ use Rattle.cob_runs.specs.Computing.{remainder_of}
 use Rattle.sum_ranges.specs.declared.ranged.Ranged.{Ranged}
 use Rattle.sum_ranges.specs.Ranged.{IsIn}
 use Rattle.sum_ranges.specs.SumRanges.{plus_range}
-use Rattle.result_ranges.specs.Amounts.{IsAmount}
-use Rattle.result_ranges.specs.Operands.{is_whole, taken_sum, computed_range, remaining_range}
+use Rattle.transfer_ranges.specs.Amounts.{IsAmount}
+use Rattle.transfer_ranges.specs.Operands.{is_whole, taken_sum, computed_range, remaining_range}
 
 pub record Given : Type 0 where
   pub computed_ : (worth : ℕ → Scaled) (range : ℕ → Ranged) → ((place : ℕ) → IsIn (worth place) (range place)) → (s : Sum) (h : How) (v : Scaled) (own : Ranged) → IsIn v own → (x : Fraction)

@@ -25,11 +25,11 @@ use Rattle.cob_edge_parts.specs.Parts.{Amount, moved, computed, remaining, augme
 use Rattle.cob_edge_parts.specs.Meaning.{Moment, amount}
 use Rattle.sum_ranges.specs.declared.ranged.Ranged.{Ranged}
 use Rattle.sum_ranges.specs.Ranged.{decimal, point, IsIn}
-use Rattle.result_ranges.specs.declared.amounts.Taken.{Taken}
-use Rattle.result_ranges.specs.Amounts.{IsAmount}
-use Rattle.result_ranges.specs.Operands.{alone, is_whole, taken_sum, computed_range, remaining_range}
-use Rattle.result_ranges.specs.Stores.{sender_range, operands}
-use Rattle.cell_rows.specs.Known.{Known}
+use Rattle.transfer_ranges.specs.declared.amounts.Taken.{Taken}
+use Rattle.transfer_ranges.specs.Amounts.{IsAmount}
+use Rattle.transfer_ranges.specs.Operands.{alone, is_whole, taken_sum, computed_range, remaining_range}
+use Rattle.transfer_ranges.specs.Stores.{sender_range, operands}
+use Rattle.interval_domain.specs.Known.{Known}
 use Rattle.cell_steps.specs.Storages.{storage, StandsIn}
 use Rattle.cell_steps.specs.Premises.{HasSoundItems}
 use Rattle.cell_steps.specs.Operands.{edge_amount, edge_operands, settled, amount_of}

@@ -3,11 +3,11 @@ use Rattle.std.proofs.Common.{◌≡◌, suc, ℕ, Bool, true, false, if◌then�
 use Rattle.std.specs.Prelude.{map}
 use Rattle.std.proofs.lemmas.Bool.{eqb-true}
 use Rattle.cob_data.specs.declared.layout.Layout.{Layout}
-use Rattle.decimal_interval.specs.declared.bounds.Interval.{Interval}
-use Rattle.cell_rows.specs.Known.{Known, KnownFits, KnownBelow, joined_known}
-use Rattle.cell_rows.specs.Elements.{Element, CellsFit, ElementFits, CellsBelow, ElementBelow, joined}
-use Rattle.cell_rows.proofs.OneKnown.{known_reflexive, known_transitive, known_join_left, known_join_right, known_join_least}
-use Rattle.cell_rows.proofs.AllCells.{element_reflexive, element_transitive, element_join_fits}
+use Rattle.interval_domain.specs.declared.bounds.Interval.{Interval}
+use Rattle.interval_domain.specs.Known.{Known, KnownFits, KnownBelow, joined_known}
+use Rattle.interval_domain.specs.Elements.{Element, CellsFit, ElementFits, CellsBelow, ElementBelow, joined}
+use Rattle.interval_domain.proofs.OneKnown.{known_reflexive, known_transitive, known_join_left, known_join_right, known_join_least}
+use Rattle.interval_domain.proofs.AllCells.{element_reflexive, element_transitive, element_join_fits}
 use Rattle.cell_steps.specs.Homes.{Home, of_item, of_count, is_home, home_range}
 use Rattle.cell_steps.specs.Storages.{known_of}
 use Rattle.cell_steps.specs.Cells.{known_or, with_known, forgotten}

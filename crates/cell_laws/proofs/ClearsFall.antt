@@ -15,11 +15,11 @@ use Rattle.sum_ranges.specs.SumRanges.{atom_range}
 use Rattle.sum_ranges.specs.Vanishing.{holds_zero}
 use Rattle.sum_ranges.proofs.Narrow.{atom_below}
 use Rattle.sum_ranges.proofs.Vanish.{zero_rises}
-use Rattle.result_ranges.specs.declared.amounts.Taken.{Taken}
-use Rattle.result_ranges.specs.declared.amounts.AmountRange.{AmountRange}
-use Rattle.result_ranges.specs.Receivers.{receiver_of, counter}
-use Rattle.result_ranges.specs.Amounts.{IsNarrowerTakenIfAny}
-use Rattle.result_ranges.specs.ResultRanges.{may_fail, lowered, count_may_fail}
+use Rattle.transfer_ranges.specs.declared.amounts.Taken.{Taken}
+use Rattle.transfer_ranges.specs.declared.amounts.AmountRange.{AmountRange}
+use Rattle.transfer_ranges.specs.Receivers.{receiver_of, counter}
+use Rattle.transfer_ranges.specs.Amounts.{IsNarrowerTakenIfAny}
+use Rattle.transfer_ranges.specs.ResultRanges.{may_fail, lowered, count_may_fail}
 use Rattle.cell_steps.specs.Homes.{of_count, homes_of}
 use Rattle.cell_steps.specs.Cells.{units_of}
 use Rattle.cell_steps.specs.Operands.{amount_of}

@@ -18,7 +18,7 @@ use Rattle.dom_laws.specs.Walking as walked
 use Rattle.dom_laws.specs.Walking.{BelowIf, IsSeen, IfSeen, walk, PassesAll, Meets, ClearsAll, IsWalking, IsSound}
 use Rattle.dom_laws.proofs.Edges.{edges_are_sound}
 use Rattle.graph_runs.specs.Counters.{PassesParts, MeetsAmong}
-use Rattle.cell_rows.specs.Known.{Known}
+use Rattle.interval_domain.specs.Known.{Known}
 use Rattle.cell_steps.specs.Storages.{storage, StandsIn, ElementStands}
 use Rattle.cell_steps.specs.Seen.{Seen, beginning}
 use Rattle.cell_steps.specs.Stores.{handled}

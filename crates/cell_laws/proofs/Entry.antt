@@ -18,10 +18,10 @@ use Rattle.cob_runs.specs.Contents.{item_at, form_at, bytes_at}
 use Rattle.cob_runs.specs.Moves.{moved}
 use Rattle.cob_runs.specs.Runs.{first_storage}
 use Rattle.cob_graph.specs.declared.graph.Graph.{Graph}
-use Rattle.decimal_interval.specs.Bounds.{Holds}
+use Rattle.interval_domain.specs.Bounds.{Holds}
 use Rattle.dom_laws.specs.Meaning.{Storage}
-use Rattle.cell_rows.specs.Known.{Known, KnownFits}
-use Rattle.cell_rows.specs.Elements.{CellsFit}
+use Rattle.interval_domain.specs.Known.{Known, KnownFits}
+use Rattle.interval_domain.specs.Elements.{CellsFit}
 use Rattle.graph_runs.specs.Sources.{IsSourceGraph}
 use Rattle.graph_runs.specs.Doing.{Begins}
 use Rattle.graph_runs.specs.Counters.{IsCounted}

@@ -9,10 +9,10 @@ use Rattle.cob_graph.specs.declared.graph.Edge.{Edge}
 use Rattle.cob_graph.specs.declared.graph.Graph.{Graph}
 use Rattle.dom_laws.specs.Lattice.{Lattice, IsElement}
 use Rattle.dom_laws.specs.Flow.{IsFlow}
-use Rattle.cell_rows.specs.Known.{Known}
-use Rattle.cell_rows.specs.Elements.{Element, CellsFit, ElementFits, CellsBelow, ElementBelow}
-use Rattle.cell_rows.specs.Rows.{row_from, width_of, element_of, cells_lattice, RowBelow}
-use Rattle.cell_rows.proofs.Rows.{element_back, row_width}
+use Rattle.interval_domain.specs.Known.{Known}
+use Rattle.interval_domain.specs.Elements.{Element, CellsFit, ElementFits, CellsBelow, ElementBelow}
+use Rattle.interval_domain.specs.Rows.{row_from, width_of, element_of, cells_lattice, RowBelow}
+use Rattle.interval_domain.proofs.Rows.{element_back, row_width}
 use Rattle.graph_runs.specs.Places.{edge_at}
 use Rattle.graph_runs.specs.Sources.{IsSourceGraph}
 use Rattle.graph_runs.specs.Flows.{HasEdgesInOrder}

@@ -5,8 +5,8 @@ use Rattle.std.specs.List.{Contains}
 use Rattle.std.specs.Option.{option_map}
 use Rattle.std.proofs.lemmas.Int.{ints}
 use Rattle.dec_num.specs.declared.types.Scaled.{Scaled}
-use Rattle.decimal_interval.specs.declared.bounds.Interval.{Interval}
-use Rattle.decimal_interval.specs.Bounds.{Holds}
+use Rattle.interval_domain.specs.declared.bounds.Interval.{Interval}
+use Rattle.interval_domain.specs.Bounds.{Holds}
 use Rattle.cob_program.specs.Act.{Program}
 use Rattle.num_bytes.specs.Reading.{contents_value}
 use Rattle.cob_runs.specs.Contents.{form_at, bytes_at, scale_of, scaled_by, number_at}
@@ -14,8 +14,8 @@ use Rattle.cob_edge_parts.specs.Meaning.{count_in}
 use Rattle.sum_ranges.specs.Ranged.{IsIn, IsOrdered}
 use Rattle.dom_laws.specs.Meaning.{Storage}
 use Rattle.graph_runs.specs.Counters.{IsCount, HoldsCount}
-use Rattle.guard_ranges.specs.Meaning.{ItemsHold}
-use Rattle.cell_rows.specs.Known.{Known}
+use Rattle.transfer_ranges.specs.Meaning.{ItemsHold}
+use Rattle.interval_domain.specs.Known.{Known}
 use Rattle.cell_steps.specs.Homes.{Home, of_item, of_count, is_home, homes_of, home_range, picture_range}
 use Rattle.cell_steps.specs.Storages.{known_of, value_at, KnownStands, StandsIn}
 use Rattle.cell_steps.specs.Premises.{HasSoundItems}

@@ -2,8 +2,8 @@
 use Rattle.std.proofs.Common.{◌≡◌, Bool, true, false, if◌then◌else◌, List, [], ◌∷◌, Option, Some, None, ℤ, refl, sym, subst, ◌∙◌, arith}
 use Rattle.std.proofs.lemmas.Int.{ints}
 use Rattle.std.proofs.lemmas.Bool.{eq-eqb}
-use Rattle.cell_rows.specs.Known.{Known, KnownBelow}
-use Rattle.cell_rows.specs.Elements.{CellsBelow}
+use Rattle.interval_domain.specs.Known.{Known, KnownBelow}
+use Rattle.interval_domain.specs.Elements.{CellsBelow}
 use Rattle.cell_steps.specs.Homes.{Home, of_item, of_count, is_home}
 use Rattle.cell_steps.specs.Storages.{known_of, KnownStands}
 use Rattle.cell_steps.specs.Cells.{with_known, forgotten}

@@ -6,14 +6,14 @@ use Rattle.cob_tree.specs.declared.form.Form.{Form}
 use Rattle.cob_tree.specs.declared.form.Form.TheVariants as form
 use Rattle.cob_data.specs.declared.layout.Layout.{Layout}
 use Rattle.cob_runs.specs.Contents.{form_at}
-use Rattle.decimal_interval.specs.declared.bounds.Interval.{Interval}
+use Rattle.interval_domain.specs.declared.bounds.Interval.{Interval}
 use Rattle.sum_ranges.specs.Ranged.{IsNarrower, IsOrdered}
-use Rattle.cell_rows.specs.Known.{Known, KnownFits, KnownBelow}
-use Rattle.cell_rows.specs.Elements.{CellsFit, CellsBelow}
+use Rattle.interval_domain.specs.Known.{Known, KnownFits, KnownBelow}
+use Rattle.interval_domain.specs.Elements.{CellsFit, CellsBelow}
 use Rattle.cell_steps.specs.Homes.{Home, of_item, of_count, picture_range, form_range, home_range}
 use Rattle.cell_steps.specs.Storages.{known_of}
 use Rattle.cell_steps.specs.Cells.{is_known, known_or, units_of, range_at, is_numeric}
-use Rattle.guard_ranges.specs.Meaning.{Knows}
+use Rattle.transfer_ranges.specs.Meaning.{Knows}
 use Rattle.cell_laws.proofs.CellLists.{known_fits, known_below}
 
 -- ---- own ranges

@@ -8,10 +8,10 @@ use Rattle.cob_graph.specs.declared.graph.Edge.{Edge}
 use Rattle.cob_graph.specs.declared.graph.Graph.{Graph}
 use Rattle.cob_graph.specs.declared.graph.Node.{Node}
 use Rattle.dom_laws.specs.Meaning.{Storage, IsMeaning}
-use Rattle.cell_rows.specs.Known.{Known}
-use Rattle.cell_rows.specs.Elements.{Element, ElementBelow}
-use Rattle.cell_rows.specs.Rows.{element_of}
-use Rattle.cell_rows.proofs.Rows.{element_back}
+use Rattle.interval_domain.specs.Known.{Known}
+use Rattle.interval_domain.specs.Elements.{Element, ElementBelow}
+use Rattle.interval_domain.specs.Rows.{element_of}
+use Rattle.interval_domain.proofs.Rows.{element_back}
 use Rattle.graph_runs.specs.Places.{edge_at, IsOf, DoesAt}
 use Rattle.graph_runs.specs.Doing.{Begins, Acts, MeetsAt}
 use Rattle.cell_steps.specs.Homes.{homes_of, owns}

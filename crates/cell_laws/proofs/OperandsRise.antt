@@ -17,12 +17,12 @@ use Rattle.sum_ranges.proofs.Operations.{quotient_ranges_least}
 use Rattle.sum_ranges.proofs.Least.{result_in_wider, range_below}
 use Rattle.sum_ranges.proofs.Narrow.{wide_ordered, plus_narrower}
 use Rattle.sum_ranges.proofs.Vanish.{zero_rises, sum_missing, product_missing, atom_missing, vanish_rises}
-use Rattle.result_ranges.specs.declared.amounts.Taken.{Taken}
-use Rattle.result_ranges.specs.declared.amounts.AmountRange.{AmountRange}
-use Rattle.result_ranges.specs.declared.amounts.AmountRange.TheVariants as range
-use Rattle.result_ranges.specs.Amounts.{taken, IsNarrowerIfAny, IsNarrowerTaken, IsNarrowerTakenIfAny, IsNarrowerAmount}
-use Rattle.result_ranges.specs.Operands.{alone, taken_from, taken_sum}
-use Rattle.result_ranges.specs.Stores.{operands, amount_range}
+use Rattle.transfer_ranges.specs.declared.amounts.Taken.{Taken}
+use Rattle.transfer_ranges.specs.declared.amounts.AmountRange.{AmountRange}
+use Rattle.transfer_ranges.specs.declared.amounts.AmountRange.TheVariants as range
+use Rattle.transfer_ranges.specs.Amounts.{taken, IsNarrowerIfAny, IsNarrowerTaken, IsNarrowerTakenIfAny, IsNarrowerAmount}
+use Rattle.transfer_ranges.specs.Operands.{alone, taken_from, taken_sum}
+use Rattle.transfer_ranges.specs.Stores.{operands, amount_range}
 use Rattle.cell_steps.specs.Operands.{edge_amount, edge_operands, operands_vanish, settled_by, settled, stays_exact, taken_for, amount_of, is_divided, may_divide_by_zero}
 use Rattle.cell_laws.proofs.ResultLaws.{Given}
 

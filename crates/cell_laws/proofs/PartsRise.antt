@@ -6,7 +6,7 @@ use Rattle.std.proofs.lemmas.Int.{ints}
 use Rattle.dec_num.specs.declared.types.Mode.{Mode}
 use Rattle.cob_tree.specs.declared.form.Form.{Form}
 use Rattle.cob_tree.specs.declared.form.Form.TheVariants as form
-use Rattle.decimal_interval.specs.declared.bounds.Interval.{Interval}
+use Rattle.interval_domain.specs.declared.bounds.Interval.{Interval}
 use Rattle.cob_program.specs.Sum.{Atom}
 use Rattle.cob_program.specs.Values.{◌>>=◌}
 use Rattle.cob_program.specs.Logic.{Test}
@@ -20,20 +20,20 @@ use Rattle.sum_ranges.specs.SumRanges.{atom_range}
 use Rattle.sum_ranges.specs.Vanishing.{may_be_zero}
 use Rattle.sum_ranges.proofs.Narrow.{atom_below}
 use Rattle.sum_ranges.proofs.Vanish.{divisor_rises}
-use Rattle.result_ranges.specs.declared.amounts.Taken.{Taken}
-use Rattle.result_ranges.specs.declared.amounts.AmountRange.{AmountRange}
-use Rattle.result_ranges.specs.Receivers.{receiver_of, counter}
-use Rattle.result_ranges.specs.Amounts.{IsNarrowerTakenIfAny}
-use Rattle.result_ranges.specs.Results.{IsInside, IsInsideIfAny}
-use Rattle.result_ranges.specs.ResultRanges as result
-use Rattle.result_ranges.specs.ResultRanges.{count_range, lowered}
-use Rattle.guard_ranges.specs.declared.cuts.Cut.{Cut}
-use Rattle.guard_ranges.specs.declared.cuts.Cuts.{Cuts}
-use Rattle.guard_ranges.specs.Guards.{guarded}
-use Rattle.guard_ranges.specs.Counts.{count_kept}
-use Rattle.guard_ranges.specs.Meaning.{CutFits, CutsFit, SideBelow, CutsBelow}
-use Rattle.cell_rows.specs.Known.{Known, KnownFits, KnownBelow}
-use Rattle.cell_rows.specs.Elements.{Element, CellsFit, ElementFits, CellsBelow, ElementBelow}
+use Rattle.transfer_ranges.specs.declared.amounts.Taken.{Taken}
+use Rattle.transfer_ranges.specs.declared.amounts.AmountRange.{AmountRange}
+use Rattle.transfer_ranges.specs.Receivers.{receiver_of, counter}
+use Rattle.transfer_ranges.specs.Amounts.{IsNarrowerTakenIfAny}
+use Rattle.transfer_ranges.specs.Results.{IsInside, IsInsideIfAny}
+use Rattle.transfer_ranges.specs.ResultRanges as result
+use Rattle.transfer_ranges.specs.ResultRanges.{count_range, lowered}
+use Rattle.transfer_ranges.specs.declared.cuts.Cut.{Cut}
+use Rattle.transfer_ranges.specs.declared.cuts.Cuts.{Cuts}
+use Rattle.transfer_ranges.specs.Guards.{guarded}
+use Rattle.transfer_ranges.specs.Counts.{count_kept}
+use Rattle.transfer_ranges.specs.Meaning.{CutFits, CutsFit, SideBelow, CutsBelow}
+use Rattle.interval_domain.specs.Known.{Known, KnownFits, KnownBelow}
+use Rattle.interval_domain.specs.Elements.{Element, CellsFit, ElementFits, CellsBelow, ElementBelow}
 use Rattle.cell_steps.specs.Homes.{Home, of_item, of_count, homes_of, home_range, form_range, picture_range, owns}
 use Rattle.cell_steps.specs.Cells.{units_of, is_numeric, with_known, forgotten, is_in_bytes, is_beside}
 use Rattle.cell_steps.specs.Operands.{operands_vanish, amount_of, may_divide_by_zero, is_remainder}

@@ -32,7 +32,7 @@ use Rattle.cob_runs.specs.Moves.{takes_number}
 use Rattle.cob_runs.specs.Computing.{items_in}
 use Rattle.cob_runs.specs.Acts.{decl_at, file_from}
 use Rattle.cob_runs.specs.Effects.{tests_in_act}
-use Rattle.cob_items.specs.WellFormed.{IsWellFormedFile, HasWellFormedItems}
+use Rattle.cob_store.specs.WellFormed.{IsWellFormedFile, HasWellFormedItems}
 use Rattle.data_laws.proofs.Items.{item_sound}
 use Rattle.cob_calc.specs.Contents.{bound_at}
 use Rattle.cob_calc.specs.Arithmetic.{is_small_result, are_small_results, is_small_rest, are_small_rests, take_numbers, is_sound_remainder, CanCompute}

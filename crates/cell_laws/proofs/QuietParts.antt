@@ -5,8 +5,8 @@ use Rattle.std.specs.List.{Contains}
 use Rattle.std.specs.Option.{option_map}
 use Rattle.dec_num.specs.declared.types.Scaled.{Scaled}
 use Rattle.cob_data.specs.declared.layout.Layout.{Layout}
-use Rattle.decimal_interval.specs.declared.bounds.Interval.{Interval}
-use Rattle.decimal_interval.specs.Bounds.{Holds}
+use Rattle.interval_domain.specs.declared.bounds.Interval.{Interval}
+use Rattle.interval_domain.specs.Bounds.{Holds}
 use Rattle.num_bytes.specs.Reading.{contents_value}
 use Rattle.cob_program.specs.Values.{whole_number}
 use Rattle.cob_program.specs.Logic.{Test}
@@ -18,14 +18,14 @@ use Rattle.cob_edge_parts.specs.Meaning as run
 use Rattle.cob_edge_parts.specs.Meaning.{Moment, with_own, count_in, ReadsAt}
 use Rattle.dom_laws.specs.Walking.{IsSeen}
 use Rattle.sum_ranges.specs.declared.ranged.Ranged.{Ranged}
-use Rattle.result_ranges.specs.declared.amounts.Taken.{Taken}
+use Rattle.transfer_ranges.specs.declared.amounts.Taken.{Taken}
 use Rattle.graph_runs.specs.Counters.{IsCount, PassesPart, PassesParts}
-use Rattle.guard_ranges.specs.declared.cuts.Cut.{Cut}
-use Rattle.guard_ranges.specs.declared.cuts.Cuts.{Cuts}
-use Rattle.guard_ranges.specs.Guards.{guarded}
-use Rattle.guard_ranges.specs.Counts.{count_kept}
-use Rattle.guard_ranges.specs.Meaning.{CutHolds, CutsHold}
-use Rattle.cell_rows.specs.Known.{Known}
+use Rattle.transfer_ranges.specs.declared.cuts.Cut.{Cut}
+use Rattle.transfer_ranges.specs.declared.cuts.Cuts.{Cuts}
+use Rattle.transfer_ranges.specs.Guards.{guarded}
+use Rattle.transfer_ranges.specs.Counts.{count_kept}
+use Rattle.transfer_ranges.specs.Meaning.{CutHolds, CutsHold}
+use Rattle.interval_domain.specs.Known.{Known}
 use Rattle.cell_steps.specs.Homes.{Home, of_item, of_count, homes_of}
 use Rattle.cell_steps.specs.Storages.{storage, known_of, value_at, KnownStands, StandsIn}
 use Rattle.cell_steps.specs.Cells.{units_of, is_numeric}

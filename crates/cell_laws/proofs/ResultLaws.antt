@@ -1,24 +1,24 @@
 -- Laws of results and of guards, as the walk takes them.
 use Rattle.std.specs.Prelude.{◌≡◌, ℕ, ◌≤ℤ◌, Bool, true, IfSome}
 use Rattle.dec_num.specs.declared.types.Mode.{Mode}
-use Rattle.decimal_interval.specs.declared.bounds.Interval.{Interval}
+use Rattle.interval_domain.specs.declared.bounds.Interval.{Interval}
 use Rattle.cob_data.specs.declared.layout.Layout.{Layout}
 use Rattle.cob_program.specs.declared.act.How.{How}
 use Rattle.cob_program.specs.Logic.{Test}
 use Rattle.cob_edge_parts.specs.Parts.{Amount}
 use Rattle.sum_ranges.specs.declared.ranged.Ranged.{Ranged}
 use Rattle.sum_ranges.specs.Ranged.{IsNarrower, IsOrdered}
-use Rattle.result_ranges.specs.declared.amounts.Taken.{Taken}
-use Rattle.result_ranges.specs.declared.amounts.AmountRange.{AmountRange}
-use Rattle.result_ranges.specs.declared.amounts.Receiver.{Receiver}
-use Rattle.result_ranges.specs.Amounts.{IsNarrowerTaken, IsNarrowerTakenIfAny, IsNarrowerAmount}
-use Rattle.result_ranges.specs.Operands.{computed_range}
-use Rattle.result_ranges.specs.Stores.{operands}
-use Rattle.result_ranges.specs.Results.{IsLeastIfAny, IsKept, IsInside, IsInsideIfAny}
-use Rattle.result_ranges.specs.ResultRanges.{fitted, exceeds, result_range, may_fail}
-use Rattle.guard_ranges.specs.Guards.{guarded}
-use Rattle.guard_ranges.specs.Counts.{count_kept}
-use Rattle.guard_ranges.specs.Meaning.{CutsFit, CutsBelow, Knows}
+use Rattle.transfer_ranges.specs.declared.amounts.Taken.{Taken}
+use Rattle.transfer_ranges.specs.declared.amounts.AmountRange.{AmountRange}
+use Rattle.transfer_ranges.specs.declared.amounts.Receiver.{Receiver}
+use Rattle.transfer_ranges.specs.Amounts.{IsNarrowerTaken, IsNarrowerTakenIfAny, IsNarrowerAmount}
+use Rattle.transfer_ranges.specs.Operands.{computed_range}
+use Rattle.transfer_ranges.specs.Stores.{operands}
+use Rattle.transfer_ranges.specs.Results.{IsLeastIfAny, IsKept, IsInside, IsInsideIfAny}
+use Rattle.transfer_ranges.specs.ResultRanges.{fitted, exceeds, result_range, may_fail}
+use Rattle.transfer_ranges.specs.Guards.{guarded}
+use Rattle.transfer_ranges.specs.Counts.{count_kept}
+use Rattle.transfer_ranges.specs.Meaning.{CutsFit, CutsBelow, Knows}
 
 pub record Given : Type 0 where
   pub operands_ : (narrow wide : ℕ → Ranged) → ((place : ℕ) → IsNarrower (narrow place) (wide place)) → (a : Amount) → IsNarrowerTakenIfAny (operands narrow a) (operands wide a)

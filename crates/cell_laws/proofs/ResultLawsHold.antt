@@ -1,14 +1,14 @@
 -- The laws of results and of guards, put in.
 use Rattle.std.proofs.Common.{Option, Some, None, IfSome, ◌≤ℤ◌}
-use Rattle.decimal_interval.specs.declared.bounds.Interval.{Interval}
-use Rattle.result_ranges.specs.Results.{IsInside, IsInsideIfAny}
-use Rattle.result_ranges.proofs.Keeping.{kept_least}
-use Rattle.result_ranges.proofs.Narrower.{computed_narrower, exceeds_inside, fitted_inside, may_fail_wider, results_inside}
-use Rattle.result_ranges.proofs.Taking.{operands_below}
-use Rattle.guard_ranges.specs.Counts.{count_kept}
-use Rattle.guard_ranges.specs.Kept.{IsPartOf, UnitsBelow}
-use Rattle.guard_ranges.proofs.GuardLaws.{guard_below, guard_fits}
-use Rattle.guard_ranges.proofs.CountLaws.{count_rises, count_part}
+use Rattle.interval_domain.specs.declared.bounds.Interval.{Interval}
+use Rattle.transfer_ranges.specs.Results.{IsInside, IsInsideIfAny}
+use Rattle.transfer_ranges.proofs.Keeping.{kept_least}
+use Rattle.transfer_ranges.proofs.Narrower.{computed_narrower, exceeds_inside, fitted_inside, may_fail_wider, results_inside}
+use Rattle.transfer_ranges.proofs.Taking.{operands_below}
+use Rattle.transfer_ranges.specs.Counts.{count_kept}
+use Rattle.transfer_ranges.specs.Kept.{IsPartOf, UnitsBelow}
+use Rattle.transfer_ranges.proofs.GuardLaws.{guard_below, guard_fits}
+use Rattle.transfer_ranges.proofs.CountLaws.{count_rises, count_part}
 use Rattle.cell_laws.proofs.ResultLaws.{Given}
 
 inside_of : (o p : Option Interval) → UnitsBelow o p → IsInsideIfAny o p

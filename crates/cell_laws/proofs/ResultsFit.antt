@@ -6,13 +6,13 @@ use Rattle.dec_num.specs.declared.types.Mode.{Mode}
 use Rattle.cob_tree.specs.declared.form.Form.{Form}
 use Rattle.cob_tree.specs.declared.form.Form.TheVariants as form
 use Rattle.cob_program.specs.Values.{◌>>=◌}
-use Rattle.decimal_interval.specs.declared.bounds.Interval.{Interval}
-use Rattle.result_ranges.specs.declared.amounts.AmountRange.{AmountRange}
-use Rattle.result_ranges.specs.declared.amounts.Receiver.{Receiver}
-use Rattle.result_ranges.specs.Receivers.{HasRoomFor, receiver_of, counter, kept_units}
-use Rattle.result_ranges.specs.Results.{IsLeastIfAny, IsKept}
-use Rattle.result_ranges.specs.ResultRanges.{amount_units, fitted, result_range, count_range}
-use Rattle.cell_rows.specs.Known.{KnownFits}
+use Rattle.interval_domain.specs.declared.bounds.Interval.{Interval}
+use Rattle.transfer_ranges.specs.declared.amounts.AmountRange.{AmountRange}
+use Rattle.transfer_ranges.specs.declared.amounts.Receiver.{Receiver}
+use Rattle.transfer_ranges.specs.Receivers.{HasRoomFor, receiver_of, counter, kept_units}
+use Rattle.transfer_ranges.specs.Results.{IsLeastIfAny, IsKept}
+use Rattle.transfer_ranges.specs.ResultRanges.{amount_units, fitted, result_range, count_range}
+use Rattle.interval_domain.specs.Known.{KnownFits}
 use Rattle.cell_steps.specs.Homes.{picture_range, form_range}
 use Rattle.cell_laws.proofs.ResultLaws.{Given}
 

@@ -2,15 +2,15 @@
 use Rattle.std.proofs.Common.{◌≡◌, ℕ, ◌-◌, ◌^◌, max, Bool, true, false, Option, Some, None, ℤ, pos, ◌+ℤ◌, ◌*ℤ◌, refl, sym, ap, subst, ◌∙◌, arith}
 use Rattle.std.specs.Option.{option_map}
 use Rattle.std.proofs.lemmas.Int.{ints}
-use Rattle.decimal_interval.specs.Corners.{interval}
-use Rattle.decimal_interval.proofs.Ends.{parts_of_product}
+use Rattle.interval_domain.specs.Corners.{interval}
+use Rattle.interval_domain.proofs.IntervalEnds.{parts_of_product}
 use Rattle.cob_program.specs.Sum.{Sum, MkSum, no_parts, more_parts, MkPart, Factors, no_factors, more_factors, MkFactor, Atom}
 use Rattle.cob_program.specs.Values.{whole_number, Root, behind_factor, root_in, root_of, ◌>>=◌}
 use Rattle.sum_ranges.specs.declared.ranged.Ranged.{Ranged}
 use Rattle.sum_ranges.specs.Ranged.{ranged, point}
 use Rattle.sum_ranges.specs.SumRanges.{turned, plus_range, quotient_range, factor_range, sum_range, product_range_from, atom_range}
-use Rattle.result_ranges.specs.Amounts.{taken}
-use Rattle.result_ranges.specs.Operands.{alone, taken_from, taken_sum}
+use Rattle.transfer_ranges.specs.Amounts.{taken}
+use Rattle.transfer_ranges.specs.Operands.{alone, taken_from, taken_sum}
 use Rattle.cell_steps.specs.Operands.{settled}
 
 -- ---- 0 and a range

@@ -13,8 +13,8 @@ use Rattle.cob_program.specs.Bounds.{Bound, of_digits, exactly, literal_bound}
 use Rattle.cob_program.proofs.Steps.{literal_within, whole_within}
 use Rattle.cob_runs.specs.Contents.{scaled_by}
 use Rattle.cob_runs.specs.Deciding.{is_number_end}
-use Rattle.cob_items.specs.WellFormed.{HasWellFormedItems}
-use Rattle.cob_items.proofs.ReadBound.{read_within}
+use Rattle.cob_store.specs.WellFormed.{HasWellFormedItems}
+use Rattle.cob_store.proofs.ReadBound.{read_within}
 use Rattle.cob_calc.specs.Contents.{bound_at}
 use Rattle.cob_world.specs.Needs.{IsNumber}
 use Rattle.cob_edge_parts.specs.Parts.{moved, augmented}
@@ -23,14 +23,14 @@ use Rattle.sum_ranges.specs.Ranged.{point}
 use Rattle.sum_ranges.specs.Sizes.{IsRangeWithin, IsSmallRange}
 use Rattle.sum_ranges.specs.Working.{AreBounded}
 use Rattle.sum_ranges.proofs.Bounded.{point_within, small_range_of}
-use Rattle.result_ranges.specs.declared.amounts.Taken.{Taken}
-use Rattle.result_ranges.specs.Operands.{alone}
-use Rattle.result_ranges.specs.Stores.{sender_range}
-use Rattle.result_ranges.specs.Sizes.{IsSmallAmount}
-use Rattle.result_ranges.proofs.Bounding.{small_sum}
-use Rattle.guard_ranges.specs.Small.{is_short}
-use Rattle.cell_amounts.specs.Small.{is_small_sender}
-use Rattle.cell_amounts.specs.Working.{CanWork, amount_from}
+use Rattle.transfer_ranges.specs.declared.amounts.Taken.{Taken}
+use Rattle.transfer_ranges.specs.Operands.{alone}
+use Rattle.transfer_ranges.specs.Stores.{sender_range}
+use Rattle.transfer_ranges.specs.Sizes.{IsSmallAmount}
+use Rattle.transfer_ranges.proofs.Bounding.{small_sum}
+use Rattle.transfer_ranges.specs.Small.{is_short}
+use Rattle.edge_amounts.specs.Small.{is_small_sender}
+use Rattle.edge_amounts.specs.Working.{CanWork, amount_from}
 use Rattle.cell_laws.proofs.Short.{digits_are_short, short_is_small, short_sum, end_short}
 
 module _ (bound : ℕ → Bound) (items : ℕ → Ranged) (bounded : AreBounded items bound) where

@@ -17,15 +17,15 @@ use Rattle.cob_program.specs.Bounds.{Bound, of_digits, form_bound, literal_bound
 use Rattle.cob_runs.specs.Contents.{item_at, form_at, scale_of}
 use Rattle.cob_runs.specs.Moves.{takes_number}
 use Rattle.cob_runs.specs.Deciding.{is_number_end}
-use Rattle.cob_items.specs.WellFormed.{IsWellFormedForm, HasWellFormedItems, IsShort, IsShortLiteral, IsCountable}
+use Rattle.cob_store.specs.WellFormed.{IsWellFormedForm, HasWellFormedItems, IsShort, IsShortLiteral, IsCountable}
 use Rattle.cob_calc.specs.Comparing.{IsShortEnd}
 use Rattle.cob_calc.specs.Contents.{bound_at}
 use Rattle.cob_world.specs.Needs.{IsNumber}
 use Rattle.data_laws.proofs.Items.{item_sound}
-use Rattle.result_ranges.specs.Receivers.{receiver_of}
-use Rattle.result_ranges.specs.Sizes.{IsReceiver}
-use Rattle.guard_ranges.specs.Small.{is_short, end_bound}
-use Rattle.cell_amounts.specs.Small.{is_small_sender}
+use Rattle.transfer_ranges.specs.Receivers.{receiver_of}
+use Rattle.transfer_ranges.specs.Sizes.{IsReceiver}
+use Rattle.transfer_ranges.specs.Small.{is_short, end_bound}
+use Rattle.edge_amounts.specs.Small.{is_small_sender}
 
 -- ---- bounds of 18 digits
 

@@ -8,11 +8,11 @@ use Rattle.cob_data.specs.declared.layout.Pair.{Pair}
 use Rattle.cob_data.specs.declared.layout.Sender.TheVariants as sender
 use Rattle.cob_program.specs.Logic.{Test, numbers, texts, member, numeric, always}
 use Rattle.cob_runs.specs.Deciding.{is_number_end}
-use Rattle.cob_items.specs.WellFormed.{HasWellFormedItems}
+use Rattle.cob_store.specs.WellFormed.{HasWellFormedItems}
 use Rattle.cob_calc.specs.Comparing.{AreShortPairs, CanTest}
 use Rattle.cob_calc.specs.Contents.{bound_at}
-use Rattle.guard_ranges.specs.Members.{is_number_pair, is_number_member}
-use Rattle.guard_ranges.specs.Small.{is_short, end_bound, is_short_pair, is_small_test}
+use Rattle.transfer_ranges.specs.Members.{is_number_pair, is_number_member}
+use Rattle.transfer_ranges.specs.Small.{is_short, end_bound, is_short_pair, is_small_test}
 use Rattle.cell_laws.proofs.Short.{end_short}
 
 asked_where : (b asked : Bool) → (b ≡ true → asked ≡ true) → (if b then asked else true) ≡ true

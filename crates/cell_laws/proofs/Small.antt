@@ -10,16 +10,16 @@ use Rattle.cob_program.specs.Bounds.{is_small, is_small_stored}
 use Rattle.cob_runs.specs.declared.action.Action.{Action}
 use Rattle.cob_runs.specs.Contents.{form_at}
 use Rattle.cob_runs.specs.Moves.{takes_number}
-use Rattle.cob_items.specs.WellFormed.{HasWellFormedItems}
+use Rattle.cob_store.specs.WellFormed.{HasWellFormedItems}
 use Rattle.cob_calc.specs.Contents.{bound_at}
 use Rattle.cob_calc.proofs.Bounded.{receiver_is_small}
 use Rattle.cob_edge_parts.specs.Parts.{Amount, moved, computed, remaining, augmented, Part, divide, store, bytes_in, guard, set_count, parts_of}
 use Rattle.sum_ranges.specs.declared.ranged.Ranged.{Ranged}
-use Rattle.result_ranges.specs.Stores.{operands, sender_range}
-use Rattle.result_ranges.specs.Sizes.{IsSmallAmount}
+use Rattle.transfer_ranges.specs.Stores.{operands, sender_range}
+use Rattle.transfer_ranges.specs.Sizes.{IsSmallAmount}
 use Rattle.cell_steps.specs.Operands.{edge_amount}
-use Rattle.cell_amounts.specs.Small.{has_small_sum}
-use Rattle.cell_amounts.specs.Working.{CanWork, amount_from}
+use Rattle.edge_amounts.specs.Small.{has_small_sum}
+use Rattle.edge_amounts.specs.Working.{CanWork, amount_from}
 use Rattle.cell_laws.proofs.Doing.{can_do_at}
 use Rattle.cell_laws.proofs.PremiseDivisors.{result_is_stored}
 use Rattle.cell_laws.proofs.PremiseParts.{is_arithmetic, IsSourceAmount, IsSourcePart, every, parts_are_kept}

@@ -4,7 +4,7 @@ use Rattle.std.specs.Prelude.{IsSomeAnd}
 use Rattle.std.specs.Option.{option_map, option_map_or}
 use Rattle.dec_num.specs.declared.types.Mode.{Mode}
 use Rattle.dec_num.specs.Exact.{Fraction}
-use Rattle.decimal_interval.specs.Bounds.{Holds}
+use Rattle.interval_domain.specs.Bounds.{Holds}
 use Rattle.cob_program.specs.Sum.{Sum}
 use Rattle.cob_program.specs.Values.{Root, root_of, ◌>>=◌}
 use Rattle.cob_program.specs.Act.{Act, Program}
@@ -14,14 +14,14 @@ use Rattle.cob_edge_parts.specs.Parts.{Amount, moved, computed, remaining, augme
 use Rattle.cob_edge_parts.specs.Meaning.{Moment, with_storage, with_failure, is_left_alone, stored_bytes, stored_or_kept, amount, Stores}
 use Rattle.sum_ranges.specs.declared.ranged.Ranged.{Ranged}
 use Rattle.sum_ranges.specs.SumRanges.{sum_range}
-use Rattle.result_ranges.specs.declared.amounts.Taken.{Taken}
-use Rattle.result_ranges.specs.declared.amounts.AmountRange.{AmountRange}
-use Rattle.result_ranges.specs.Receivers.{receiver_of}
-use Rattle.result_ranges.specs.Amounts.{IsAmount}
-use Rattle.result_ranges.specs.Operands.{alone, taken_from}
-use Rattle.result_ranges.specs.Stores.{operands}
-use Rattle.result_ranges.specs.ResultRanges as result
-use Rattle.result_ranges.specs.ResultRanges.{result_range}
+use Rattle.transfer_ranges.specs.declared.amounts.Taken.{Taken}
+use Rattle.transfer_ranges.specs.declared.amounts.AmountRange.{AmountRange}
+use Rattle.transfer_ranges.specs.Receivers.{receiver_of}
+use Rattle.transfer_ranges.specs.Amounts.{IsAmount}
+use Rattle.transfer_ranges.specs.Operands.{alone, taken_from}
+use Rattle.transfer_ranges.specs.Stores.{operands}
+use Rattle.transfer_ranges.specs.ResultRanges as result
+use Rattle.transfer_ranges.specs.ResultRanges.{result_range}
 use Rattle.cell_laws.specs.Places.{IsStored}
 use Rattle.cell_steps.specs.Operands.{amount_of, is_remainder}
 use Rattle.cell_steps.specs.Seen.{Seen}

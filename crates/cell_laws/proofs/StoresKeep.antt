@@ -14,8 +14,8 @@ use Rattle.cob_data.specs.declared.layout.Layout.{Layout}
 use Rattle.cob_data.specs.declared.layout.Item.{Item}
 use Rattle.cob_data.specs.declared.layout.Sender.{Sender}
 use Rattle.cob_data.specs.declared.layout.Sender.TheVariants as sender
-use Rattle.decimal_interval.specs.declared.bounds.Interval.{Interval}
-use Rattle.decimal_interval.specs.Bounds.{Holds}
+use Rattle.interval_domain.specs.declared.bounds.Interval.{Interval}
+use Rattle.interval_domain.specs.Bounds.{Holds}
 use Rattle.num_bytes.specs.Reading.{contents_value}
 use Rattle.cob_program.specs.declared.act.Target.{Target}
 use Rattle.cob_program.specs.declared.act.How.{How}
@@ -32,11 +32,11 @@ use Rattle.cob_edge_parts.specs.Parts.{Amount, moved, computed, remaining, augme
 use Rattle.cob_edge_parts.specs.Meaning as run
 use Rattle.cob_edge_parts.specs.Meaning.{Moment, with_own, divides_by, amount, ReadsAt}
 use Rattle.sum_ranges.specs.Ranged.{decimal, IsIn}
-use Rattle.result_ranges.specs.declared.amounts.Taken.{Taken}
-use Rattle.result_ranges.specs.Amounts.{IsAmount}
+use Rattle.transfer_ranges.specs.declared.amounts.Taken.{Taken}
+use Rattle.transfer_ranges.specs.Amounts.{IsAmount}
 use Rattle.graph_runs.specs.Counters.{PassesPart, PassesParts}
 use Rattle.cell_laws.specs.Places.{IsBehindOperands, EndsWithRead, IsComputed, IsBehindSender, Moves, Augments, Counts, IsStored, IsInPlace}
-use Rattle.cell_rows.specs.Known.{Known, KnownFits}
+use Rattle.interval_domain.specs.Known.{Known, KnownFits}
 use Rattle.cell_steps.specs.Homes.{Home, of_item, homes_of, picture_range, form_range}
 use Rattle.cell_steps.specs.Premises.{HasSoundItems}
 use Rattle.cell_steps.specs.Storages.{storage, known_of, value_at, KnownStands, StandsIn}

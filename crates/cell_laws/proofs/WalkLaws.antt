@@ -3,8 +3,8 @@ use Rattle.std.specs.Prelude.{◌≡◌, ◌↔◌, ℕ, ◌≤ℤ◌, Bool, tru
 use Rattle.dec_num.specs.declared.types.Mode.{Mode}
 use Rattle.dec_num.specs.declared.types.Scaled.{Scaled}
 use Rattle.dec_num.specs.Exact.{Fraction}
-use Rattle.decimal_interval.specs.declared.bounds.Interval.{Interval}
-use Rattle.decimal_interval.specs.Bounds.{Holds}
+use Rattle.interval_domain.specs.declared.bounds.Interval.{Interval}
+use Rattle.interval_domain.specs.Bounds.{Holds}
 use Rattle.cob_tree.specs.declared.form.Form.{Form}
 use Rattle.cob_data.specs.declared.layout.Layout.{Layout}
 use Rattle.cob_program.specs.declared.act.Target.{Target}
@@ -18,18 +18,18 @@ use Rattle.cob_runs.specs.Computing.{items_in, are_numeric, worth}
 use Rattle.cob_runs.specs.Deciding.{test_holds}
 use Rattle.cob_edge_parts.specs.Meaning.{is_positive}
 use Rattle.sum_ranges.specs.declared.ranged.Ranged.{Ranged}
-use Rattle.result_ranges.specs.declared.amounts.AmountRange.{AmountRange}
-use Rattle.result_ranges.specs.declared.amounts.Receiver.{Receiver}
-use Rattle.result_ranges.specs.Receivers.{receiver_of}
-use Rattle.result_ranges.specs.Amounts.{IsAmount}
-use Rattle.result_ranges.specs.Results.{IsExceeded, IsLeastIfAny, IsKept}
-use Rattle.result_ranges.specs.ResultRanges.{result_range, may_fail, exceeds, fitted}
-use Rattle.guard_ranges.specs.Guards.{guarded}
-use Rattle.guard_ranges.specs.Counts.{count_kept}
-use Rattle.guard_ranges.specs.Meaning.{ItemsHold, CutsHold}
+use Rattle.transfer_ranges.specs.declared.amounts.AmountRange.{AmountRange}
+use Rattle.transfer_ranges.specs.declared.amounts.Receiver.{Receiver}
+use Rattle.transfer_ranges.specs.Receivers.{receiver_of}
+use Rattle.transfer_ranges.specs.Amounts.{IsAmount}
+use Rattle.transfer_ranges.specs.Results.{IsExceeded, IsLeastIfAny, IsKept}
+use Rattle.transfer_ranges.specs.ResultRanges.{result_range, may_fail, exceeds, fitted}
+use Rattle.transfer_ranges.specs.Guards.{guarded}
+use Rattle.transfer_ranges.specs.Counts.{count_kept}
+use Rattle.transfer_ranges.specs.Meaning.{ItemsHold, CutsHold}
 use Rattle.cell_laws.proofs.ResultLaws as rises
 use Rattle.cell_laws.specs.Places.{PartsAreInPlace, ArithmeticIsDone}
-use Rattle.cell_rows.specs.Known.{Known}
+use Rattle.interval_domain.specs.Known.{Known}
 use Rattle.cell_steps.specs.Storages.{storage, StandsIn}
 use Rattle.cell_steps.specs.Premises.{HasSoundItems}
 use Rattle.cell_steps.specs.Operands.{edge_operands}

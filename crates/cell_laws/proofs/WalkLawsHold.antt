@@ -1,11 +1,11 @@
 -- The laws that the walk over cells takes, with those of results, guards and operands put in.
-use Rattle.result_ranges.proofs.Keeping.{kept_least, exceeded}
-use Rattle.result_ranges.proofs.Fitting.{kept_is_told, stored_in_range}
-use Rattle.result_ranges.proofs.Meant.{computed_in, remaining_in}
-use Rattle.result_ranges.proofs.Rests.{plus_in}
-use Rattle.guard_ranges.proofs.GuardLaws.{guard_holds}
-use Rattle.guard_ranges.proofs.CountLaws.{count_holds}
-use Rattle.guard_ranges.proofs.Agreement.{numeric_sum}
+use Rattle.transfer_ranges.proofs.Keeping.{kept_least, exceeded}
+use Rattle.transfer_ranges.proofs.Fitting.{kept_is_told, stored_in_range}
+use Rattle.transfer_ranges.proofs.Meant.{computed_in, remaining_in}
+use Rattle.transfer_ranges.proofs.Rests.{plus_in}
+use Rattle.transfer_ranges.proofs.GuardLaws.{guard_holds}
+use Rattle.transfer_ranges.proofs.CountLaws.{count_holds}
+use Rattle.transfer_ranges.proofs.Agreement.{numeric_sum}
 use Rattle.cell_laws.proofs.Parts.{parts_are_in_place, arithmetic_is_done}
 use Rattle.cell_laws.proofs.ResultLawsHold.{rising}
 use Rattle.cell_laws.proofs.AmountLaws as operands

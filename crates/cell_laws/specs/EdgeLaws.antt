@@ -11,8 +11,8 @@ use Rattle.cob_edge_parts.specs.Meaning.{Moment}
 use Rattle.cob_edge_parts.specs.Edges.{fault_edge}
 use Rattle.dom_laws.specs.Walking.{IsSound}
 use Rattle.graph_runs.specs.Counters.{PassesParts, MeetsAmong}
-use Rattle.cell_rows.specs.Known.{Known}
-use Rattle.cell_rows.specs.Elements.{CellsFit, ElementFits, CellsBelow, ElementBelow}
+use Rattle.interval_domain.specs.Known.{Known}
+use Rattle.interval_domain.specs.Elements.{CellsFit, ElementFits, CellsBelow, ElementBelow}
 use Rattle.cell_steps.specs.Homes.{owns}
 use Rattle.cell_steps.specs.Storages.{storage, StandsIn, ElementStands}
 use Rattle.cell_steps.specs.Seen.{Seen}

@@ -8,8 +8,8 @@ use Rattle.cob_program.specs.Act.{Program}
 use Rattle.cob_program.specs.Values.{◌>>=◌}
 use Rattle.cob_runs.specs.Contents.{item_at}
 use Rattle.cob_runs.specs.Moves.{moved}
-use Rattle.decimal_interval.specs.Corners.{interval}
-use Rattle.cell_rows.specs.Known.{Known}
+use Rattle.interval_domain.specs.Corners.{interval}
+use Rattle.interval_domain.specs.Known.{Known}
 use Rattle.cell_steps.specs.Homes.{Home, of_item, of_count, homes_of}
 
 -- the bytes of the VALUE that an item begins with, if it has one

@@ -11,9 +11,9 @@ use Rattle.cob_graph.specs.declared.graph.Graph.{Graph}
 use Rattle.cob_graph.specs.Lookup.{node_at}
 use Rattle.dom_laws.specs.Flow.{Flow}
 use Rattle.dom_laws.specs.Meaning.{Meaning}
-use Rattle.cell_rows.specs.Known.{Known}
-use Rattle.cell_rows.specs.Elements.{Element}
-use Rattle.cell_rows.specs.Rows.{row_from, width_of, element_of}
+use Rattle.interval_domain.specs.Known.{Known}
+use Rattle.interval_domain.specs.Elements.{Element}
+use Rattle.interval_domain.specs.Rows.{row_from, width_of, element_of}
 use Rattle.graph_runs.specs.Places.{edge_at}
 use Rattle.graph_runs.specs.Flows.{flow_over}
 use Rattle.graph_runs.specs.Doing.{graph_runs}

@@ -8,17 +8,17 @@ use Rattle.cob_tree.specs.declared.form.Form.TheVariants as form
 use Rattle.cob_data.specs.declared.layout.Layout.{Layout}
 use Rattle.cob_data.specs.declared.layout.Sender.{Sender}
 use Rattle.cob_data.specs.declared.layout.Sender.TheVariants as sender
-use Rattle.cob_items.specs.WellFormed.{IsShort, IsCountable, IsConstant, IsWellFormedForm, HasWellFormedItems}
+use Rattle.cob_store.specs.WellFormed.{IsShort, IsCountable, IsConstant, IsWellFormedForm, HasWellFormedItems}
 use Rattle.cob_program.specs.declared.act.How.TheVariants as how
 use Rattle.cob_program.specs.Act.{Act, Program}
 use Rattle.cob_runs.specs.declared.action.Action.{Action}
 use Rattle.cob_edge_parts.specs.Parts.{Amount, moved, computed, remaining, augmented, Part, read, unread, divide, store, bytes_in, guard, read_count, set_count, count_down, guard_count}
 use Rattle.sum_ranges.specs.declared.ranged.Ranged.{Ranged}
-use Rattle.result_ranges.specs.declared.amounts.AmountRange.{AmountRange}
-use Rattle.result_ranges.specs.declared.amounts.AmountRange.TheVariants as range
-use Rattle.result_ranges.specs.declared.amounts.Taken.{Taken}
-use Rattle.result_ranges.specs.Sizes.{IsSmallAmount}
-use Rattle.cell_amounts.specs.Working.{CanGive, CanWork}
+use Rattle.transfer_ranges.specs.declared.amounts.AmountRange.{AmountRange}
+use Rattle.transfer_ranges.specs.declared.amounts.AmountRange.TheVariants as range
+use Rattle.transfer_ranges.specs.declared.amounts.Taken.{Taken}
+use Rattle.transfer_ranges.specs.Sizes.{IsSmallAmount}
+use Rattle.edge_amounts.specs.Working.{CanGive, CanWork}
 use Rattle.cell_laws.specs.Sizes.{IsSmallStore, IsSmallPart}
 
 -- ---- items

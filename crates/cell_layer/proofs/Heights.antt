@@ -1,8 +1,8 @@
 -- How often rows can grow, list by list.
 use Rattle.std.proofs.Common.{◌≡◌, ◌+◌, ◌*◌, List, [], ◌∷◌, ◌++◌, length, ℤ, Vec, refl, ap, ◌∙◌, arith}
 use Rattle.std.specs.declared.alloc.Global.{Global}
-use Rattle.cell_rows.specs.Elements.{cells_height}
-use Rattle.cell_rows.specs.Rows.{lists_of}
+use Rattle.interval_domain.specs.Elements.{cells_height}
+use Rattle.interval_domain.specs.Rows.{lists_of}
 
 height_more : (lists : List (List ℤ)) (ts : List ℤ) → cells_height (lists ++ ts ∷ []) ≡ cells_height lists + (2 * length ts + 1)
 height_more [] ts = omega arith

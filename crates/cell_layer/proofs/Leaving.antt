@@ -15,16 +15,16 @@ use Rattle.cob_runs.specs.declared.action.Cell.{Cell}
 use Rattle.cob_graph.specs.declared.graph.Edge.{Edge}
 use Rattle.cob_graph.specs.declared.graph.Graph.{Graph}
 use Rattle.cob_graph.specs.Graphs.{cells_of as program_cells}
-use Rattle.borrowed_parts.specs.PartView.{edge_parts}
-use Rattle.cell_rows.specs.Known.{Known}
-use Rattle.cell_rows.specs.Elements.{CellsFit}
-use Rattle.cell_rows.specs.Rows.{IsReached, cells_of}
-use Rattle.cell_rows.proofs.AllCells.{fits_length}
+use Rattle.edge_amounts.specs.PartView.{edge_parts}
+use Rattle.interval_domain.specs.Known.{Known}
+use Rattle.interval_domain.specs.Elements.{CellsFit}
+use Rattle.interval_domain.specs.Rows.{IsReached, cells_of}
+use Rattle.interval_domain.proofs.AllCells.{fits_length}
 use Rattle.cell_steps.specs.Homes.{homes_of, home_range, owns}
-use Rattle.cell_walk.proofs.SmallHomes.{cells_are_small}
+use Rattle.cell_layer.proofs.SmallHomes.{cells_are_small}
 use Rattle.cell_laws.specs.Layer.{left, row_for, edge_cells, edge_clears}
 use Rattle.cell_laws.specs.Sizes.{IsSmallPart}
-use Rattle.cell_walk.specs.Statements.{act_in, number_in}
+use Rattle.cell_layer.specs.NumberedStatements.{act_in, number_in}
 use Rattle.cell_layer.specs.Statements.{IsNumbered}
 use Rattle.cell_layer.specs.Edges.{CanWalk, statement_post, statement_clears}
 use Rattle.cell_layer.specs.Held.{HasFewAt, IsHeld, IsLeft}

@@ -13,11 +13,11 @@ use Rattle.cob_program.specs.Act.{Program}
 use Rattle.cob_program.specs.Statements.{program_statements, plain_references}
 use Rattle.cob_graph.specs.declared.graph.Graph.{Graph}
 use Rattle.cob_graph.specs.Graphs.{cells_of}
-use Rattle.cob_items.specs.WellFormed.{HasWellFormedItems}
+use Rattle.cob_store.specs.WellFormed.{HasWellFormedItems}
 use Rattle.dom_laws.specs.Flow.{IsNode}
-use Rattle.decimal_interval.specs.declared.bounds.Interval.{Interval}
-use Rattle.cell_rows.specs.Elements.{AreThresholds}
-use Rattle.cell_rows.specs.Rows.{row_of, lists_of}
+use Rattle.interval_domain.specs.declared.bounds.Interval.{Interval}
+use Rattle.interval_domain.specs.Elements.{AreThresholds}
+use Rattle.interval_domain.specs.Rows.{row_of, lists_of}
 use Rattle.graph_runs.specs.Places.{no_edge}
 use Rattle.graph_runs.specs.Sources.{IsSourceGraph}
 use Rattle.graph_runs.specs.Flows.{HasEdgesInOrder, flow_over}
@@ -26,7 +26,7 @@ use Rattle.cell_steps.specs.Homes.{homes_of, home_range, owns}
 use Rattle.cell_laws.specs.Entry.{entry_cells}
 use Rattle.cell_laws.specs.Layer.{row_for}
 use Rattle.cell_layer.specs.Held.{HasFewParts, IsHeld}
-use Rattle.cell_walk.proofs.FirstCells.{homes_many}
+use Rattle.cell_layer.proofs.FirstCells.{homes_many}
 use Rattle.cell_layer.proofs.AtMostOne.{items_prop}
 
 -- a list of thresholds for each cell

@@ -8,7 +8,7 @@ use Rattle.cob_program.specs.Act.{Act, Program}
 use Rattle.cob_runs.specs.declared.action.Action.{Action}
 use Rattle.cob_edge_parts.specs.Parts.{Part}
 use Rattle.cell_steps.specs.Seen.{Seen}
-use Rattle.cell_walk.specs.Walks.{step_small, clears_small, steps_small, clears_all_small}
+use Rattle.cell_layer.specs.Walks.{step_small, clears_small, steps_small, clears_all_small}
 
 module _ (p : Program) (a : Act) (x : Action) where
   abbrev pub step_of : List Part → ℕ → Seen → Option Seen

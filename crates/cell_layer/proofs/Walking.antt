@@ -6,19 +6,19 @@ use Rattle.cob_tree.specs.declared.fault.Kind.{Kind}
 use Rattle.cob_program.specs.Act.{Stmt, Act, Program}
 use Rattle.cob_runs.specs.declared.action.Action.{Action}
 use Rattle.cob_runs.specs.declared.action.Cell.{Cell}
-use Rattle.borrowed_parts.specs.PartView.{edge_parts}
-use Rattle.cell_rows.specs.Known.{Known}
-use Rattle.cell_rows.specs.Elements.{CellsFit}
-use Rattle.cell_rows.specs.Rows.{cells_of, width_of}
-use Rattle.cell_rows.proofs.Places.{words_length}
+use Rattle.edge_amounts.specs.PartView.{edge_parts}
+use Rattle.interval_domain.specs.Known.{Known}
+use Rattle.interval_domain.specs.Elements.{CellsFit}
+use Rattle.interval_domain.specs.Rows.{cells_of, width_of}
+use Rattle.interval_domain.proofs.Places.{words_length}
 use Rattle.cell_steps.specs.Homes.{homes_of, home_range, owns}
 use Rattle.cell_steps.specs.Seen.{Seen, beginning}
 use Rattle.cell_steps.specs.Edges.{finished}
-use Rattle.cell_walk.specs.ProgramRows.{IsRowOf}
+use Rattle.cell_layer.specs.ProgramRows.{IsRowOf}
 use Rattle.cell_laws.specs.Sizes.{IsSmallPart}
-use Rattle.cell_walk.specs.Statements.{act_in}
-use Rattle.cell_walk.specs.Walks.{steps_small, clears_all_small, CanStep}
-use Rattle.cell_walk.proofs.SmallEdges.{posts_are_small, clears_are_small}
+use Rattle.cell_layer.specs.NumberedStatements.{act_in}
+use Rattle.cell_layer.specs.Walks.{steps_small, clears_all_small, CanStep}
+use Rattle.cell_layer.proofs.SmallEdges.{posts_are_small, clears_are_small}
 use Rattle.cell_layer.specs.Edges.{statement_post, statement_clears}
 
 pub width_is : (p : Program) (cells : List Cell) (row : List ℤ) → IsRowOf p cells row → length row ≡ width_of (owns p)

@@ -5,18 +5,18 @@ use Rattle.cob_tree.specs.declared.fault.Kind.{Kind}
 use Rattle.cob_program.specs.Act.{Stmt, Program}
 use Rattle.cob_runs.specs.declared.action.Action.{Action}
 use Rattle.cob_runs.specs.declared.action.Cell.{Cell}
-use Rattle.borrowed_parts.specs.PartView.{edge_parts}
-use Rattle.cell_rows.specs.Known.{Known}
-use Rattle.cell_rows.specs.Elements.{Element, CellsFit}
-use Rattle.cell_rows.specs.Rows.{cells_of}
+use Rattle.edge_amounts.specs.PartView.{edge_parts}
+use Rattle.interval_domain.specs.Known.{Known}
+use Rattle.interval_domain.specs.Elements.{Element, CellsFit}
+use Rattle.interval_domain.specs.Rows.{cells_of}
 use Rattle.cell_steps.specs.Homes.{owns}
 use Rattle.cell_steps.specs.Seen.{beginning}
 use Rattle.cell_steps.specs.Clearing.{clears_parts}
 use Rattle.cell_steps.specs.Edges.{steps, finished}
-use Rattle.cell_walk.specs.SmallCells.{has_small_cells}
-use Rattle.cell_walk.specs.ProgramRows.{IsRowOf}
+use Rattle.cell_layer.specs.SmallCells.{has_small_cells}
+use Rattle.cell_layer.specs.ProgramRows.{IsRowOf}
 use Rattle.cell_laws.specs.Sizes.{IsSmallPart}
-use Rattle.cell_walk.specs.Statements.{act_in}
+use Rattle.cell_layer.specs.NumberedStatements.{act_in}
 
 module _ (p : Program) (y : Stmt) (x : Action) where
   abbrev pub statement_post : List Known → Element

@@ -12,7 +12,7 @@ use Rattle.cob_graph.specs.declared.graph.Graph.{Graph}
 use Rattle.cob_edge_parts.specs.Parts.{parts_of}
 use Rattle.graph_runs.specs.Sources.{IsSourceGraph}
 use Rattle.cell_laws.specs.Layer.{left}
-use Rattle.cell_walk.specs.Statements.{number_in, act_in}
+use Rattle.cell_layer.specs.NumberedStatements.{number_in, act_in}
 
 -- The parts of an edge can be counted by a `u32`.
 abbrev pub HasFewAt : Program → Graph → Edge → Type 0

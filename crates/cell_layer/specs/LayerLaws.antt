@@ -7,14 +7,14 @@ use Rattle.std.specs.Borrow.{Bor}
 use Rattle.cob_program.specs.declared.act.Stmt as declared_stmt
 use Rattle.cob_program.specs.Act.{Program}
 use Rattle.cob_graph.specs.declared.graph.Graph.{Graph}
-use Rattle.decimal_interval.specs.declared.bounds.Interval.{Interval}
+use Rattle.interval_domain.specs.declared.bounds.Interval.{Interval}
 use Rattle.dom_laws.specs.Lattice.{IsLattice}
 use Rattle.dom_laws.specs.Flow.{IsFlow}
 use Rattle.dom_laws.specs.Meaning.{IsMeaning}
-use Rattle.cell_rows.specs.Known.{HasEnds}
-use Rattle.cell_rows.specs.Elements.{AreThresholds}
-use Rattle.cell_rows.specs.Rows.{cells_lattice}
-use Rattle.cell_rows.proofs.Rows.{cells_are_a_lattice}
+use Rattle.interval_domain.specs.Known.{HasEnds}
+use Rattle.interval_domain.specs.Elements.{AreThresholds}
+use Rattle.interval_domain.specs.Rows.{cells_lattice}
+use Rattle.interval_domain.proofs.Rows.{cells_are_a_lattice}
 use Rattle.graph_runs.specs.Sources.{IsSourceGraph}
 use Rattle.cell_steps.specs.Homes.{owns}
 use Rattle.cell_laws.specs.Layer.{cell_flow, cell_meaning}

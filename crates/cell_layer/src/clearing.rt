@@ -4,8 +4,8 @@ ghost use Rattle.std.specs.List.{list_all};
 ghost use Rattle.std.specs.List.Sorted.{IsNonDecreasingBy};
 ghost use Rattle.cob_program.specs.ActView.{plain_program};
 ghost use Rattle.graph_runs.specs.Places.{no_edge};
-ghost use Rattle.cell_rows.specs.Elements.{CellsFit};
-ghost use Rattle.cell_rows.specs.Rows.{IsReached, cells_of, lists_of};
+ghost use Rattle.interval_domain.specs.Elements.{CellsFit};
+ghost use Rattle.interval_domain.specs.Rows.{IsReached, cells_of, lists_of};
 ghost use Rattle.cell_steps.specs.Homes.{owns};
 ghost use Rattle.cell_laws.specs.Layer.{leaves_clear, cell_meaning};
 ghost use Rattle.cell_layer.specs.Held.{IsHeld};
@@ -13,11 +13,11 @@ ghost use Rattle.cell_layer.specs.LayerLaws.{means_by};
 
 use crate::edges::clears_edge;
 use crate::layer::CellLayer;
-use cell_rows::is_reached;
 use cob_graph::{Edge, Graph};
 use cob_program::{Program, Stmt};
 use cob_tree::Kind;
 use dom_laws::Layer;
+use interval_domain::is_reached;
 
 /// How many edges leave earlier nodes, where edges stand in the order of their sources.
 pub fn edges_before(edges: &[Edge], node: u32) -> usize

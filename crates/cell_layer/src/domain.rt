@@ -2,14 +2,14 @@
 ghost use Rattle.std.specs.Prelude.{◌≡◌, ◌+◌, ◌*◌, ◌≤◌, length};
 ghost use Rattle.std.specs.List.{All};
 ghost use Rattle.cob_program.specs.ActView.{plain_program};
-ghost use Rattle.cell_rows.specs.Elements.{height_of};
-ghost use Rattle.cell_rows.specs.Rows.{cells_lattice, lists_of};
+ghost use Rattle.interval_domain.specs.Elements.{height_of};
+ghost use Rattle.interval_domain.specs.Rows.{cells_lattice, lists_of};
 ghost use Rattle.cell_steps.specs.Homes.{owns};
 ghost use Rattle.cell_layer.specs.LayerLaws.{ordered_by};
 
 use crate::layer::CellLayer;
-use cell_rows::{join, leq, set_unreached, widen};
 use dom_laws::Domain;
+use interval_domain::{join, leq, set_unreached, widen};
 
 // how often a row can grow
 fn height_of(thresholds: &[Vec<i64>]) -> u64

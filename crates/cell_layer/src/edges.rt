@@ -5,23 +5,25 @@ ghost use Rattle.cob_program.specs.ActView.{plain_stmt, plain_program};
 ghost use Rattle.cob_program.specs.Statements.{program_statements, plain_references};
 ghost use Rattle.cob_edge_parts.specs.Parts.{has_phrase, is_handled};
 ghost use Rattle.graph_runs.specs.Sources.{IsSourceGraph};
-ghost use Rattle.cell_rows.specs.Elements.{CellsFit};
-ghost use Rattle.cell_rows.specs.Rows.{IsReached, cells_of, row_from, width_of};
+ghost use Rattle.interval_domain.specs.Elements.{CellsFit};
+ghost use Rattle.interval_domain.specs.Rows.{IsReached, cells_of, row_from, width_of};
 ghost use Rattle.cell_steps.specs.Homes.{owns};
 ghost use Rattle.cell_laws.specs.Layer.{statement_at, left, row_for, edge_cells, edge_clears};
-ghost use Rattle.cell_walk.specs.Statements.{act_in, number_in};
+ghost use Rattle.cell_layer.specs.NumberedStatements.{act_in, number_in};
 ghost use Rattle.cell_layer.specs.Statements.{IsNumbered};
 ghost use Rattle.cell_layer.specs.Edges.{CanWalk, statement_post, statement_clears};
 ghost use Rattle.cell_layer.specs.Held.{IsHeld, HasFewAt, HasFewParts};
 
+use crate::edge_walk::walk;
+use crate::kept::Kept;
+use crate::part_clearing::clears_part;
 use crate::statements::statement_with;
-use borrowed_parts::part_count;
-use cell_rows::set_unreached;
-use cell_walk::{Kept, clears_part, walk};
 use cob_graph::{Edge, Graph};
 use cob_program::{Act, Program, Stmt};
 use cob_runs::{Action, Cell};
 use cob_tree::Kind;
+use edge_amounts::part_count;
+use interval_domain::set_unreached;
 
 // whether the statement has ON SIZE ERROR
 fn has_phrase(statement: &Stmt) -> bool

@@ -2,11 +2,11 @@
 ghost use Rattle.std.specs.Prelude.{◌≡◌, ◌≤◌, ◌*◌, suc, length, IfOk};
 ghost use Rattle.cob_program.specs.ActView.{plain_program};
 ghost use Rattle.cob_graph.specs.Graphs.{cells_of};
-ghost use Rattle.cob_items.specs.WellFormed.{HasWellFormedItems};
-ghost use Rattle.cell_rows.specs.Rows.{row_of};
+ghost use Rattle.cob_store.specs.WellFormed.{HasWellFormedItems};
+ghost use Rattle.interval_domain.specs.Rows.{row_of};
 ghost use Rattle.cell_laws.specs.Entry.{entry_cells};
 
-use cell_walk::first;
+use crate::firsts::first;
 use cob_program::Program;
 use cob_runs::Cell;
 use std::alloc::{AllocError, Global};

@@ -3,14 +3,14 @@ ghost use Rattle.std.specs.Prelude.{◌≡◌, ◌≤◌, ◌-◌, false, length
 ghost use Rattle.cob_program.specs.ActView.{plain_program};
 ghost use Rattle.graph_runs.specs.Places.{no_edge};
 ghost use Rattle.cell_laws.specs.Layer.{cell_flow};
-ghost use Rattle.cell_rows.specs.Rows.{lists_of};
+ghost use Rattle.interval_domain.specs.Rows.{lists_of};
 ghost use Rattle.cell_layer.specs.LayerLaws.{flows_by};
 
 use crate::edges::post_edge;
 use crate::layer::CellLayer;
-use cell_rows::is_reached;
 use cob_graph::Edge;
 use dom_laws::{Steps, System};
+use interval_domain::is_reached;
 use std::sync::ledger::Ledger;
 
 /// The edge with a number, which counts from 1.

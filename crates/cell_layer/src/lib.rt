@@ -4,17 +4,45 @@
 #![tactic(auto)]
 
 mod clearing;
+mod counters;
+mod counting;
+mod dividing;
 mod domain;
+mod each_part;
+mod edge_walk;
 mod edges;
 mod entry;
+mod firsts;
 mod flowing;
+mod forgetting;
 mod heads;
+mod items;
+mod kept;
+mod knowing;
 mod layer;
+mod part_clearing;
+mod pictures;
+mod reads;
+mod scales;
 mod statements;
+mod stores;
+mod sums;
+mod taking;
+mod tests_of;
 
 pub use clearing::{edge_at, edges_before, leaves};
+pub use counters::count_units;
+pub use edge_walk::{parts, walk};
 pub use edges::{clears_edge, has_few_parts, left};
 pub use entry::entry_row;
+pub use firsts::first;
 pub use flowing::{edge_with, is_marked};
+pub use forgetting::share_bytes;
 pub use heads::heads_of;
+pub use items::{KnownItems, item_is_numeric, item_range};
+pub use kept::{Kept, with_operands};
+pub use knowing::{known_of_count, known_of_item};
 pub use layer::CellLayer;
+pub use part_clearing::clears_part;
+pub use scales::Taken;
+pub use taking::taken;

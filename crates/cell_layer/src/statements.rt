@@ -2,7 +2,7 @@
 ghost use Rattle.std.specs.Prelude.{◌≡◌, None, IfSome};
 ghost use Rattle.std.specs.List.{All};
 ghost use Rattle.cob_program.specs.ActView.{plain_stmt};
-ghost use Rattle.cell_walk.specs.Statements.{number_in};
+ghost use Rattle.cell_layer.specs.NumberedStatements.{number_in};
 ghost use Rattle.cell_layer.specs.Statements.{IsNumbered};
 
 use cob_program::Stmt;

@@ -3,11 +3,11 @@ use Rattle.std.proofs.Common.{◌≡◌, List, [], ◌∷◌, length, Bool, true
 use Rattle.std.proofs.lemmas.Int.{ints, clamps}
 use Rattle.std.proofs.lemmas.Option.{same_Some}
 use Rattle.cert_text.specs.View.{Place, NotReached, Holds}
-use Rattle.decimal_interval.specs.declared.bounds.Interval.{Interval}
-use Rattle.cell_rows.specs.Known.{Known, KnownFits}
-use Rattle.cell_rows.specs.Elements.{Element, ElementFits}
-use Rattle.claimed_rows.specs.Claims.{claimed_element, met_known, met_cells, with_cell, met, written_from}
-use Rattle.claimed_rows.proofs.Telling.{written_length}
+use Rattle.interval_domain.specs.declared.bounds.Interval.{Interval}
+use Rattle.interval_domain.specs.Known.{Known, KnownFits}
+use Rattle.interval_domain.specs.Elements.{Element, ElementFits}
+use Rattle.cert_text.specs.Claims.{claimed_element, met_known, met_cells, with_cell, met, written_from}
+use Rattle.cert_text.proofs.Telling.{written_length}
 
 known_fits : (own : Interval) (c d : Known) → met_known own c ≡ Some d → KnownFits own d
 known_fits own None d e = subst (KnownFits own) (same_Some None d e) tt

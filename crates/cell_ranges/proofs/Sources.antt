@@ -17,13 +17,13 @@ use Rattle.cob_program.specs.Statements.{program_statements}
 use Rattle.cob_runs.specs.declared.action.Cell.{Cell}
 use Rattle.cob_graph.specs.declared.graph.Graph.{Graph}
 use Rattle.cob_graph.specs.Graphs.{cell, cell_of, if_named, item_cells, counters_of, act_counters, counters, cells_of}
-use Rattle.cob_items.specs.WellFormed.{IsWellFormedForm, IsWellFormedItem}
-use Rattle.decimal_interval.specs.declared.bounds.Interval.{Interval}
+use Rattle.cob_store.specs.WellFormed.{IsWellFormedForm, IsWellFormedItem}
+use Rattle.interval_domain.specs.declared.bounds.Interval.{Interval}
 use Rattle.graph_runs.specs.Sources.{IsSourceGraph}
 use Rattle.cell_steps.specs.Homes.{own_range, owns}
 use Rattle.cell_laws.proofs.Homes.{homes_have_own_ranges}
-use Rattle.cell_rows.specs.Elements.{AreThresholds}
-use Rattle.cell_rows.specs.Rows.{lists_of}
+use Rattle.interval_domain.specs.Elements.{AreThresholds}
+use Rattle.interval_domain.specs.Rows.{lists_of}
 use Rattle.cell_ranges.specs.Ranges.{IsShort, ends_of}
 
 abbrev AreShort : List Cell → Type 0

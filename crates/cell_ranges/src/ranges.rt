@@ -1,14 +1,14 @@
 //! The own ranges of cells, and their ends as thresholds.
 ghost use Rattle.std.specs.Prelude.{◌≡◌, ◌≤◌, ◌<◌, ◌^◌, map, IfOk, unsigned_abs};
 ghost use Rattle.std.specs.List.{All};
-ghost use Rattle.cell_rows.specs.Rows.{lists_of};
+ghost use Rattle.interval_domain.specs.Rows.{lists_of};
 ghost use Rattle.cell_steps.specs.Homes.{largest, own_range};
-ghost use Rattle.claimed_rows.specs.Gaps.{IsSmall};
+ghost use Rattle.cert_text.specs.Gaps.{IsSmall};
 ghost use Rattle.cell_ranges.specs.Ranges.{IsShort, ends_of};
 
 use cob_runs::Cell;
 use dec_num::pow10;
-use decimal_interval::Interval;
+use interval_domain::Interval;
 use std::alloc::{AllocError, Global};
 
 // The greatest number of so many digits.

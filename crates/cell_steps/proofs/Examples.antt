@@ -19,8 +19,8 @@ use Rattle.cob_program.specs.Logic.{Test, numbers, member, numeric, always, test
 use Rattle.cob_program.specs.Act.{times, MkStmt, no_stmts, more_stmts, Phrase, left_out, given, Act, arith, if_, perform, range, Program}
 use Rattle.cob_program.specs.Act as act
 use Rattle.cob_runs.specs.declared.action.Action.TheVariants as action
-use Rattle.decimal_interval.specs.Corners.{interval}
-use Rattle.cell_rows.specs.Known.{Known}
+use Rattle.interval_domain.specs.Corners.{interval}
+use Rattle.interval_domain.specs.Known.{Known}
 use Rattle.cell_steps.specs.Edges.{post_cells, clears_edge}
 
 -- ---- A PIC 9, B PIC S99, C PIC 9V9, D PIC 999, X PIC XXX over D, E PIC Z9, T PIC X(20), and PERFORM .. A TIMES

@@ -17,13 +17,13 @@ use Rattle.cob_edge_parts.specs.Edges.{fault_edge}
 use Rattle.dom_laws.specs.Walking.{Walking}
 use Rattle.sum_ranges.specs.declared.ranged.Ranged.{Ranged}
 use Rattle.sum_ranges.specs.Ranged.{IsIn}
-use Rattle.result_ranges.specs.declared.amounts.Taken.{Taken}
-use Rattle.result_ranges.specs.Amounts.{IsAmount}
+use Rattle.transfer_ranges.specs.declared.amounts.Taken.{Taken}
+use Rattle.transfer_ranges.specs.Amounts.{IsAmount}
 use Rattle.graph_runs.specs.Counters.{PassesPart, FaultsAtPart, PassesParts}
 use Rattle.cell_steps.specs.Homes.{of_count, homes_of}
 use Rattle.cell_steps.specs.Storages.{storage, StandsIn}
 use Rattle.cell_steps.specs.Premises.{HasSoundItems}
-use Rattle.cell_rows.specs.Known.{Known}
+use Rattle.interval_domain.specs.Known.{Known}
 use Rattle.cell_steps.specs.Operands.{edge_amount, edge_operands, amount_of}
 use Rattle.cell_steps.specs.Seen.{Seen}
 use Rattle.cell_steps.specs.Stores.{range_at, handled}

@@ -11,9 +11,9 @@ use Rattle.cob_runs.specs.Contents.{form_at}
 use Rattle.cob_edge_parts.specs.Parts.{Amount, moved, remaining, Part, read, unread, divide, store, read_count, set_count, count_down, has_phrase}
 use Rattle.sum_ranges.specs.SumRanges.{atom_range}
 use Rattle.sum_ranges.specs.Vanishing.{holds_zero}
-use Rattle.result_ranges.specs.declared.amounts.Taken.{Taken}
-use Rattle.result_ranges.specs.Receivers.{receiver_of}
-use Rattle.result_ranges.specs.ResultRanges.{may_fail, lowered, count_may_fail}
+use Rattle.transfer_ranges.specs.declared.amounts.Taken.{Taken}
+use Rattle.transfer_ranges.specs.Receivers.{receiver_of}
+use Rattle.transfer_ranges.specs.ResultRanges.{may_fail, lowered, count_may_fail}
 use Rattle.cell_steps.specs.Homes.{of_count, homes_of}
 use Rattle.cell_steps.specs.Cells.{is_known, units_of, is_numeric}
 use Rattle.cell_steps.specs.Operands.{amount_of}

@@ -8,8 +8,8 @@ use Rattle.cob_program.specs.Act.{Turns, times, Stmt, MkStmt, Act, perform, Prog
 use Rattle.cob_program.specs.Statements.{program_statements}
 use Rattle.cob_runs.specs.declared.action.Cell.{Cell}
 use Rattle.cob_runs.specs.Contents.{form_at}
-use Rattle.decimal_interval.specs.declared.bounds.Interval.{Interval}
-use Rattle.decimal_interval.specs.Corners.{interval}
+use Rattle.interval_domain.specs.declared.bounds.Interval.{Interval}
+use Rattle.interval_domain.specs.Corners.{interval}
 
 -- ---- homes
 

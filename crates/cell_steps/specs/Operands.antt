@@ -10,10 +10,10 @@ use Rattle.cob_edge_parts.specs.Parts.{Amount, moved, computed, remaining, augme
 use Rattle.sum_ranges.specs.declared.ranged.Ranged.{Ranged}
 use Rattle.sum_ranges.specs.SumRanges.{quotient_range}
 use Rattle.sum_ranges.specs.Vanishing.{holds_zero, may_vanish}
-use Rattle.result_ranges.specs.declared.amounts.Taken.{Taken}
-use Rattle.result_ranges.specs.declared.amounts.AmountRange.{AmountRange}
-use Rattle.result_ranges.specs.Operands.{alone, is_whole}
-use Rattle.result_ranges.specs.Stores.{operands, amount_range}
+use Rattle.transfer_ranges.specs.declared.amounts.Taken.{Taken}
+use Rattle.transfer_ranges.specs.declared.amounts.AmountRange.{AmountRange}
+use Rattle.transfer_ranges.specs.Operands.{alone, is_whole}
+use Rattle.transfer_ranges.specs.Stores.{operands, amount_range}
 
 -- The amount that an edge works out of its operands: a sum, or what a sender is. The last quotient of a sum stays exact.
 abbrev pub edge_amount : Act → Action → Option Amount

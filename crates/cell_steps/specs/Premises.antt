@@ -7,7 +7,7 @@ use Rattle.cob_data.specs.declared.layout.Layout.{Layout}
 use Rattle.num_bytes.specs.Reading.{contents_value}
 use Rattle.cob_runs.specs.Contents.{item_at, form_at, bytes_at, bytes_of, digits_of}
 use Rattle.cob_runs.specs.Moves.{takes_number}
-use Rattle.decimal_interval.specs.Bounds.{Holds}
+use Rattle.interval_domain.specs.Bounds.{Holds}
 use Rattle.cell_steps.specs.Homes.{form_range}
 
 pub record HasSoundItems (l : Layout) : Type 0 where

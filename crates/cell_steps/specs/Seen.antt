@@ -1,7 +1,7 @@
 -- What is seen of a run between two parts of an edge.
 use Rattle.std.specs.Prelude.{Bool, false, List, Option, None}
-use Rattle.result_ranges.specs.declared.amounts.Taken.{Taken}
-use Rattle.cell_rows.specs.Known.{Known}
+use Rattle.transfer_ranges.specs.declared.amounts.Taken.{Taken}
+use Rattle.interval_domain.specs.Known.{Known}
 
 pub record Seen : Type 0 where
   pub cells : List Known

@@ -1,7 +1,7 @@
 -- What each part of an edge makes of what is seen before it (Cousot and Cousot 1977).
 use Rattle.std.specs.Prelude.{ℕ, ◌||◌, ◌&&◌, not, if◌then◌else◌, Bool, false, List, Option, Some, None, pos, int_le}
 use Rattle.std.specs.Option.{option_map}
-use Rattle.decimal_interval.specs.declared.bounds.Interval.{Interval}
+use Rattle.interval_domain.specs.declared.bounds.Interval.{Interval}
 use Rattle.cob_program.specs.Values.{◌>>=◌}
 use Rattle.cob_program.specs.Sum.{Atom}
 use Rattle.cob_program.specs.Logic.{Test}
@@ -11,12 +11,12 @@ use Rattle.cob_edge_parts.specs.Parts.{Part, read, unread, divide, store, bytes_
 use Rattle.sum_ranges.specs.declared.ranged.Ranged.{Ranged}
 use Rattle.sum_ranges.specs.SumRanges.{atom_range}
 use Rattle.sum_ranges.specs.Vanishing.{may_be_zero}
-use Rattle.result_ranges.specs.ResultRanges.{count_range, lowered}
-use Rattle.guard_ranges.specs.declared.cuts.Cut.{Cut}
-use Rattle.guard_ranges.specs.declared.cuts.Cuts.{Cuts}
-use Rattle.guard_ranges.specs.Guards.{guarded}
-use Rattle.guard_ranges.specs.Counts.{count_kept}
-use Rattle.cell_rows.specs.Known.{Known}
+use Rattle.transfer_ranges.specs.ResultRanges.{count_range, lowered}
+use Rattle.transfer_ranges.specs.declared.cuts.Cut.{Cut}
+use Rattle.transfer_ranges.specs.declared.cuts.Cuts.{Cuts}
+use Rattle.transfer_ranges.specs.Guards.{guarded}
+use Rattle.transfer_ranges.specs.Counts.{count_kept}
+use Rattle.interval_domain.specs.Known.{Known}
 use Rattle.cell_steps.specs.Homes.{Home, of_item, of_count, homes_of}
 use Rattle.cell_steps.specs.Cells.{units_of, is_numeric, with_known, forgotten, is_in_bytes}
 use Rattle.cell_steps.specs.Seen.{Seen, with_cells, with_zero}

@@ -5,10 +5,10 @@ use Rattle.cob_program.specs.Act.{Program}
 use Rattle.cob_runs.specs.Contents.{form_at, bytes_at}
 use Rattle.cob_edge_parts.specs.Meaning.{count_in}
 use Rattle.num_bytes.specs.Reading.{contents_value}
-use Rattle.decimal_interval.specs.Bounds.{Holds}
+use Rattle.interval_domain.specs.Bounds.{Holds}
 use Rattle.dom_laws.specs.Meaning.{Storage}
-use Rattle.cell_rows.specs.Known.{Known}
-use Rattle.cell_rows.specs.Elements.{Element}
+use Rattle.interval_domain.specs.Known.{Known}
+use Rattle.interval_domain.specs.Elements.{Element}
 use Rattle.graph_runs.specs.Counters.{IsCounted}
 use Rattle.cell_steps.specs.Homes.{Home, of_item, of_count, is_home, homes_of}
 

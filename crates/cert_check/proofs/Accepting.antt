@@ -12,14 +12,14 @@ use Rattle.cob_program.specs.Act.{Program}
 use Rattle.cob_graph.specs.declared.graph.Graph.{Graph}
 use Rattle.cob_graph.specs.declared.graph.Node.{Node}
 use Rattle.cert_text.specs.View.{Certificate}
-use Rattle.decimal_interval.specs.declared.bounds.Interval.{Interval}
+use Rattle.interval_domain.specs.declared.bounds.Interval.{Interval}
 use Rattle.dom_laws.specs.Lattice.{Lattice, IsElement}
 use Rattle.dom_laws.specs.Flow.{Flow}
 use Rattle.dom_laws.specs.Meaning.{Meaning}
-use Rattle.cell_rows.specs.Elements.{Element, ElementFits}
-use Rattle.cell_rows.specs.Rows.{row_from, width_of, element_of, cells_lattice}
-use Rattle.cell_rows.proofs.Rows.{element_back, row_width}
-use Rattle.claimed_rows.specs.Claims.{place_at}
+use Rattle.interval_domain.specs.Elements.{Element, ElementFits}
+use Rattle.interval_domain.specs.Rows.{row_from, width_of, element_of, cells_lattice}
+use Rattle.interval_domain.proofs.Rows.{element_back, row_width}
+use Rattle.cert_text.specs.Claims.{place_at}
 use Rattle.graph_runs.specs.Places.{IsOf}
 use Rattle.graph_runs.specs.Clearing.{IsClearAt}
 use Rattle.cell_steps.specs.Homes.{owns}

@@ -5,12 +5,12 @@ use Rattle.cob_tree.specs.declared.fault.Open.{Open}
 use Rattle.cob_program.specs.Act.{Program}
 use Rattle.cob_graph.specs.declared.graph.Graph.{Graph}
 use Rattle.cert_text.specs.View.{Certificate}
-use Rattle.decimal_interval.specs.declared.bounds.Interval.{Interval}
+use Rattle.interval_domain.specs.declared.bounds.Interval.{Interval}
 use Rattle.dom_laws.specs.Flow.{IsInductive}
-use Rattle.inductive_pass.specs.Leaks.{HasElements, IsFirstLeak}
-use Rattle.cell_rows.specs.Rows.{cells_lattice}
-use Rattle.claimed_rows.specs.declared.gap.Gap.{Gap}
-use Rattle.claimed_rows.specs.Claims.{claimed_row, place_at}
+use Rattle.dom_laws.specs.Leaks.{HasElements, IsFirstLeak}
+use Rattle.interval_domain.specs.Rows.{cells_lattice}
+use Rattle.cert_text.specs.declared.gap.Gap.{Gap}
+use Rattle.cert_text.specs.Claims.{claimed_row, place_at}
 use Rattle.graph_runs.specs.Sources.{IsSourceGraph}
 use Rattle.cell_steps.specs.Homes.{owns}
 use Rattle.cell_laws.specs.Layer.{cell_flow, cell_meaning}

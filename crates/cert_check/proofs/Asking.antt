@@ -13,17 +13,17 @@ use Rattle.cert_text.specs.declared.cert.Cert.{Cert}
 use Rattle.cert_text.specs.declared.cert.Element as text
 use Rattle.cert_text.specs.View.{Certificate, Place, NotReached, Holds, place_of, view}
 use Rattle.cert_text.specs.Allowed.{IsAllowed, claim_fits, claims_fit, place_fits, places_all_fit}
-use Rattle.decimal_interval.specs.declared.bounds.Interval.{Interval}
+use Rattle.interval_domain.specs.declared.bounds.Interval.{Interval}
 use Rattle.dom_laws.specs.Lattice.{Lattice, IsElement}
 use Rattle.dom_laws.specs.Flow.{Flow, IsInductive}
-use Rattle.cell_rows.specs.Known.{Known, KnownFits}
-use Rattle.cell_rows.specs.Elements.{Element, CellsFit, ElementFits}
-use Rattle.cell_rows.specs.Rows.{element_of, row_from, cells_lattice, IsSaid}
-use Rattle.claimed_rows.specs.Claims.{claimed_row, place_at}
-use Rattle.claimed_rows.specs.Gaps.{IsSmall, AreSmall, AreSmallClaims, HasSmallClaims}
+use Rattle.interval_domain.specs.Known.{Known, KnownFits}
+use Rattle.interval_domain.specs.Elements.{Element, CellsFit, ElementFits}
+use Rattle.interval_domain.specs.Rows.{element_of, row_from, cells_lattice, IsSaid}
+use Rattle.cert_text.specs.Claims.{claimed_row, place_at}
+use Rattle.cert_text.specs.Gaps.{IsSmall, AreSmall, AreSmallClaims, HasSmallClaims}
 use Rattle.cell_steps.specs.Homes.{owns}
 use Rattle.cert_check.specs.Claims.{claims_at, row_at}
-use Rattle.inductive_pass.specs.Leaks.{IsFirstLeak}
+use Rattle.dom_laws.specs.Leaks.{IsFirstLeak}
 use Rattle.cert_check.specs.Along.{arrives}
 use Rattle.cert_check.proofs.Accepting.{claimed, claimed_back}
 

@@ -8,18 +8,18 @@ use Rattle.cob_tree.specs.declared.fault.Kind.{Kind}
 use Rattle.cob_tree.specs.declared.fault.Open.{Open}
 use Rattle.cob_program.specs.Act.{Program}
 use Rattle.cob_graph.specs.declared.graph.Graph.{Graph}
-use Rattle.decimal_interval.specs.declared.bounds.Interval.{Interval}
+use Rattle.interval_domain.specs.declared.bounds.Interval.{Interval}
 use Rattle.dom_laws.specs.Lattice.{IsElement}
 use Rattle.dom_laws.specs.Flow.{Flow, IsInductive}
-use Rattle.inductive_pass.specs.Leaks.{HasElements, IsFirstLeak}
+use Rattle.dom_laws.specs.Leaks.{HasElements, IsFirstLeak}
 use Rattle.cell_steps.specs.Homes.{homes_of}
 use Rattle.cert_text.specs.View.{Certificate}
-use Rattle.claimed_rows.specs.declared.gap.Gap.{Gap}
-use Rattle.claimed_rows.specs.Claims.{claimed_row, place_at}
-use Rattle.claimed_rows.specs.MatrixClaims.{cells_in}
-use Rattle.claimed_rows.specs.MatrixClaims as matrices
-use Rattle.claimed_rows.specs.MatrixGaps as of_matrices
-use Rattle.claimed_rows.proofs.Allowing.{claims_fit_there}
+use Rattle.cert_text.specs.declared.gap.Gap.{Gap}
+use Rattle.cert_text.specs.Claims.{claimed_row, place_at}
+use Rattle.cert_text.specs.MatrixClaims.{cells_in}
+use Rattle.cert_text.specs.MatrixClaims as matrices
+use Rattle.cert_text.specs.MatrixGaps as of_matrices
+use Rattle.cert_text.proofs.Allowing.{claims_fit_there}
 use Rattle.diff_bounds.specs.declared.Pack as declared
 use Rattle.diff_steps.specs.Packs.{Pack}
 use Rattle.diff_bounds.specs.PackRows.{width_of, lists_of}

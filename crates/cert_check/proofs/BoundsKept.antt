@@ -13,23 +13,23 @@ use Rattle.dom_laws.specs.Flow.{Flow, IsNode, IsFlow, IsInductive}
 use Rattle.dom_laws.specs.Meaning.{IsMeaning}
 use Rattle.graph_runs.specs.Places.{edge_at}
 use Rattle.graph_runs.specs.Sources.{IsSourceGraph}
-use Rattle.cell_rows.specs.Rows.{element_of}
+use Rattle.interval_domain.specs.Rows.{element_of}
 use Rattle.cell_steps.specs.Homes.{homes_of, owns}
-use Rattle.cell_walk.proofs.FirstCells.{homes_many}
+use Rattle.cell_layer.proofs.FirstCells.{homes_many}
 use Rattle.cert_text.specs.declared.cert.Bound.{Bound}
 use Rattle.cert_text.specs.View.{Certificate, Place, NotReached, Holds}
 use Rattle.cert_text.specs.Allowed.{IsAllowed}
-use Rattle.claimed_rows.specs.Claims.{place_at}
-use Rattle.claimed_rows.specs.declared.gap.Gap.{Gap}
+use Rattle.cert_text.specs.Claims.{place_at}
+use Rattle.cert_text.specs.declared.gap.Gap.{Gap}
 use Rattle.diff_bounds.specs.Lattice.{matrix_of, bottom_word}
 use Rattle.diff_bounds.specs.PackRows.{words_of, matrices_in, row_of, packs_lattice}
-use Rattle.claimed_rows.specs.MatrixClaims.{claimed_matrix, claimed_matrices, claimed_word, least_matrices, matrices_from}
-use Rattle.claimed_rows.specs.MatrixClaims as matrices
-use Rattle.claimed_rows.specs.MatrixGaps as of_matrices
-use Rattle.claimed_rows.proofs.MatrixFilling.{matrix_width}
-use Rattle.claimed_rows.proofs.Standing.{rows_are_elements}
-use Rattle.claimed_rows.proofs.MatrixTelling.{gaps_tell}
-use Rattle.claimed_rows.proofs.Allowing.{claims_fit_there}
+use Rattle.cert_text.specs.MatrixClaims.{claimed_matrix, claimed_matrices, claimed_word, least_matrices, matrices_from}
+use Rattle.cert_text.specs.MatrixClaims as matrices
+use Rattle.cert_text.specs.MatrixGaps as of_matrices
+use Rattle.cert_text.proofs.MatrixFilling.{matrix_width}
+use Rattle.cert_text.proofs.Standing.{rows_are_elements}
+use Rattle.cert_text.proofs.MatrixTelling.{gaps_tell}
+use Rattle.cert_text.proofs.Allowing.{claims_fit_there}
 use Rattle.diff_steps.specs.Packs.{Pack, size_of}
 use Rattle.pack_laws.specs.Layer.{AreFacts, ArePacks, sizes_of, diff_lattice, diff_flow, diff_meaning, clears_at2, packs_post}
 use Rattle.pack_laws.specs.Packs.{home_at, pack_in}
@@ -37,7 +37,7 @@ use Rattle.pack_laws.proofs.Packed.{HasDistinctHomes}
 use Rattle.pack_laws.proofs.Distinct.{homes_of_sources_are_distinct}
 use Rattle.pack_laws.proofs.Flow.{packs_flow}
 use Rattle.pack_laws.proofs.Meaning.{packs_mean}
-use Rattle.inductive_pass.specs.Leaks.{Keeps, IsFirstLeak}
+use Rattle.dom_laws.specs.Leaks.{Keeps, IsFirstLeak}
 use Rattle.cert_check.specs.declared.ends.Leak.{Leak}
 use Rattle.cert_check.specs.Along.{led_to, arrives}
 use Rattle.cert_check.specs.Checking.{HasShape}

@@ -20,8 +20,8 @@ use Rattle.cert_text.specs.Allowed.{IsAllowed}
 use Rattle.dom_laws.specs.Flow.{IsFlow, IsInductive}
 use Rattle.dom_laws.specs.Meaning.{Storage, Runs, IsMeaning, ReachesIn, IsGranted}
 use Rattle.dom_laws.proofs.Soundness.{granted_by_facts}
-use Rattle.cell_rows.specs.Elements.{Element, ElementFits}
-use Rattle.cell_rows.specs.Rows.{cells_lattice}
+use Rattle.interval_domain.specs.Elements.{Element, ElementFits}
+use Rattle.interval_domain.specs.Rows.{cells_lattice}
 use Rattle.graph_runs.specs.Places.{IsOf}
 use Rattle.graph_runs.specs.Sources.{IsSourceGraph}
 use Rattle.graph_runs.specs.Flows.{flow_over}

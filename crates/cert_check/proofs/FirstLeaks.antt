@@ -6,8 +6,8 @@ use Rattle.cob_graph.specs.declared.graph.Graph.{Graph}
 use Rattle.cert_text.specs.View.{Certificate}
 use Rattle.dom_laws.specs.Lattice.{Lattice}
 use Rattle.dom_laws.specs.Flow.{Flow, IsEdge, IsInductive}
-use Rattle.claimed_rows.specs.declared.gap.Gap.{Gap}
-use Rattle.inductive_pass.specs.Leaks.{HasElements, Keeps, IsFirstLeak}
+use Rattle.cert_text.specs.declared.gap.Gap.{Gap}
+use Rattle.dom_laws.specs.Leaks.{HasElements, Keeps, IsFirstLeak}
 use Rattle.cert_check.specs.declared.ends.Leak.{Leak}
 use Rattle.cert_check.specs.Claims.{leak, leaks_of}
 use Rattle.cert_check.proofs.Lists.{each_empty, equal_or_less, map_empty}

@@ -5,8 +5,8 @@ use Rattle.cob_graph.specs.declared.graph.Graph.{Graph}
 use Rattle.dom_laws.specs.Flow.{IsFlow}
 use Rattle.dom_laws.specs.Meaning.{IsMeaning}
 use Rattle.graph_runs.specs.Sources.{IsSourceGraph}
-use Rattle.cell_rows.specs.Elements.{Element, ElementFits}
-use Rattle.cell_rows.specs.Rows.{cells_lattice}
+use Rattle.interval_domain.specs.Elements.{Element, ElementFits}
+use Rattle.interval_domain.specs.Rows.{cells_lattice}
 use Rattle.cell_steps.specs.Homes.{owns}
 use Rattle.cell_laws.specs.Entry.{entry_cells}
 use Rattle.cell_laws.specs.Layer.{post_at, cell_flow, cell_meaning}

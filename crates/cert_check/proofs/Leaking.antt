@@ -4,19 +4,19 @@ use Rattle.cob_program.specs.Act.{Program}
 use Rattle.cob_graph.specs.declared.graph.Graph.{Graph}
 use Rattle.cert_text.specs.View.{Certificate, Place}
 use Rattle.dom_laws.specs.Flow.{IsInductive}
-use Rattle.decimal_interval.specs.declared.bounds.Interval.{Interval}
-use Rattle.claimed_rows.specs.Gaps.{gaps}
-use Rattle.cell_rows.specs.Elements.{Element, ElementFits, ElementBelow}
-use Rattle.cell_rows.specs.Rows.{element_of, row_from, width_of, cells_lattice}
-use Rattle.cell_rows.proofs.Rows.{element_back}
-use Rattle.claimed_rows.specs.declared.gap.Gap.{Gap}
-use Rattle.claimed_rows.specs.Claims.{place_at}
-use Rattle.claimed_rows.proofs.Telling.{gaps_tell}
+use Rattle.interval_domain.specs.declared.bounds.Interval.{Interval}
+use Rattle.cert_text.specs.Gaps.{gaps}
+use Rattle.interval_domain.specs.Elements.{Element, ElementFits, ElementBelow}
+use Rattle.interval_domain.specs.Rows.{element_of, row_from, width_of, cells_lattice}
+use Rattle.interval_domain.proofs.Rows.{element_back}
+use Rattle.cert_text.specs.declared.gap.Gap.{Gap}
+use Rattle.cert_text.specs.Claims.{place_at}
+use Rattle.cert_text.proofs.Telling.{gaps_tell}
 use Rattle.graph_runs.specs.Places.{edge_at}
 use Rattle.cell_steps.specs.Homes.{owns}
 use Rattle.cell_laws.specs.Layer.{post_at, cell_flow}
 use Rattle.cert_check.specs.Claims.{leak, leaks, cell_leaks, pack_leaks, edge_gaps, comes_along, leads_to, claims_at, row_at}
-use Rattle.inductive_pass.specs.Leaks.{Keeps, IsFirstLeak}
+use Rattle.dom_laws.specs.Leaks.{Keeps, IsFirstLeak}
 use Rattle.cert_check.specs.Along.{led_to, arrives}
 use Rattle.cert_check.proofs.FirstLeaks.{none_leak, keeps_all, leaks_here, has_a_gap, first_behind}
 use Rattle.cell_ranges.proofs.Claims.{claims_fit}

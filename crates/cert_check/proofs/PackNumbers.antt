@@ -14,7 +14,7 @@ use Rattle.pack_laws.specs.Agreeing.{ArePacksOf}
 use Rattle.cert_text.specs.declared.cert.Element as text
 use Rattle.cert_text.specs.View.{Place, NotReached, Holds, place_of}
 use Rattle.cert_text.specs.Allowed.{bounds_fit, cells_rise, claims_fit, no_key, pack_fits, packs_fit, place_fits, places_all_fit}
-use Rattle.claimed_rows.specs.MatrixClaims.{HasFittingBounds, cells_in}
+use Rattle.cert_text.specs.MatrixClaims.{HasFittingBounds, cells_in}
 use Rattle.pack_laws.specs.Packs.{pack_in, packs_in, AreRisingNumbers, ArePacksOfCells}
 use Rattle.pack_laws.proofs.Packed.{HasDistinctHomes, is_pack, few_cells}
 use Rattle.cert_check.specs.Given.{AreEmptyLists}

@@ -7,8 +7,8 @@ use Rattle.diff_bounds.specs.Lattice.{matrix_of, bottom_word}
 use Rattle.cert_text.specs.declared.cert.Bound.{Bound}
 use Rattle.cert_text.specs.View.{Place, NotReached, Holds}
 use Rattle.diff_bounds.specs.PackRows.{row_of, width_of}
-use Rattle.claimed_rows.specs.MatrixClaims.{claimed_matrix, claimed_row, claimed_word, least_matrices, matrices_from}
-use Rattle.claimed_rows.proofs.MatrixFilling.{matrix_width}
+use Rattle.cert_text.specs.MatrixClaims.{claimed_matrix, claimed_row, claimed_word, least_matrices, matrices_from}
+use Rattle.cert_text.proofs.MatrixFilling.{matrix_width}
 
 module _ {X A : Type 0} (f : X → List A) (width : ℕ) (wide : (x : X) → length (f x) ≡ width) where
   -- the row at a place lies within all rows

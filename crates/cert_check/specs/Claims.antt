@@ -6,12 +6,12 @@ use Rattle.cob_tree.specs.declared.fault.Open.{Open}
 use Rattle.cob_program.specs.Act.{Program}
 use Rattle.cob_graph.specs.declared.graph.Graph.{Graph}
 use Rattle.cert_text.specs.View.{Certificate}
-use Rattle.cell_rows.specs.Elements.{Element}
-use Rattle.claimed_rows.specs.declared.gap.Gap.{Gap}
-use Rattle.claimed_rows.specs.Claims.{claimed_element, claimed_row, place_at}
-use Rattle.claimed_rows.specs.Gaps.{gaps}
-use Rattle.claimed_rows.specs.MatrixClaims as matrices
-use Rattle.claimed_rows.specs.MatrixGaps as matrices_gaps
+use Rattle.interval_domain.specs.Elements.{Element}
+use Rattle.cert_text.specs.declared.gap.Gap.{Gap}
+use Rattle.cert_text.specs.Claims.{claimed_element, claimed_row, place_at}
+use Rattle.cert_text.specs.Gaps.{gaps}
+use Rattle.cert_text.specs.MatrixClaims as matrices
+use Rattle.cert_text.specs.MatrixGaps as matrices_gaps
 use Rattle.graph_runs.specs.Places.{edge_at}
 use Rattle.cell_steps.specs.Homes.{homes_of, owns}
 use Rattle.cell_laws.specs.Entry.{entry_cells}

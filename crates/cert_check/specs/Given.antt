@@ -8,11 +8,11 @@ use Rattle.cob_graph.specs.declared.graph.Graph.{Graph}
 use Rattle.cob_graph.specs.Graphs.{cells_of}
 use Rattle.cert_text.specs.View.{Certificate}
 use Rattle.cert_text.specs.Allowed.{IsAllowed}
-use Rattle.decimal_interval.specs.declared.bounds.Interval.{Interval}
+use Rattle.interval_domain.specs.declared.bounds.Interval.{Interval}
 use Rattle.dom_laws.specs.Flow.{IsInductive}
-use Rattle.inductive_pass.specs.Leaks.{IsFirstLeak}
-use Rattle.cell_rows.specs.Rows.{cells_lattice}
-use Rattle.claimed_rows.specs.Gaps.{IsSmall}
+use Rattle.dom_laws.specs.Leaks.{IsFirstLeak}
+use Rattle.interval_domain.specs.Rows.{cells_lattice}
+use Rattle.cert_text.specs.Gaps.{IsSmall}
 use Rattle.graph_runs.specs.Sources.{IsSourceGraph}
 use Rattle.cell_steps.specs.Homes.{owns}
 use Rattle.cell_laws.specs.Layer.{cell_flow}

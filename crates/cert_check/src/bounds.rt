@@ -3,12 +3,11 @@ ghost use Rattle.std.specs.Prelude.{◌≡◌, ◌≤◌, ◌+◌, ◌*◌, ◌+
 ghost use Rattle.std.specs.List.{All, AllByRecursion, flat_map};
 ghost use Rattle.cert_text.specs.View.{place_of, view};
 ghost use Rattle.cert_text.specs.Allowed.{IsAllowed};
-ghost use Rattle.claimed_rows.specs.Claims.{place_at};
-ghost use Rattle.claimed_rows.specs.MatrixClaims.{HasFittingBounds, cells_in, claimed_row, sizes_of};
+ghost use Rattle.cert_text.specs.Claims.{place_at};
+ghost use Rattle.cert_text.specs.MatrixClaims.{HasFittingBounds, cells_in, claimed_row, sizes_of};
 ghost use Rattle.diff_bounds.specs.PackRows.{width_of};
 
-use cert_text::{Cert, Element};
-use claimed_rows::{allowed_claims_fit, set_claimed};
+use cert_text::{Cert, Element, allowed_claims_fit, set_claimed};
 use diff_bounds::Pack;
 use dom_laws::Rows;
 use std::alloc::{AllocError, Global};

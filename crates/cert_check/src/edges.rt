@@ -2,7 +2,7 @@
 ghost use Rattle.std.specs.Prelude.{◌≡◌, ◌≤◌, ◌<◌, length};
 ghost use Rattle.dom_laws.specs.Lattice.{IsElement};
 ghost use Rattle.dom_laws.specs.Flow.{IsNode};
-ghost use Rattle.inductive_pass.specs.Leaks.{HasElements};
+ghost use Rattle.dom_laws.specs.Leaks.{HasElements};
 ghost use Rattle.cert_check.specs.Along.{arrives, led_to};
 
 use dom_laws::{Rows, Steps, System};

@@ -2,7 +2,7 @@
 ghost use Rattle.std.specs.Prelude.{◌≡◌};
 ghost use Rattle.cert_check.specs.declared.ends.CheckEnd.TheVariants.{Memory};
 
-use claimed_rows::Gap;
+use cert_text::Gap;
 use std::alloc::{AllocError, AllocFailed};
 use thiserror::Error;
 

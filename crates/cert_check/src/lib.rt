@@ -14,8 +14,8 @@ mod packs;
 mod rows;
 
 pub use cell_ranges::{all_ends, own_ranges};
+pub use cert_text::Gap;
 pub use certificate::check;
-pub use claimed_rows::Gap;
+pub use dom_laws::pass;
 pub use ends::{CheckEnd, Shape};
-pub use inductive_pass::pass;
 pub use laws::accepted_claims_cover_runs;

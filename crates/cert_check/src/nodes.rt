@@ -2,7 +2,7 @@
 ghost use Rattle.std.specs.Prelude.{◌≡◌, ◌≤◌, ◌<◌, ℕ, Bool, length, IfOk};
 ghost use Rattle.cob_tree.specs.declared.fault.Kind.{Kind};
 ghost use Rattle.dom_laws.specs.Flow.{IsNode};
-ghost use Rattle.inductive_pass.specs.Leaks.{HasElements};
+ghost use Rattle.dom_laws.specs.Leaks.{HasElements};
 ghost use Rattle.cell_laws.specs.Layer.{statement_at};
 ghost use Rattle.cert_check.specs.OpenPairs.{pairs_by};
 ghost use Rattle.cert_check.specs.Clearing.{AreClearedTo, TestsTell, by_kind};

@@ -3,7 +3,7 @@ ghost use Rattle.std.specs.Prelude.{◌≡◌, ◌≢◌, ◌≤◌, [], length,
 ghost use Rattle.cob_program.specs.ActView.{plain_program};
 ghost use Rattle.dom_laws.specs.Lattice.{IsElement};
 ghost use Rattle.cert_text.specs.View.{view};
-ghost use Rattle.claimed_rows.specs.MatrixClaims.{cells_in};
+ghost use Rattle.cert_text.specs.MatrixClaims.{cells_in};
 ghost use Rattle.diff_bounds.specs.PackRows.{lists_of};
 ghost use Rattle.pack_laws.specs.Layer.{diff_lattice, diff_flow};
 ghost use Rattle.cert_check.specs.Along.{arrives};
@@ -16,15 +16,13 @@ use crate::edges::{arrive, led_to};
 use crate::ends::CheckEnd;
 use crate::nodes::open_pairs;
 use crate::rows::ClaimedRows;
-use cert_text::Cert;
-use claimed_rows::{Gap, first_matrix_gap};
+use cert_text::{Cert, Gap, first_matrix_gap};
 use cob_graph::Graph;
 use cob_program::Program;
 use cob_tree::Open;
 use diff_bounds::Pack;
 use diff_layer::DiffLayer;
-use dom_laws::{Domain, Rows};
-use inductive_pass::pass;
+use dom_laws::{Domain, Rows, pass};
 use std::alloc::{AllocError, Global};
 
 // An empty list of thresholds for each pack: a check never widens.

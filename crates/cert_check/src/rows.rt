@@ -1,13 +1,12 @@
 //! The rows that a certificate claims, all taken before the check.
 ghost use Rattle.std.specs.Prelude.{◌≡◌, ◌<◌, [], map, get_or, length, IfOk};
 ghost use Rattle.cert_text.specs.View.{place_of, view};
-ghost use Rattle.claimed_rows.specs.Claims.{claimed_row, place_at};
+ghost use Rattle.cert_text.specs.Claims.{claimed_row, place_at};
 ghost use Rattle.cert_check.specs.Rows.{words_of};
 
-use cert_text::{Cert, Element};
-use claimed_rows::set_claimed_row;
-use decimal_interval::Interval;
+use cert_text::{Cert, Element, set_claimed_row};
 use dom_laws::Rows;
+use interval_domain::Interval;
 use std::alloc::{AllocError, Global};
 
 /// The row that the claims of each node mean.

@@ -1,3 +1,15 @@
+pub mod Telling
+pub mod Filling
+pub mod Seeking
+pub mod MatrixFilling
+pub mod Sharing
+pub mod MatrixSeeking
+pub mod Standing
+pub mod MatrixTelling
+pub mod Allowing
+pub mod Adding
+pub mod Meaning
+pub mod Fitting
 pub mod Cuts
 pub mod OneLine
 pub mod Texts

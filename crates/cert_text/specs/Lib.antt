@@ -1,3 +1,10 @@
+pub mod Claims
+pub mod Gaps
+pub mod MatrixClaims
+pub mod MatrixGaps
+pub mod Written
+pub mod Bounds
+pub mod BoundLaws
 pub mod Lines
 pub mod Viable
 pub mod View

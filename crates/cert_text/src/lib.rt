@@ -2,19 +2,40 @@
 //! of such texts goes on.
 #![tactic(auto)]
 
+mod bound_laws;
+mod bounds;
 mod cert;
+mod claim_laws;
+mod claims;
 mod draft;
+mod gap;
+mod gaps;
 mod laws;
 mod line_laws;
+mod matrix_claims;
+mod matrix_gaps;
+mod matrix_laws;
 mod number;
 mod printing;
 mod reading;
 mod split;
 mod word;
 
+pub use bound_laws::{bounds_fit, bounds_mean_their_row};
+pub use bounds::bounds_of;
 pub use cert::{Bound, Cert, CertEnd, Claim, Element};
+pub use claim_laws::gaps_tell_the_order;
+pub use claims::set_claimed_row;
+pub use gap::Gap;
+pub use gaps::first_gap;
 pub use laws::{no_bad_line, one_place, one_spelling, texts_of_certificates_are_short};
 pub use line_laws::{cut_again, never_stops, one_line, one_stop, refused_nowhere};
+pub use matrix_claims::set_claimed;
+pub use matrix_gaps::first_matrix_gap;
+pub use matrix_laws::{
+    allowed_claims_fit, claimed_rows_are_elements, gaps_are_of_bounds, matrix_gaps_tell_the_order,
+    unreached_rows_are_least,
+};
 pub use printing::print;
 pub use reading::read;
 pub use split::split_line;

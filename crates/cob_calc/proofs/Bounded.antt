@@ -13,8 +13,8 @@ use Rattle.num_bytes.specs.Reading.{contents_value}
 use Rattle.cob_program.specs.Bounds.{of_digits, form_bound, is_small, IsWithin}
 use Rattle.cob_runs.specs.Contents.{area, form_at, scaled_by}
 use Rattle.cob_runs.specs.Moves.{takes_number}
-use Rattle.cob_items.specs.WellFormed.{IsWellFormedForm, IsWellFormedItem, HasWellFormedItems}
-use Rattle.cob_items.proofs.ReadBound.{read_within}
+use Rattle.cob_store.specs.WellFormed.{IsWellFormedForm, IsWellFormedItem, HasWellFormedItems}
+use Rattle.cob_store.proofs.ReadBound.{read_within}
 use Rattle.cob_calc.specs.Contents.{Contents, IsWellFormed, amount, amount_at, bound_at, IsBounded}
 
 number_within : (digits scale : ℕ) (z : Option ℤ) → ((x : ℤ) → z ≡ Some x → IsWithin (scaled_by scale x) (of_digits digits scale)) → IsWithin (scaled_by scale (unwrap_or z (pos 0))) (of_digits digits scale)

@@ -13,7 +13,7 @@ use Rattle.cob_program.specs.declared.act.How.TheVariants as how
 use Rattle.cob_runs.specs.Contents.{digits_of, scale_of, number_at, scaled_by, bytes_of, if_held, stored, filled_at}
 use Rattle.cob_runs.specs.Faults.{or_fault}
 use Rattle.cob_runs.specs.Computing.{receiving, received, own_worth}
-use Rattle.cob_items.specs.Storing.{filled_if}
+use Rattle.cob_store.specs.Storing.{filled_if}
 use Rattle.cob_calc.specs.declared.worked.Worked.{Worked}
 use Rattle.cob_calc.specs.Exact.{held, units_held, IsSmallExact}
 use Rattle.cob_calc.specs.Contents.{bound_at}

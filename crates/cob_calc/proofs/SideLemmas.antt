@@ -11,7 +11,7 @@ use Rattle.cob_tree.specs.declared.form.Form.TheVariants as form
 use Rattle.cob_tree.specs.declared.token.Num.{Num}
 use Rattle.cob_tree.specs.Forms.{is_number_form}
 use Rattle.cob_program.specs.Bounds.{of_digits, form_bound, literal_bound, IsWithin}
-use Rattle.cob_items.specs.WellFormed.{IsWellFormedForm, IsShortLiteral}
+use Rattle.cob_store.specs.WellFormed.{IsWellFormedForm, IsShortLiteral}
 use Rattle.cob_calc.specs.Comparing.{IsShortNumber, CanCompare}
 
 short_digits : (v : Scaled) (digits scale : ℕ) → digits ≤ 18 → scale ≤ 18 → IsWithin v (of_digits digits scale) → IsShortNumber v

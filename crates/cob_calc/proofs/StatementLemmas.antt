@@ -22,7 +22,7 @@ use Rattle.cob_runs.specs.Contents.{form_at, scale_of}
 use Rattle.cob_runs.specs.Faults as fault
 use Rattle.cob_runs.specs.Moves.{takes_number}
 use Rattle.cob_runs.specs.Computing.{Receiving, receiving, received, own_worth, stored_result, result, worth, items_in, has_zero_divisor, receive, receive_all, remainder_received, after_divisors, after_arithmetic}
-use Rattle.cob_items.specs.WellFormed.{HasWellFormedItems, IsWellFormedForm}
+use Rattle.cob_store.specs.WellFormed.{HasWellFormedItems, IsWellFormedForm}
 use Rattle.cob_calc.specs.declared.worked.Worked.{Worked}
 use Rattle.cob_calc.specs.Contents.{Contents, IsWellFormed, amount_at, bound_at}
 use Rattle.cob_calc.specs.Exact.{fraction_of, exact_value, IsSmallExact}

@@ -13,7 +13,7 @@ use Rattle.cob_program.specs.Bounds.{is_small_sides}
 use Rattle.cob_program.specs.Logic.{Test, numbers, texts, member, numeric, always, Logic, all_of, any_of, not_, test, Logics, no_logics, more_logics}
 use Rattle.cob_runs.specs.Computing.{items_in}
 use Rattle.cob_runs.specs.Deciding.{Order, below, equal, above}
-use Rattle.cob_items.specs.WellFormed.{IsShortLiteral}
+use Rattle.cob_store.specs.WellFormed.{IsShortLiteral}
 use Rattle.cob_calc.specs.declared.texts.Text.{Text}
 use Rattle.cob_calc.specs.declared.texts.Text.TheVariants as text
 use Rattle.cob_calc.specs.Contents.{bound_at}

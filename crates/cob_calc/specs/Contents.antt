@@ -7,7 +7,7 @@ use Rattle.cob_data.specs.declared.layout.Layout.{Layout}
 use Rattle.num_bytes.specs.Reading.{contents_value}
 use Rattle.cob_program.specs.Bounds.{Bound, form_bound, IsWithin}
 use Rattle.cob_runs.specs.Contents.{scaled_by, scale_of, form_at, bytes_at}
-use Rattle.cob_items.specs.WellFormed.{HasWellFormedItems}
+use Rattle.cob_store.specs.WellFormed.{HasWellFormedItems}
 
 pub record Contents : Type 0 where
   pub layout : Layout

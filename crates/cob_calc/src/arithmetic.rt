@@ -5,7 +5,7 @@ ghost use Rattle.cob_runs.specs.Contents.{form_at, scale_of};
 ghost use Rattle.cob_runs.specs.Moves.{takes_number};
 ghost use Rattle.cob_runs.specs.Computing.{received, stored_result, after_arithmetic};
 ghost use Rattle.dec_num.specs.declared.types.Mode.{Mode};
-ghost use Rattle.cob_items.specs.WellFormed.{HasWellFormedItems};
+ghost use Rattle.cob_store.specs.WellFormed.{HasWellFormedItems};
 ghost use Rattle.cob_calc.specs.Receiving.{rest_value, HasSmallRest, IsReceived, CanReceiveAll, remainder_by, lacks_result, zero_result, receive_unless, CanGiveRest};
 ghost use Rattle.cob_calc.specs.Arithmetic.{CanCompute};
 
@@ -14,8 +14,8 @@ use crate::exact::Exact;
 use crate::receivers::{put, receive_all};
 use crate::worked::Worked;
 use cob_data::Layout;
-use cob_items::{item_at, scale_of};
 use cob_program::{Sum, Target};
+use cob_store::{item_at, scale_of};
 use cob_tree::Kind;
 use dec_num::Mode;
 

@@ -3,7 +3,7 @@ ghost use Rattle.std.specs.Prelude.{◌≡◌, ◌+◌, ◌≤◌, is_some, leng
 ghost use Rattle.std.specs.Option.{option_copied};
 ghost use Rattle.num_bytes.specs.Reading.{contents_value};
 ghost use Rattle.cob_runs.specs.Contents.{area, item_at, number_at};
-ghost use Rattle.cob_items.specs.WellFormed.{IsWellFormedForm};
+ghost use Rattle.cob_store.specs.WellFormed.{IsWellFormedForm};
 ghost use Rattle.cob_calc.specs.Contents.{contents, IsWellFormed, amount, amount_at};
 
 use crate::numbers::scaled;

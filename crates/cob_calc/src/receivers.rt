@@ -4,16 +4,16 @@ ghost use Rattle.std.specs.Prelude.{◌≡◌, ◌||◌, length, false, is_some,
 ghost use Rattle.cob_runs.specs.Contents.{form_at, digits_of, scale_of, stored};
 ghost use Rattle.cob_runs.specs.Moves.{takes_number};
 ghost use Rattle.cob_runs.specs.Computing.{receiving, received, stored_result};
-ghost use Rattle.cob_items.specs.WellFormed.{HasWellFormedItems};
-ghost use Rattle.cob_items.specs.Storing.{filled_if};
+ghost use Rattle.cob_store.specs.WellFormed.{HasWellFormedItems};
+ghost use Rattle.cob_store.specs.Storing.{filled_if};
 ghost use Rattle.cob_calc.specs.Exact.{fraction_of, units_held, IsSmallExact};
 ghost use Rattle.cob_calc.specs.Receiving.{is_whole, IsReceived, kept_result, receive_by, receive_all_by, CanReceive, CanReceiveAll};
 
 use crate::exact::Exact;
 use crate::worked::Worked;
 use cob_data::Layout;
-use cob_items::{digits_of, item_at, number_at, scale_of, store_units};
 use cob_program::{How, Target};
+use cob_store::{digits_of, item_at, number_at, scale_of, store_units};
 use cob_tree::Kind;
 use dec_num::Mode;
 

@@ -5,7 +5,7 @@ ghost use Rattle.cob_program.specs.Values.{literal};
 ghost use Rattle.cob_runs.specs.Contents.{form_at, bytes_at, number_in, number_at};
 ghost use Rattle.cob_runs.specs.Moves.{as_digits, item_text, number_of, text_of};
 ghost use Rattle.cob_runs.specs.Deciding.{form_length, side_length, is_number_end};
-ghost use Rattle.cob_items.specs.WellFormed.{IsWellFormedForm, IsShortLiteral};
+ghost use Rattle.cob_store.specs.WellFormed.{IsWellFormedForm, IsShortLiteral};
 ghost use Rattle.cob_data.specs.declared.layout.Sender.{Sender};
 ghost use Rattle.cob_calc.specs.Contents.{IsWellFormed};
 ghost use Rattle.cob_calc.specs.Comparing.{plain_text, IsShortText, IsShortNumber, IsShortEnd};
@@ -14,7 +14,7 @@ use crate::contents::Contents;
 use crate::numbers::scaled;
 use crate::texts::Text;
 use cob_data::Sender;
-use cob_items::{literal, number_in};
+use cob_store::{literal, number_in};
 use cob_tree::{Form, Num};
 use dec_num::Scaled;
 

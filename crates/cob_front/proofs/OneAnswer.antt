@@ -4,7 +4,7 @@ use Rattle.cob_tree.specs.declared.token.Token.{Token}
 use Rattle.cob_tree.specs.Stmt.{Tree}
 use Rattle.cob_tree.specs.Symbols.{Sign, seen}
 use Rattle.cob_lex.specs.Scan.{Scan, BadLineAt, BadTokenAt, Tokens, scan_of}
-use Rattle.cob_lexemes.specs.Places.{line_at}
+use Rattle.cob_parse_expr.specs.Places.{line_at}
 use Rattle.cob_parse_proc.specs.Parsing.{IsTree, IsWrong, IsDeep}
 use Rattle.cob_parse_proc.specs.Laws as parsing
 use Rattle.cob_parse_proc.proofs.OneAnswer as parsed
@@ -14,7 +14,7 @@ use Rattle.cob_front.specs.declared.refusal.Refusal.TheVariants as end
 use Rattle.cob_front.specs.Source.{StandsFor, IsTypedTree, IsTreeCause, IsSource, IsCause, HasCause, program_of}
 use Rattle.cob_front.specs.Laws.{OneAnswer}
 use Rattle.cob_front.proofs.TreeCauses.{typed_or_cause, cause_once}
-use Rattle.cob_lines.specs.Text.{source_limit}
+use Rattle.cob_lex.specs.Text.{source_limit}
 
 -- a program, or a cause
 data Ending : Type 0 where

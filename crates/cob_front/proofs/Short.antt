@@ -7,7 +7,7 @@ use Rattle.cob_tree.specs.Items.{Item}
 use Rattle.cob_tree.specs.Symbols.{Sign, seen}
 use Rattle.cob_tree.specs.Stmt.{Tree}
 use Rattle.cob_tree.specs.PrintStmt.{print_tree}
-use Rattle.cob_lexemes.specs.Classes.{by_symbol}
+use Rattle.cob_parse_expr.specs.LexemeClasses.{by_symbol}
 use Rattle.cob_parse_proc.specs.Parsing.{IsTree}
 use Rattle.cob_tree.specs.Limits.{token_limit}
 

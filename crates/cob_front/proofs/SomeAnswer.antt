@@ -5,8 +5,8 @@ use Rattle.reading.specs.Readers.{Fault, Stop, Deep, whole}
 use Rattle.cob_tree.specs.declared.token.Token.{Token}
 use Rattle.cob_tree.specs.Stmt.{Tree}
 use Rattle.cob_tree.specs.Symbols.{seen}
-use Rattle.cob_lexemes.specs.Places.{line_at}
-use Rattle.cob_lines.specs.Text.{source_limit}
+use Rattle.cob_parse_expr.specs.Places.{line_at}
+use Rattle.cob_lex.specs.Text.{source_limit}
 use Rattle.cob_lex.specs.Scan.{Scan, BadLineAt, BadTokenAt, Tokens, scan_of}
 use Rattle.cob_parse_proc.specs.Program.{limit, tree_at}
 use Rattle.cob_parse_proc.proofs.ProgramAnswers.{tree_read, tree_stops, tree_deep}

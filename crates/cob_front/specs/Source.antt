@@ -16,7 +16,7 @@ use Rattle.cob_program.specs.ActView.{plain_program}
 use Rattle.cob_typed.specs.Typing.{IsTyped, IsOutside, typed}
 use Rattle.cob_front.specs.declared.refusal.Refusal.{Refusal}
 use Rattle.cob_front.specs.declared.refusal.Refusal.TheVariants as end
-use Rattle.cob_lines.specs.Text.{source_limit}
+use Rattle.cob_lex.specs.Text.{source_limit}
 
 -- the bytes are within the limit, and have these canonical tokens
 pub record HasTokens (bytes : List ℕ) (tokens : List Token) : Type 0 where

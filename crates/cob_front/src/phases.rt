@@ -10,14 +10,13 @@ ghost use Rattle.cob_tree.specs.Limits.{token_limit};
 
 use crate::refusal::Refusal;
 use cob_data::{DataEnd, Layout, layout_of};
-use cob_lex::{ScanEnd, tokens_in};
-use cob_lexemes::ParseEnd;
-use cob_lines::SOURCE_LIMIT;
-use cob_names::layouts_have_few_places;
+use cob_lex::{SOURCE_LIMIT, ScanEnd, tokens_in};
+use cob_parse_expr::ParseEnd;
 use cob_parse_proc::program_of;
 use cob_program::Program;
 use cob_tree::Tree;
 use cob_typed::{TypedEnd, typed_of};
+use cob_typed_exprs::layouts_have_few_places;
 use std::alloc::Global;
 
 /// The tree of a source.

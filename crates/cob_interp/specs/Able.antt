@@ -5,7 +5,7 @@ use Rattle.cob_data.specs.declared.layout.Layout.{Layout}
 use Rattle.cob_program.specs.Act.{Act, open_files, close_files, read, Program}
 use Rattle.cob_runs.specs.Effects.{act_at}
 use Rattle.cob_graph.specs.WellFormed.{IsWellFormed}
-use Rattle.cob_items.specs.WellFormed.{HasWellFormedItems}
+use Rattle.cob_store.specs.WellFormed.{HasWellFormedItems}
 use Rattle.cob_world.specs.Doing.{CanDoProgram}
 
 -- OPEN, CLOSE and READ name files of the layout

@@ -4,7 +4,7 @@ ghost use Rattle.batch_io.specs.FilesState.{FilesState, KeepsIds, known_bytes};
 ghost use Rattle.batch_io.specs.SinkState.{SinkState};
 ghost use Rattle.cob_graph.specs.Graphs.{IsGraph};
 ghost use Rattle.cob_graph.specs.WellFormed.{IsWellFormed};
-ghost use Rattle.cob_items.specs.WellFormed.{HasWellFormedItems};
+ghost use Rattle.cob_store.specs.WellFormed.{HasWellFormedItems};
 ghost use Rattle.cob_program.specs.ActView.{plain_program};
 ghost use Rattle.cob_world.specs.Doing.{CanDoProgram};
 ghost use Rattle.cob_interp.specs.declared.ends.Ended.{Ended};

@@ -1,3 +1,6 @@
+pub mod LineLemmas
+pub mod TextLemmas
+pub mod PlainLemmas
 pub mod MarkLemmas
 pub mod WordLemmas
 pub mod PieceLemmas

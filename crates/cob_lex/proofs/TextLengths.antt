@@ -7,11 +7,11 @@ use Rattle.std.proofs.lemmas.List.Sums.{count_by-le-length, length-filter}
 use Rattle.std.specs.List.{slice_split, suffix_len}
 use Rattle.std.specs.Prelude.{slice_index}
 use Rattle.std.specs.Str.Lines.{lines, lines_of_parts}
-use Rattle.cob_lines.specs.declared.Mark.{Mark}
-use Rattle.cob_lines.specs.declared.refusal.Place.{Place}
-use Rattle.cob_lines.specs.Columns.{columns, is_continuation, is_dropped, first_nonblank}
-use Rattle.cob_lines.specs.Literal.{open_literal}
-use Rattle.cob_lines.specs.Text.{Line, numbered_lines, kept, place, marks_from, mark_at, end_mark, ended, is_space, trimmed, is_nil, with_ordinary, with_continuation, with_line, closed, onward, joined, first_bad, refused_first, source_text}
+use Rattle.cob_lex.specs.declared.text.Mark.{Mark}
+use Rattle.cob_lex.specs.declared.refusal.Place.{Place}
+use Rattle.cob_lex.specs.Columns.{columns, is_continuation, is_dropped, first_nonblank}
+use Rattle.cob_lex.specs.Literal.{open_literal}
+use Rattle.cob_lex.specs.Text.{Line, numbered_lines, kept, place, marks_from, mark_at, end_mark, ended, is_space, trimmed, is_nil, with_ordinary, with_continuation, with_line, closed, onward, joined, first_bad, refused_first, source_text}
 use Rattle.cob_lex.proofs.Most.{Most, most_more}
 
 parts_are_lines : (parts : List (List ℕ)) → length (lines_of_parts parts) ≤ length parts

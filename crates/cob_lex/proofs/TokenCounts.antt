@@ -1,9 +1,9 @@
 -- How many tokens a text may have: each raw token takes a character, and rewriting makes no token more.
 use Rattle.std.proofs.Common.{◌≡◌, ℕ, ◌+◌, ◌-◌, ◌*◌, ◌≤◌, zero, suc, Bool, false, subst, arith, List, [], ◌∷◌, length, Option, None, Some, Result, Ok, Err}
 use Rattle.std.proofs.lemmas.List.{length-append, length-map}
-use Rattle.cob_lines.specs.declared.Mark.{Mark}
-use Rattle.cob_lines.specs.declared.refusal.Place as text
-use Rattle.cob_lines.specs.Text.{source_text, source_limit}
+use Rattle.cob_lex.specs.declared.text.Mark.{Mark}
+use Rattle.cob_lex.specs.declared.refusal.Place as text
+use Rattle.cob_lex.specs.Text.{source_text, source_limit}
 use Rattle.cob_tree.specs.declared.token.Token.{Token}
 use Rattle.cob_lex.specs.declared.cut.Shape.{Shape}
 use Rattle.cob_lex.specs.declared.cut.State.{State}

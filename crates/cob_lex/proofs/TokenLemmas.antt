@@ -1,6 +1,6 @@
 -- The tokens of pieces, one piece on, and the tokens of a text.
 use Rattle.std.proofs.Common.{◌≡◌, ℕ, ◌<◌, List, [], ◌∷◌, ◌++◌, length, drop, map, refl, ap, ◌∙◌, sym, arith, append_assoc, append-nil, Result, Ok, Err}
-use Rattle.cob_lines.specs.declared.Mark.{Mark}
+use Rattle.cob_lex.specs.declared.text.Mark.{Mark}
 use Rattle.cob_tree.specs.declared.token.Token.{Token}
 use Rattle.cob_lex.specs.declared.LexEnd.{LexEnd}
 use Rattle.cob_lex.specs.declared.LexEnd.TheVariants.{BadToken, Memory}

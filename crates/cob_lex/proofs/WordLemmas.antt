@@ -7,7 +7,7 @@ use Rattle.std.specs.Str.{bytes_eq}
 use Rattle.std.proofs.lemmas.Bool.{and_parts, leb-true}
 use Rattle.std.proofs.lemmas.List.{length-map, take_more_set, map_more, take_all}
 use Rattle.std.proofs.lemmas.Slice.Eq.{bytes_eq-Decides}
-use Rattle.cob_lines.specs.declared.Mark.{Mark}
+use Rattle.cob_lex.specs.declared.text.Mark.{Mark}
 use Rattle.cob_tree.specs.declared.keyword.Keyword.{Keyword}
 use Rattle.cob_tree.specs.Keywords.{text_of, keywords, keyword_among, keyword_of}
 use Rattle.cob_lex.specs.Marks.{ch_at, blank}

@@ -1,6 +1,6 @@
 -- What the reader relies on beside the tokens themselves.
 use Rattle.std.specs.Prelude.{◌<◌, ◌≤◌, List, length, Option, IfSome}
-use Rattle.cob_lines.specs.declared.Mark.{Mark}
+use Rattle.cob_lex.specs.declared.text.Mark.{Mark}
 use Rattle.cob_lex.specs.declared.cut.Cut.{Cut}
 
 -- what is cut off has characters, all of them the text's

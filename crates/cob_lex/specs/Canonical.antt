@@ -1,7 +1,7 @@
 -- The canonical tokens of a text.
 use Rattle.std.specs.Prelude.{ℕ, ◌-◌, Bool, ◌||◌, ◌==◌, min, if◌then◌else◌, List, ◌∷◌, map, length, take, drop, Option, Some, None, Result, Ok, Err}
 use Rattle.std.specs.List.{filter, position}
-use Rattle.cob_lines.specs.declared.Mark.{Mark}
+use Rattle.cob_lex.specs.declared.text.Mark.{Mark}
 use Rattle.cob_tree.specs.declared.keyword.Keyword.{Keyword}
 use Rattle.cob_tree.specs.declared.token.Num.{Num}
 use Rattle.cob_tree.specs.declared.token.Tok.{Tok}

@@ -3,7 +3,7 @@ use Rattle.std.specs.Prelude.{◌≡◌, ℕ, ◌≤◌, ◌^◌, List, length}
 use Rattle.cob_tree.specs.declared.token.Token.{Token}
 use Rattle.cob_lex.specs.Scan.{Tokens, scan_of}
 use Rattle.cob_tree.specs.Limits.{token_limit}
-use Rattle.cob_lines.specs.Text.{source_limit}
+use Rattle.cob_lex.specs.Text.{source_limit}
 
 -- a source of at most 1,048,576 bytes has at most 2^27 tokens
 abbrev pub HasFewTokens : Type 0

@@ -1,3 +1,8 @@
+pub mod Columns
+pub mod Literal
+pub mod Text
+pub mod Run
+pub mod Plain
 pub mod Marks
 pub mod Words
 pub mod Cuts

@@ -1,9 +1,9 @@
 -- What a source's bytes give: its canonical tokens, or a place at which there are none.
 use Rattle.std.specs.Prelude.{◌≡◌, ℕ, List, Result, Ok, Err, Vec}
 use Rattle.std.specs.declared.alloc.Global.{Global}
-use Rattle.cob_lines.specs.declared.Mark.{Mark}
-use Rattle.cob_lines.specs.declared.refusal.Place as text
-use Rattle.cob_lines.specs.Text.{source_text}
+use Rattle.cob_lex.specs.declared.text.Mark.{Mark}
+use Rattle.cob_lex.specs.declared.refusal.Place as text
+use Rattle.cob_lex.specs.Text.{source_text}
 use Rattle.cob_lex.specs.declared.piece.Place as lex
 use Rattle.cob_lex.specs.Canonical.{canonical_tokens}
 use Rattle.cob_tree.specs.declared.token.Token.{Token}

@@ -1,7 +1,7 @@
 -- What a run of characters is.
 use Rattle.std.specs.Prelude.{ℕ, ◌+◌, ◌-◌, Bool, not, ◌&&◌, ◌==◌, nat_lt, nat_le, List, map, length, drop, count_by, Option}
 use Rattle.std.specs.Char.{to_ascii_uppercase}
-use Rattle.cob_lines.specs.declared.Mark.{Mark}
+use Rattle.cob_lex.specs.declared.text.Mark.{Mark}
 use Rattle.cob_tree.specs.declared.keyword.Keyword.{Keyword}
 use Rattle.cob_tree.specs.Keywords.{keyword_of}
 use Rattle.cob_lex.specs.Marks.{ch_at, is_letter, is_digit, is_word_character}

@@ -9,8 +9,8 @@ use crate::mark::{
     Class, ch_at, class_of, content_len, ends_rightly, inside, is_digit, is_gap, literal_len,
     run_of, solid_len, stripped, tail,
 };
+use crate::text::Mark;
 use crate::word::{is_minus, is_unsigned, is_word, spelled_keyword};
-use cob_lines::Mark;
 use cob_tree::{Keyword, Rel};
 
 /// The kinds of raw tokens.

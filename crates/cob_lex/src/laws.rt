@@ -1,6 +1,6 @@
 //! Laws of spelling, and how many tokens a source has.
 ghost use Rattle.std.specs.Prelude.{◌≡◌, List, Ok, Err};
-ghost use Rattle.cob_lines.specs.declared.Mark.{Mark};
+ghost use Rattle.cob_lex.specs.declared.text.Mark.{Mark};
 ghost use Rattle.cob_lex.specs.declared.piece.Piece.{Piece};
 ghost use Rattle.cob_lex.specs.declared.piece.Place.{Place};
 ghost use Rattle.cob_lex.specs.Spelled.{IsSpelled, IsStopped};

@@ -7,21 +7,26 @@ ghost use Rattle.cob_lex.specs.Rows.{rewritten};
 ghost use Rattle.cob_lex.specs.declared.LexEnd.TheVariants.{Memory};
 
 mod cut;
+mod join;
 mod laws;
+mod line;
+mod literal;
 mod mark;
 mod piece;
+mod refusal;
 mod row;
 mod scan;
+mod text;
 mod token;
 mod word;
 
-use cob_lines::Mark;
 use cob_tree::Token;
 pub use laws::{one_spelling, sources_have_few_tokens, spelling_is_read};
 use piece::{Piece, raw_tokens};
 use row::rewritten;
 pub use scan::{ScanEnd, tokens_in};
 use std::alloc::{AllocError, AllocFailed, Global};
+pub use text::{Mark, SOURCE_LIMIT, TextEnd, plain_lines_stand_as_they_are, text_of};
 use token::tokens;
 
 /// Why a text has no canonical tokens.

@@ -4,7 +4,7 @@ ghost use Rattle.std.specs.Option.{ForSome};
 ghost use Rattle.std.specs.Bool.{OnTrue};
 ghost use Rattle.cob_lex.specs.Marks.{ch_at, is_letter, is_digit, is_word_character, class_of, is_gap, ends_rightly, goes_on, run_len, run_of, literal_len, undoubled, is_closed, half_behind, is_second, closed_at, inside, first_space, solid_len, stripped, is_point_comma_semicolon};
 
-use cob_lines::Mark;
+use crate::text::Mark;
 
 /// What a character may begin.
 #[derive(Clone, Copy)]

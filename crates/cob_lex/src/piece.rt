@@ -4,7 +4,7 @@ ghost use Rattle.cob_lex.specs.Pieces.{place_of, first, piece_list, read, beginn
 
 use crate::LexEnd;
 use crate::cut::{Cut, Due, Shape, State};
-use cob_lines::Mark;
+use crate::text::Mark;
 use std::alloc::{AllocError, Global};
 
 /// A raw token: where it begins in the text, counted from 0, how many characters it has, and where

@@ -3,10 +3,10 @@
 ghost use Rattle.std.specs.Prelude.{◌≡◌, ◌≤◌, length, IfOk};
 ghost use Rattle.cob_lex.specs.Scan.{IsScanned};
 ghost use Rattle.cob_tree.specs.Limits.{token_limit};
-ghost use Rattle.cob_lines.specs.Text.{source_limit};
+ghost use Rattle.cob_lex.specs.Text.{source_limit};
 
+use crate::text::{TextEnd, text_of};
 use crate::{LexEnd, tokens_of};
-use cob_lines::{TextEnd, text_of};
 use cob_tree::Token;
 use std::alloc::Global;
 

@@ -8,7 +8,7 @@ use crate::cut::Shape;
 use crate::mark::{ch_at, half_behind, inside, is_digit, is_second, tail};
 use crate::piece::{Piece, behind};
 use crate::row::head;
-use cob_lines::Mark;
+use crate::text::Mark;
 use cob_tree::{Bytes, Keyword, Name, Num, Tok, Token};
 use std::alloc::{AllocError, Global};
 

@@ -5,7 +5,7 @@ ghost use Rattle.cob_lex.specs.Marks.{is_letter, is_word_character};
 ghost use Rattle.cob_lex.specs.Words.{spelled_keyword, is_word, digits_in, points_in, is_unsigned, is_minus};
 
 use crate::mark::{ch_at, is_digit, is_letter, is_word_character, tail};
-use cob_lines::Mark;
+use crate::text::Mark;
 use cob_tree::{Keyword, keyword_of};
 
 /// How many characters a word may have.

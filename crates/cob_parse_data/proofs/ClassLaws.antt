@@ -15,9 +15,9 @@ use Rattle.cob_tree.specs.Symbols.{Symbol, Key, Name, Number, Text, Mark, Relati
 use Rattle.cob_tree.specs.Items.{Item, item, item_on, Fits}
 use Rattle.cob_tree.specs.PrintExpr.{const_symbol}
 use Rattle.cob_tree.specs.PrintFront.{print_label}
-use Rattle.cob_lexemes.specs.Classes.{name_symbol, word_symbol, by_symbol, of, is, the, on_line, on_its_line, stop_symbol}
+use Rattle.cob_parse_expr.specs.LexemeClasses.{name_symbol, word_symbol, by_symbol, of, is, the, on_line, on_its_line, stop_symbol}
 use Rattle.cob_parse_expr.specs.Classes.{const_key, const_as}
-use Rattle.cob_lexemes.proofs.WordLemmas.{own_key, only_the}
+use Rattle.cob_parse_expr.proofs.WordLemmas.{own_key, only_the}
 use Rattle.reading.specs.Readers.{Reader, lead}
 use Rattle.reading.specs.Printing.{Matches, begins}
 use Rattle.reading.specs.Law.{Syntax, Law}

@@ -1,9 +1,9 @@
 -- Clauses read one after the other, as a loop does that asks the clauses before for their kinds.
 use Rattle.std.proofs.Common.{◌≡◌, ◌<◌, ◌≤◌, Bool, true, false, ◌||◌, List, [], ◌∷◌, ◌++◌, length, Option, Some, None, Result, Ok, Err, refl, sym, ap, subst, ◌∙◌, map, arith}
 use Rattle.cob_tree.specs.Symbols.{Sign}
-use Rattle.cob_lexemes.specs.declared.lexeme.Lexeme.{Lexeme}
-use Rattle.cob_lexemes.specs.declared.halt.Halt.{Halt}
-use Rattle.cob_lexemes.specs.Steps.{signs, Fails, Leads, Lacks}
+use Rattle.cob_parse_expr.specs.declared.lexeme.Lexeme.{Lexeme}
+use Rattle.cob_parse_expr.specs.declared.halt.Halt.{Halt}
+use Rattle.cob_parse_expr.specs.Steps.{signs, Fails, Leads, Lacks}
 use Rattle.reading.specs.Readers.{Fault, Reader, ◌>>=◌, lead, branch, seen, stands, among, unless_on, fresh_on, fresh, with_kind, clauses}
 use Rattle.reading.proofs.Turns.{Turns, turns_start, turns_on, turns_end, turns_fail}
 use Rattle.cob_parse_data.specs.Reading.{untagged}

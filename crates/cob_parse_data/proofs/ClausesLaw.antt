@@ -13,7 +13,7 @@ use Rattle.reading.proofs.Seen.{View, seen_law}
 use Rattle.reading.proofs.Tail.{apart}
 use Rattle.reading.proofs.Many.{is_given, many_good, many_print, many_takes}
 use Rattle.reading.proofs.Clauses.{takes_fresh, clause_syntax, clauses_syntax, clauses_law}
-use Rattle.cob_lexemes.specs.Classes.{by_symbol, of, is}
+use Rattle.cob_parse_expr.specs.LexemeClasses.{by_symbol, of, is}
 use Rattle.cob_parse_data.specs.Heads.{same_kind}
 use Rattle.cob_parse_data.specs.Reading.{untagged}
 use Rattle.cob_parse_data.proofs.Parts.{onward_false}

@@ -24,7 +24,7 @@ use Rattle.cob_tree.specs.Items as items
 use Rattle.cob_tree.specs.PrintExpr.{const_symbol, print_const}
 use Rattle.cob_tree.specs.PrintFront.{print_if, print_name, print_label, print_fd_clause, print_range, print_clause, print_described, print_entry, print_fd, print_files, print_storage, print_data}
 use Rattle.cob_tree.specs.Shaped.{fd_kind, clause_kind, ShapedFdClause, ShapedClause, ShapedEntry, ShapedFd, ShapedData}
-use Rattle.cob_lexemes.specs.Classes.{name_symbol, by_symbol, of, is, the, stop_symbol}
+use Rattle.cob_parse_expr.specs.LexemeClasses.{name_symbol, by_symbol, of, is, the, stop_symbol}
 use Rattle.cob_parse_expr.specs.Classes.{const_as}
 use Rattle.reading.specs.Readers.{seq, stands}
 use Rattle.reading.specs.Printing.{Matches, begins}

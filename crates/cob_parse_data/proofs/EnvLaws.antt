@@ -24,7 +24,7 @@ use Rattle.reading.proofs.Dependent.{seq_syntax, seq_law}
 use Rattle.reading.proofs.Starts.{Begins}
 use Rattle.cob_parse_data.specs.declared.head.SelectHead.{SelectHead}
 use Rattle.cob_parse_data.specs.declared.head.SelectHead.TheVariants as head
-use Rattle.cob_lexemes.specs.Classes.{by_symbol, is, the, stop_symbol}
+use Rattle.cob_parse_expr.specs.LexemeClasses.{by_symbol, is, the, stop_symbol}
 use Rattle.cob_parse_data.specs.Heads.{select_word, select_key, select_symbol, select_kind, select_head_of}
 use Rattle.cob_parse_data.specs.Reading.{word, stop, computer, select_body, select_clauses, make_select, select, make_config, config, make_io, io, make_env, env}
 use Rattle.cob_parse_data.specs.Takes.{takes_config, takes_io, takes_env}

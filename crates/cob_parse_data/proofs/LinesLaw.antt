@@ -28,7 +28,7 @@ use Rattle.cob_tree.specs.PrintFront.{heading, print_if, print_name, print_name_
 use Rattle.cob_tree.specs.Shaped.{IfThere, ShapedSelect, ShapedEntry, ShapedFd, ShapedIo, ShapedEnv, ShapedData, ShapedFront}
 use Rattle.reading.specs.Printing.{Matches}
 use Rattle.reading.proofs.Consequences.{one_tree}
-use Rattle.cob_lexemes.specs.Classes.{by_symbol}
+use Rattle.cob_parse_expr.specs.LexemeClasses.{by_symbol}
 use Rattle.cob_parse_data.specs.Lines.{select_without_line, io_without_lines, env_without_lines, entry_without_line, fd_without_lines, data_without_lines, without_lines}
 use Rattle.cob_parse_data.proofs.Outcomes.{law, shallow}
 

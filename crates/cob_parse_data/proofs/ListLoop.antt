@@ -2,13 +2,13 @@
 use Rattle.std.proofs.Common.{◌≡◌, ◌<◌, ◌≤◌, true, false, List, [], ◌∷◌, ◌++◌, length, Option, Result, Ok, Err, refl, sym, ap, ◌∙◌, arith}
 use Rattle.std.proofs.lemmas.List.{length-map}
 use Rattle.cob_tree.specs.Symbols.{Symbol, Sign}
-use Rattle.cob_lexemes.specs.declared.lexeme.Lexeme.{Lexeme}
-use Rattle.cob_lexemes.specs.declared.halt.Halt.{Halt}
-use Rattle.cob_lexemes.specs.declared.halt.Halt.TheVariants as halt
-use Rattle.cob_lexemes.specs.Steps.{signs, Fails}
+use Rattle.cob_parse_expr.specs.declared.lexeme.Lexeme.{Lexeme}
+use Rattle.cob_parse_expr.specs.declared.halt.Halt.{Halt}
+use Rattle.cob_parse_expr.specs.declared.halt.Halt.TheVariants as halt
+use Rattle.cob_parse_expr.specs.Steps.{signs, Fails}
 use Rattle.reading.specs.Readers.{Fault, Stop, Deep, Reader, ◌>>=◌, seen, many, no_step}
 use Rattle.reading.proofs.Turns.{Turns, turns_start, turns_on, turns_end, turns_fail}
-use Rattle.cob_lexemes.specs.Classes.{here}
+use Rattle.cob_parse_expr.specs.LexemeClasses.{here}
 
 -- a fault that is the whole's
 pub fails_whole : {A B : Type 0} (h : Halt) (read : Result A Fault) (all : Result B Fault) → ((d : Fault) → read ≡ Err d → all ≡ Err d) → Fails h read → Fails h all

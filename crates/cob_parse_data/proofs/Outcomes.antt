@@ -15,7 +15,7 @@ use Rattle.reading.proofs.Opens.{below_wider}
 use Rattle.reading.proofs.Exact.{enough}
 use Rattle.reading.proofs.Consequences.{one_tree, longest, none_goes_on}
 use Rattle.cob_parse_expr.specs.Alphabet.{grammar}
-use Rattle.cob_lexemes.specs.Classes.{by_symbol}
+use Rattle.cob_parse_expr.specs.LexemeClasses.{by_symbol}
 use Rattle.cob_parse_data.specs.Reading.{front_at}
 use Rattle.cob_parse_data.specs.Outcome.{IsFront, Ends, Begins, IsRead, Stops}
 use Rattle.cob_parse_data.proofs.FrontLaw.{front_syntax, front_law}

@@ -4,16 +4,16 @@ use Rattle.std.proofs.lemmas.List.{length-map}
 use Rattle.cob_tree.specs.declared.token.Token.{Token}
 use Rattle.cob_tree.specs.declared.front.Front.{Front}
 use Rattle.cob_tree.specs.Symbols.{seen}
-use Rattle.cob_lexemes.specs.declared.lexeme.Lexeme.{Lexeme}
-use Rattle.cob_lexemes.specs.declared.halt.Halt.{Halt}
-use Rattle.cob_lexemes.specs.declared.halt.Halt.TheVariants as halt
-use Rattle.cob_lexemes.specs.Steps.{signs, Fails}
+use Rattle.cob_parse_expr.specs.declared.lexeme.Lexeme.{Lexeme}
+use Rattle.cob_parse_expr.specs.declared.halt.Halt.{Halt}
+use Rattle.cob_parse_expr.specs.declared.halt.Halt.TheVariants as halt
+use Rattle.cob_parse_expr.specs.Steps.{signs, Fails}
 use Rattle.reading.specs.Readers.{Stop}
 use Rattle.reading.proofs.Consequences.{within}
 use Rattle.cob_parse_data.specs.Reading.{front_at}
-use Rattle.cob_lexemes.proofs.PlaceLemmas.{rest_is}
-use Rattle.cob_lexemes.specs.declared.end.ParseEnd.TheVariants as end
-use Rattle.cob_lexemes.specs.Places.{from, line_at, end_at}
+use Rattle.cob_parse_expr.proofs.PlaceLemmas.{rest_is}
+use Rattle.cob_parse_expr.specs.declared.end.ParseEnd.TheVariants as end
+use Rattle.cob_parse_expr.specs.Places.{from, line_at, end_at}
 use Rattle.cob_parse_data.specs.Outcome.{IsRead, IsWrong}
 use Rattle.cob_parse_data.proofs.Outcomes.{law, is_read, stops, never_deep}
 

@@ -14,7 +14,7 @@ use Rattle.reading.proofs.Dependent.{seq_syntax, seq_law}
 use Rattle.reading.proofs.Starts.{Begins}
 use Rattle.reading.proofs.Tail.{Tail}
 use Rattle.reading.proofs.Optional.{optional_syntax}
-use Rattle.cob_lexemes.specs.Classes.{by_symbol, is, the}
+use Rattle.cob_parse_expr.specs.LexemeClasses.{by_symbol, is, the}
 use Rattle.cob_parse_data.specs.Reading.{back, front, heading, headed, led, perhaps, named}
 use Rattle.cob_parse_data.specs.Takes.{takes_perhaps}
 use Rattle.cob_parse_data.proofs.Parts.{onward_false, law_as, pair_syntax, pair_law, optional_part}

@@ -15,7 +15,7 @@ use Rattle.cob_parse_data.specs.declared.head.FdHead.TheVariants as fd_head
 use Rattle.cob_parse_data.specs.declared.head.ClauseHead.{ClauseHead}
 use Rattle.cob_parse_data.specs.declared.head.ClauseHead.TheVariants as head
 use Rattle.cob_tree.specs.Symbols.{Symbol}
-use Rattle.cob_lexemes.specs.Classes.{word_symbol}
+use Rattle.cob_parse_expr.specs.LexemeClasses.{word_symbol}
 
 -- two of one kind can't stand together
 abbrev pub same_kind : {K : Type 0} → (K → ℕ) → K → K → Bool

@@ -7,8 +7,8 @@ use Rattle.cob_tree.specs.PrintFront.{print_front}
 use Rattle.cob_tree.specs.Shaped.{ShapedFront}
 use Rattle.reading.specs.Printing.{Matches, Next}
 use Rattle.cob_parse_expr.specs.Alphabet.{grammar}
-use Rattle.cob_lexemes.specs.Places.{from, line_at}
-use Rattle.cob_lexemes.specs.Classes.{by_symbol}
+use Rattle.cob_parse_expr.specs.Places.{from, line_at}
+use Rattle.cob_parse_expr.specs.LexemeClasses.{by_symbol}
 use Rattle.cob_parse_data.specs.Takes.{takes_front}
 
 -- the tokens are the text of these divisions

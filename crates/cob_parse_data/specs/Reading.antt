@@ -23,7 +23,7 @@ use Rattle.cob_tree.specs.declared.front.Clause.{Clause}
 use Rattle.cob_tree.specs.declared.front.Clause.TheVariants as clause
 use Rattle.cob_tree.specs.declared.front.Range.{Range}
 use Rattle.cob_tree.specs.Symbols.{Symbol, Sign}
-use Rattle.cob_lexemes.specs.Classes.{name_symbol, of, here, the, on_its_line, stop_symbol}
+use Rattle.cob_parse_expr.specs.LexemeClasses.{name_symbol, of, here, the, on_its_line, stop_symbol}
 use Rattle.cob_parse_expr.specs.Classes.{const_as}
 use Rattle.reading.specs.Readers.{Reader, nothing, lead, seq, seen, many, plus, optional, here_if, maybe, clauses}
 use Rattle.cob_parse_data.specs.declared.head.SelectHead.{SelectHead}

@@ -10,7 +10,7 @@ use Rattle.cob_tree.specs.declared.front.Label.TheVariants as label
 use Rattle.cob_tree.specs.declared.front.Described.{Described}
 use Rattle.cob_tree.specs.declared.front.Described.TheVariants as described
 use Rattle.cob_tree.specs.Symbols.{Symbol, Key, Name, Number, Text, Pic}
-use Rattle.cob_lexemes.specs.Classes.{word_symbol}
+use Rattle.cob_parse_expr.specs.LexemeClasses.{word_symbol}
 
 abbrev pub number_symbol : Symbol → Option Num
 number_symbol (Number n) = Some n

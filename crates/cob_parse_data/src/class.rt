@@ -2,15 +2,14 @@
 ghost use Rattle.std.specs.Prelude.{◌≡◌, ◌+◌, ◌<◌, ◌≤◌, length, IfOk, IfSome, IfNone, false};
 ghost use Rattle.std.specs.Option.{option_map};
 ghost use Rattle.reading.specs.Readers.{lead, maybe};
-ghost use Rattle.cob_lexemes.specs.Lexemes.{plain_symbol};
-ghost use Rattle.cob_lexemes.specs.Classes.{of, here, on_its_line};
-ghost use Rattle.cob_lexemes.specs.Steps.{signs, Leads, Lacks, Gives};
+ghost use Rattle.cob_parse_expr.specs.Lexemes.{plain_symbol};
+ghost use Rattle.cob_parse_expr.specs.LexemeClasses.{of, here, on_its_line};
+ghost use Rattle.cob_parse_expr.specs.Steps.{signs, Leads, Lacks, Gives};
 ghost use Rattle.cob_parse_expr.specs.Classes.{const_as};
 ghost use Rattle.cob_parse_data.specs.Tokens.{number_symbol, pic_symbol, external_symbol, label_symbol, described_symbol};
 ghost use Rattle.cob_parse_data.specs.Reading.{one};
 
-use cob_lexemes::{Halt, Lexeme, Symbol, next};
-use cob_parse_expr::is_constant;
+use cob_parse_expr::{Halt, Lexeme, Symbol, is_constant, next};
 use cob_tree::{Bytes, Described, External, Keyword, Label, Name, Num};
 use std::alloc::{AllocError, Global};
 

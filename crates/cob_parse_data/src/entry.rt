@@ -1,19 +1,18 @@
 //! Data entries and their clauses.
 ghost use Rattle.std.specs.Prelude.{◌≡◌, ◌+◌, ◌<◌, ◌≤◌, ◌∷◌, [], length, IfOk, IfSome, IfNone, map};
 ghost use Rattle.cob_tree.specs.declared.keyword.Keyword.TheVariants as key;
-ghost use Rattle.cob_lexemes.specs.Lexemes.{plain_symbol};
+ghost use Rattle.cob_parse_expr.specs.Lexemes.{plain_symbol};
 ghost use Rattle.cob_parse_expr.specs.Classes.{const_as};
-ghost use Rattle.cob_lexemes.specs.Steps.{signs, Leads, Lacks, Gives};
+ghost use Rattle.cob_parse_expr.specs.Steps.{signs, Leads, Lacks, Gives};
 ghost use Rattle.reading.specs.Readers.{among, fresh, many, seen};
 ghost use Rattle.cob_parse_data.specs.declared.head.ClauseHead.TheVariants as head;
-ghost use Rattle.cob_lexemes.specs.Classes.{of, here};
+ghost use Rattle.cob_parse_expr.specs.LexemeClasses.{of, here};
 ghost use Rattle.cob_parse_data.specs.Heads.{same_kind, clause_symbol, clause_kind_of, clause_head_of};
 ghost use Rattle.cob_parse_data.specs.Reading.{perhaps, led, constant, range, ranges, first_and, clause_body, entry_clauses, entry, entries};
 
 use crate::class::{described_in, level_at, picture_at, stands_constant, stands_number};
 use crate::head::ClauseHead;
-use cob_lexemes::{Halt, Lexeme, Symbol, expect, next, stands, stop};
-use cob_parse_expr::{const_at, name_at};
+use cob_parse_expr::{Halt, Lexeme, Symbol, const_at, expect, name_at, next, stands, stop};
 use cob_tree::{Clause, Const, Entry, Keyword, Many, Range};
 use std::alloc::Global;
 

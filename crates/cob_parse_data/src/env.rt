@@ -1,12 +1,12 @@
 //! The environment division.
 ghost use Rattle.std.specs.Prelude.{◌≡◌, ◌<◌, ◌≤◌, ◌∷◌, [], length, IfOk};
-ghost use Rattle.cob_lexemes.specs.Steps.{signs, Gives};
+ghost use Rattle.cob_parse_expr.specs.Steps.{signs, Gives};
 ghost use Rattle.cob_tree.specs.declared.keyword.Keyword.TheVariants as key;
 ghost use Rattle.cob_parse_data.specs.Reading.{computer, perhaps, config, io, env};
 
 use crate::select::selects;
 use crate::word::{heading, named, title};
-use cob_lexemes::{Halt, Lexeme, stands};
+use cob_parse_expr::{Halt, Lexeme, stands};
 use cob_tree::{Config, Env, Io, Keyword, Many, Name};
 use std::alloc::Global;
 

@@ -1,9 +1,9 @@
 //! Entries of files, and the data division.
 ghost use Rattle.std.specs.Prelude.{◌≡◌, ◌+◌, ◌<◌, ◌≤◌, ◌∷◌, [], length, IfOk, IfSome, IfNone, map};
 ghost use Rattle.cob_tree.specs.declared.keyword.Keyword.TheVariants as key;
-ghost use Rattle.cob_lexemes.specs.Lexemes.{plain_symbol};
-ghost use Rattle.cob_lexemes.specs.Classes.{name_symbol, of, here};
-ghost use Rattle.cob_lexemes.specs.Steps.{signs, Leads, Lacks, Gives};
+ghost use Rattle.cob_parse_expr.specs.Lexemes.{plain_symbol};
+ghost use Rattle.cob_parse_expr.specs.LexemeClasses.{name_symbol, of, here};
+ghost use Rattle.cob_parse_expr.specs.Steps.{signs, Leads, Lacks, Gives};
 ghost use Rattle.reading.specs.Readers.{among, fresh, many, seen};
 ghost use Rattle.cob_parse_data.specs.declared.head.FdHead.TheVariants as head;
 ghost use Rattle.cob_parse_data.specs.Heads.{same_kind, fd_symbol, fd_kind_of, fd_head_of};
@@ -13,8 +13,7 @@ use crate::class::{label_at, number_at};
 use crate::entry::entries;
 use crate::head::FdHead;
 use crate::word::heading;
-use cob_lexemes::{Halt, Lexeme, Symbol, line_of, next, stands, stands_name, stop};
-use cob_parse_expr::name_at;
+use cob_parse_expr::{Halt, Lexeme, Symbol, line_of, name_at, next, stands, stands_name, stop};
 use cob_tree::{Data, Entry, Fd, FdClause, Keyword, Many, Name};
 use std::alloc::Global;
 

@@ -1,12 +1,12 @@
 //! The divisions before PROCEDURE.
 ghost use Rattle.std.specs.Prelude.{◌≡◌, ◌<◌, length, IfOk};
-ghost use Rattle.cob_lexemes.specs.Steps.{signs, Gives};
+ghost use Rattle.cob_parse_expr.specs.Steps.{signs, Gives};
 ghost use Rattle.cob_parse_data.specs.Reading.{front_at};
 
 use crate::env::env_part;
 use crate::file::data_part;
 use crate::word::{heading, named, title};
-use cob_lexemes::{Halt, Lexeme};
+use cob_parse_expr::{Halt, Lexeme};
 use cob_tree::{Front, Keyword};
 use std::alloc::Global;
 

@@ -1,11 +1,11 @@
 //! The divisions before PROCEDURE from tokens.
 ghost use Rattle.std.specs.Prelude.{◌≡◌, ◌≤◌, ℕ, length, IfOk, OnErr, Err};
-ghost use Rattle.cob_lexemes.specs.declared.end.ParseEnd.TheVariants as end;
-ghost use Rattle.cob_lexemes.specs.Places.{from};
+ghost use Rattle.cob_parse_expr.specs.declared.end.ParseEnd.TheVariants as end;
+ghost use Rattle.cob_parse_expr.specs.Places.{from};
 ghost use Rattle.cob_parse_data.specs.Outcome.{IsRead, IsWrong};
 
 use crate::front::front_in;
-use cob_lexemes::{ParseEnd, end_at, lexemes_from};
+use cob_parse_expr::{ParseEnd, end_at, lexemes_from};
 use cob_tree::{Front, Token};
 use std::alloc::Global;
 

@@ -1,17 +1,16 @@
 //! SELECT entries.
 ghost use Rattle.std.specs.Prelude.{◌≡◌, ◌+◌, ◌<◌, ◌≤◌, ◌∷◌, [], length, IfOk, IfSome, IfNone, map};
-ghost use Rattle.cob_lexemes.specs.Lexemes.{plain_symbol};
-ghost use Rattle.cob_lexemes.specs.Steps.{signs, Leads, Lacks, Gives};
+ghost use Rattle.cob_parse_expr.specs.Lexemes.{plain_symbol};
+ghost use Rattle.cob_parse_expr.specs.Steps.{signs, Leads, Lacks, Gives};
 ghost use Rattle.cob_tree.specs.declared.keyword.Keyword.TheVariants as key;
 ghost use Rattle.reading.specs.Readers.{among, fresh};
-ghost use Rattle.cob_lexemes.specs.Classes.{of};
+ghost use Rattle.cob_parse_expr.specs.LexemeClasses.{of};
 ghost use Rattle.cob_parse_data.specs.Heads.{same_kind, select_symbol, select_kind, select_head_of};
 ghost use Rattle.cob_parse_data.specs.Reading.{select_body, select_clauses, select, selects};
 
 use crate::class::external_at;
 use crate::head::SelectHead;
-use cob_lexemes::{Halt, Lexeme, Symbol, expect, line_of, next, stands, stop};
-use cob_parse_expr::name_at;
+use cob_parse_expr::{Halt, Lexeme, Symbol, expect, line_of, name_at, next, stands, stop};
 use cob_tree::{Keyword, Many, SelClause, Select};
 use std::alloc::Global;
 

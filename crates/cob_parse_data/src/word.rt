@@ -1,10 +1,9 @@
 //! Titles of divisions and sections, and names.
 ghost use Rattle.std.specs.Prelude.{◌≡◌, ◌<◌, ◌≤◌, ◌∷◌, [], length, IfOk};
-ghost use Rattle.cob_lexemes.specs.Steps.{signs, Gives};
+ghost use Rattle.cob_parse_expr.specs.Steps.{signs, Gives};
 ghost use Rattle.cob_parse_data.specs.Reading.{heading, named};
 
-use cob_lexemes::{Halt, Lexeme, expect, stop};
-use cob_parse_expr::name_at;
+use cob_parse_expr::{Halt, Lexeme, expect, name_at, stop};
 use cob_tree::{Keyword, Name};
 use std::alloc::Global;
 

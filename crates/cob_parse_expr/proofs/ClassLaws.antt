@@ -20,7 +20,7 @@ use Rattle.cob_tree.specs.PrintExpr.{const_symbol, sign_character, scaling_chara
 use Rattle.reading.specs.Printing.{peek_on, on_mark, begins}
 use Rattle.reading.proofs.Texts.{Always}
 use Rattle.reading.proofs.Lead.{Class}
-use Rattle.cob_lexemes.specs.Classes.{name_symbol, word_symbol}
+use Rattle.cob_parse_expr.specs.LexemeClasses.{name_symbol, word_symbol}
 use Rattle.cob_parse_expr.specs.Classes.{name_of, const_key, const_as, const_of, mark_symbol, open_mark, open_of, close_mark, close_of, sign_mark, sign_of, scaling_mark, scaling_of, of_key, of_of, not_key, not_of, and_key, and_of, or_key, or_of, numeric_key, numeric_of, sign_test_key, sign_test_of, relation_symbol, relation_of}
 use Rattle.cob_parse_expr.specs.Reading.{here}
 use Rattle.cob_parse_expr.proofs.CueLemmas.{not_cues}

@@ -38,7 +38,7 @@ use Rattle.reading.proofs.Opt.{when, opt_syntax, opt_law}
 use Rattle.reading.proofs.Plus.{chain_law}
 use Rattle.reading.proofs.Choose.{choose_syntax, choose_law}
 use Rattle.cob_parse_expr.specs.Classes.{mark_symbol, open_of, sign_mark, sign_of, scaling_of, not_key, not_of, numeric_key, numeric_of, sign_test_key, sign_test_of, relation_symbol, relation_of, and_of, or_of}
-use Rattle.cob_lexemes.specs.Classes.{word_symbol}
+use Rattle.cob_parse_expr.specs.LexemeClasses.{word_symbol}
 use Rattle.cob_parse_expr.specs.Classes as class
 use Rattle.cob_parse_expr.specs.Reading.{here, second, primary_with, expr_with, opnd_at}
 use Rattle.cob_parse_expr.specs.CondReading.{Begun, whole, part, goes_on, begun_fact, make_head, head_with, begun_factors, begun_term, head_term, begun_summands, begun_expr, head_expr, Asked, compared, for_digits, for_sign, make_asked, compared_with, asked_with, make_test, test_with, tested, make_subject, subject_with, make_further, further_with, negated_with, plain_with, make_neg, neg_with, negs_with, make_conj, conj_with, conjs_with, make_cond, cond_with}

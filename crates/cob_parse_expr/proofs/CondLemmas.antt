@@ -19,10 +19,10 @@ use Rattle.cob_parse_expr.specs.Classes.{open_of, not_of, sign_of, scaling_of, b
 use Rattle.cob_parse_expr.specs.Reading.{primary_with, fact_with, factors_with, term_with, summands_with, opnd_at}
 use Rattle.cob_parse_expr.specs.CondReading.{Begun, whole, part, goes_on, begun_fact, head_with, begun_factors, begun_term, begun_summands, begun_expr, Asked, test_with, make_subject, subject_with, further_with, negated_with, plain_with, neg_with, negs_with, conj_with, conjs_with, cond_with}
 use Rattle.cob_parse_expr.specs.CondSteps.{from_fact, make_value, subject_behind, subject_after, negated_neg, plain_neg_at, last_neg, last_conj}
-use Rattle.cob_lexemes.specs.declared.halt.Halt.{Halt}
-use Rattle.cob_lexemes.specs.Steps.{behind_word, Leads, Lacks, Fails}
+use Rattle.cob_parse_expr.specs.declared.halt.Halt.{Halt}
+use Rattle.cob_parse_expr.specs.Steps.{behind_word, Leads, Lacks, Fails}
 use Rattle.cob_parse_expr.proofs.StepLemmas.{bare}
-use Rattle.cob_lexemes.proofs.StepLemmas.{fails_first}
+use Rattle.cob_parse_expr.proofs.LexemeSteps.{fails_first}
 use Rattle.cob_parse_expr.proofs.ExprLaws.{expr_never}
 use Rattle.cob_parse_expr.proofs.TestLaws.{tests_told, tests_on}
 

@@ -8,7 +8,7 @@ use Rattle.reading.specs.Law.{Agree, Agrees}
 use Rattle.reading.proofs.Wider.{agree_same, agree_seen, agree_follow, agree_branch, agree_choose, agree_many, agree_closed, agree_full}
 use Rattle.cob_parse_expr.specs.Classes.{open_of, close_of, sign_of, scaling_of}
 use Rattle.cob_parse_expr.specs.Reading.{here, make_primary, primary_with, make_fact, fact_with, factors_with, make_term, term_with, summands_with, make_expr, expr_with, inside, expr_goes, group_at, expr_at, opnd_at}
-use Rattle.cob_lexemes.specs.Steps.{Lacks}
+use Rattle.cob_parse_expr.specs.Steps.{Lacks}
 use Rattle.cob_parse_expr.proofs.StepLemmas.{group_lacks}
 
 module _ {i j : Reader Sign Expr} (same : Agrees i j) where

@@ -1,3 +1,7 @@
+pub mod LexemeSteps
+pub mod PlaceLemmas
+pub mod WordLemmas
+mod LeadLemmas
 pub mod CueLemmas
 pub mod ClassLaws
 pub mod Generic

@@ -6,9 +6,9 @@ use Rattle.cob_tree.specs.Cues.{Cue}
 use Rattle.reading.specs.Readers.{Fault, Stop, Deep, Reader, ◌>>=◌, lead_as, lead, branch, many_at, no_step, many, stands}
 use Rattle.reading.proofs.Results.{ok_is}
 use Rattle.cob_parse_expr.specs.Reading.{here}
-use Rattle.cob_lexemes.specs.declared.halt.Halt.{Halt}
-use Rattle.cob_lexemes.specs.declared.halt.Halt.TheVariants as halt
-use Rattle.cob_lexemes.specs.Steps.{Leads, Lacks, Fails}
+use Rattle.cob_parse_expr.specs.declared.halt.Halt.{Halt}
+use Rattle.cob_parse_expr.specs.declared.halt.Halt.TheVariants as halt
+use Rattle.cob_parse_expr.specs.Steps.{Leads, Lacks, Fails}
 
 abbrev pub with_front : {A : Type 0} → List A → Result (List A × List Sign) Fault → Result (List A × List Sign) Fault
 with_front front read = read >>= λ x. Ok (front ++ x.0, x.1)

@@ -22,7 +22,7 @@ use Rattle.reading.proofs.Seen.{View, seen_law}
 use Rattle.reading.proofs.Starts.{Begins, starts_by_one}
 use Rattle.reading.proofs.Many.{is_given, many_syntax, many_law}
 use Rattle.reading.proofs.Choose.{choose_syntax, choose_law}
-use Rattle.cob_lexemes.specs.Classes.{name_symbol}
+use Rattle.cob_parse_expr.specs.LexemeClasses.{name_symbol}
 use Rattle.cob_parse_expr.specs.Classes.{name_of, const_of, of_of}
 use Rattle.cob_parse_expr.specs.Reading.{here, qualifier_at, second, make_ref, ref_at, make_opnd, opnd_at}
 use Rattle.cob_parse_expr.proofs.CueLemmas.{not_taken}

@@ -26,7 +26,7 @@ use Rattle.reading.proofs.Grows.{GoesOn}
 use Rattle.reading.proofs.Must.{Ends, closed_law}
 use Rattle.reading.proofs.Full.{full_law}
 use Rattle.cob_parse_expr.specs.Classes.{open_of, close_of, not_key, not_of}
-use Rattle.cob_lexemes.specs.Classes.{word_symbol}
+use Rattle.cob_parse_expr.specs.LexemeClasses.{word_symbol}
 use Rattle.cob_parse_expr.specs.Reading.{group_at}
 use Rattle.cob_parse_expr.specs.CondReading.{cond_with, cond_goes, inside_cond, paren_at, cond_at}
 use Rattle.cob_parse_expr.specs.Parsing.{cond_syntax}

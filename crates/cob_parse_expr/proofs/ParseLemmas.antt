@@ -2,7 +2,7 @@
 use Rattle.std.proofs.Common.{◌≡◌, ℕ, zero, suc, ◌+◌, ◌-◌, ◌≤◌, List, [], ◌∷◌, ◌++◌, length, length-append, length-drop, drop, map, Option, Some, None, Result, Ok, Err, refl, sym, ap, subst, ◌∙◌, arith}
 use Rattle.std.proofs.lemmas.List.{length-map}
 use Rattle.cob_tree.specs.declared.token.Token.{Token}
-use Rattle.cob_lexemes.specs.declared.lexeme.Lexeme.{Lexeme}
+use Rattle.cob_parse_expr.specs.declared.lexeme.Lexeme.{Lexeme}
 use Rattle.cob_tree.specs.Symbols.{Sign, Symbol, seen}
 use Rattle.cob_tree.specs.Items.{Item, Fits, IsLine}
 use Rattle.cob_tree.specs.Cues.{Cue}
@@ -11,13 +11,13 @@ use Rattle.reading.specs.Readers.{Fault, Stop, Deep, Reader}
 use Rattle.reading.specs.Law.{Syntax, Law, Agrees}
 use Rattle.reading.specs.Outcome.{IsRead, Stops, OpensTooDeep}
 use Rattle.reading.proofs.Consequences.{within}
-use Rattle.cob_lexemes.specs.Lexemes.{plain_lexeme}
-use Rattle.cob_lexemes.specs.declared.halt.Halt.{Halt}
-use Rattle.cob_lexemes.specs.declared.halt.Halt.TheVariants as halt
-use Rattle.cob_lexemes.specs.Steps.{signs, Fails}
-use Rattle.cob_lexemes.specs.declared.end.ParseEnd.TheVariants as end
-use Rattle.cob_lexemes.proofs.PlaceLemmas.{rest_is}
-use Rattle.cob_lexemes.specs.Places.{from, line_at, end_at}
+use Rattle.cob_parse_expr.specs.Lexemes.{plain_lexeme}
+use Rattle.cob_parse_expr.specs.declared.halt.Halt.{Halt}
+use Rattle.cob_parse_expr.specs.declared.halt.Halt.TheVariants as halt
+use Rattle.cob_parse_expr.specs.Steps.{signs, Fails}
+use Rattle.cob_parse_expr.specs.declared.end.ParseEnd.TheVariants as end
+use Rattle.cob_parse_expr.proofs.PlaceLemmas.{rest_is}
+use Rattle.cob_parse_expr.specs.Places.{from, line_at, end_at}
 use Rattle.cob_parse_expr.specs.Parsing.{IsWrong}
 use Rattle.cob_parse_expr.proofs.Outcomes.{is_read, too_deep, stops}
 

@@ -6,13 +6,13 @@ use Rattle.cob_tree.specs.Cues.{NotRelates}
 use Rattle.cob_tree.specs.Takes.{takes_cond}
 use Rattle.reading.specs.Readers.{Fault, Stop, Deep, Reader, ◌>>=◌, lead_as, lead, seq, branch, seen, choose, stands, need, closed, left_on, full}
 use Rattle.reading.proofs.Results.{done, ok_is}
-use Rattle.cob_lexemes.specs.declared.halt.Halt.{Halt}
-use Rattle.cob_lexemes.specs.declared.halt.Halt.TheVariants as halt
+use Rattle.cob_parse_expr.specs.declared.halt.Halt.{Halt}
+use Rattle.cob_parse_expr.specs.declared.halt.Halt.TheVariants as halt
 use Rattle.cob_parse_expr.specs.Classes.{open_of, close_of, not_of}
 use Rattle.cob_parse_expr.specs.Reading.{second, expr_goes, group_at, expr_at}
 use Rattle.cob_parse_expr.specs.CondReading.{cond_goes, paren_at, cond_at}
 use Rattle.cob_parse_expr.specs.CondSteps.{unclosed}
-use Rattle.cob_lexemes.specs.Steps.{behind_word, Leads, Lacks, Fails}
+use Rattle.cob_parse_expr.specs.Steps.{behind_word, Leads, Lacks, Fails}
 
 pub bare : {A : Type 0} (xs : List A) → map second (map behind_word xs) ≡ xs
 bare [] = refl

@@ -25,7 +25,7 @@ use Rattle.reading.proofs.Lead.{lead_syntax, lead_law, branch_law}
 use Rattle.reading.proofs.Seen.{View, seen_law}
 use Rattle.reading.proofs.Starts.{Starts, enters}
 use Rattle.reading.proofs.Choose.{choose_syntax, choose_law}
-use Rattle.cob_lexemes.specs.Classes.{word_symbol}
+use Rattle.cob_parse_expr.specs.LexemeClasses.{word_symbol}
 use Rattle.cob_parse_expr.specs.Classes.{not_key, not_of, numeric_key, numeric_of, sign_test_key, sign_test_of, relation_symbol, relation_of, bare_symbol, bare_first}
 use Rattle.cob_parse_expr.specs.Reading.{expr_with}
 use Rattle.cob_parse_expr.specs.CondReading.{Asked, compared, for_digits, for_sign, make_asked, compared_with, asked_with, make_test, test_with}

@@ -12,7 +12,7 @@ use Rattle.cob_tree.specs.declared.cond.SignTest.{SignTest}
 use Rattle.cob_tree.specs.declared.cond.SignTest.TheVariants as test
 use Rattle.cob_tree.specs.declared.token.Rel.{Rel}
 use Rattle.cob_tree.specs.Symbols.{Symbol, Key, Number, Text, Mark, Relation, Sign}
-use Rattle.cob_lexemes.specs.Classes.{word_symbol, name_symbol}
+use Rattle.cob_parse_expr.specs.LexemeClasses.{word_symbol, name_symbol}
 use Rattle.cob_parse_expr.specs.declared.class.Mark as fixed
 use Rattle.cob_parse_expr.specs.declared.class.Mark.TheVariants as mark
 

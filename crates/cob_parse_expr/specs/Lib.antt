@@ -1,3 +1,7 @@
+pub mod Lexemes
+pub mod LexemeClasses
+pub mod Steps
+pub mod Places
 pub mod Alphabet
 pub mod Classes
 pub mod Reading

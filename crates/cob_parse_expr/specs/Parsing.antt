@@ -12,7 +12,7 @@ use Rattle.cob_tree.specs.Cond.{Cond}
 use Rattle.cob_tree.specs.Shaped.{ShapedCond}
 use Rattle.reading.specs.Law.{Syntax}
 use Rattle.reading.specs.Outcome.{Stops}
-use Rattle.cob_lexemes.specs.Places.{from, line_at}
+use Rattle.cob_parse_expr.specs.Places.{from, line_at}
 
 -- expressions, where so many statements and parentheses are open around
 abbrev pub expr_syntax : ℕ → Syntax Item Cue Expr

@@ -9,12 +9,13 @@ ghost use Rattle.cob_parse_expr.specs.Alphabet.{grammar};
 ghost use Rattle.cob_parse_expr.specs.Reading.{group_at};
 ghost use Rattle.cob_parse_expr.specs.CondReading.{compared_with, asked_with, test_with, tested};
 ghost use Rattle.cob_parse_expr.specs.CondSteps.{plain_asked, expr_behind, subject_behind};
-ghost use Rattle.cob_lexemes.specs.Steps.{signs, Gives};
+ghost use Rattle.cob_parse_expr.specs.Steps.{signs, Gives};
 
 use crate::class::{Mark, asks_first, behind, relation_in, sign_test_in};
 use crate::expr::{expr_in, factors_in, summands_in};
+use crate::halt::Halt;
+use crate::lexeme::Lexeme;
 use crate::simple::{alone, numeric, relation, sign_of};
-use cob_lexemes::{Halt, Lexeme};
 use cob_tree::{Expr, Fact, Rel, SignTest, Simple, Term};
 use std::alloc::Global;
 

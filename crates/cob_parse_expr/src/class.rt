@@ -1,11 +1,13 @@
 //! The tokens of which expressions and conditions are made, in front of lexemes.
 ghost use Rattle.std.specs.Prelude.{◌≡◌, ◌+◌, length, IfOk, IfSome, IfNone, is_some, false};
-ghost use Rattle.cob_lexemes.specs.Lexemes.{plain_symbol};
-ghost use Rattle.cob_lexemes.specs.Classes.{word_symbol};
-ghost use Rattle.cob_lexemes.specs.Steps.{signs, Leads, Lacks};
+ghost use Rattle.cob_parse_expr.specs.Lexemes.{plain_symbol};
+ghost use Rattle.cob_parse_expr.specs.LexemeClasses.{word_symbol};
+ghost use Rattle.cob_parse_expr.specs.Steps.{signs, Leads, Lacks};
 ghost use Rattle.cob_parse_expr.specs.Classes.{name_of, const_key, const_as, const_of, mark_symbol, sign_mark, sign_of, scaling_mark, scaling_of, mark_class, mark_of, sign_test_key, sign_test_of, relation_symbol, relation_of, bare_symbol, bare_first, open_mark, close_mark, of_key, not_key, and_key, or_key, numeric_key};
 
-use cob_lexemes::{Lexeme, Symbol, name, next};
+use crate::lexeme::{Lexeme, Symbol};
+use crate::other::name;
+use crate::word::next;
 use cob_tree::{Bytes, Const, Keyword, Name, Rel, Scaling, Sign, SignTest};
 use std::alloc::{AllocError, Global};
 

@@ -7,13 +7,14 @@ ghost use Rattle.cob_tree.specs.Takes.{takes_simple, takes_neg, takes_conj, take
 ghost use Rattle.cob_parse_expr.specs.Reading.{group_at};
 ghost use Rattle.cob_parse_expr.specs.CondReading.{paren_at, cond_at, subject_with, further_with, neg_with, negs_with, conj_with, conjs_with};
 ghost use Rattle.cob_parse_expr.specs.CondSteps.{subject_after, negated_neg, plain_neg_at, last_neg, last_conj, unclosed};
-ghost use Rattle.cob_lexemes.specs.Steps.{signs, behind_word, Gives};
+ghost use Rattle.cob_parse_expr.specs.Steps.{signs, behind_word, Gives};
 
 use crate::asked::{compared, subject_behind};
 use crate::class::{Mark, behind, relation_in};
 use crate::expr::fact_in;
+use crate::halt::Halt;
+use crate::lexeme::Lexeme;
 use crate::simple::{abbreviated, bare_relation, grouped, one_alone, parenthesised};
-use cob_lexemes::{Halt, Lexeme};
 use cob_tree::{Cond, Conj, Neg, Simple};
 use std::alloc::Global;
 

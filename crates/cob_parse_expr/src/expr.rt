@@ -2,11 +2,12 @@
 ghost use Rattle.std.specs.Prelude.{◌≡◌, ◌≤◌, ◌<◌, length, IfOk, map};
 ghost use Rattle.cob_tree.specs.ExprView.{plain_expr, plain_term, plain_fact, plain_prim, added, multiplied};
 ghost use Rattle.cob_parse_expr.specs.Reading.{group_at, primary_with, fact_with, factors_with, term_with, summands_with, expr_with, expr_at};
-ghost use Rattle.cob_lexemes.specs.Steps.{signs, Gives};
+ghost use Rattle.cob_parse_expr.specs.Steps.{signs, Gives};
 
 use crate::class::{Mark, behind, scaling_in, sign_in};
+use crate::halt::Halt;
+use crate::lexeme::Lexeme;
 use crate::operand::opnd_in;
-use cob_lexemes::{Halt, Lexeme};
 use cob_tree::{Expr, Fact, Primary, Scaling, Sign, Term};
 use std::alloc::Global;
 

@@ -21,16 +21,28 @@ macro_rules! or_leave {
 mod asked;
 mod class;
 mod cond;
+mod end;
 mod expr;
+mod halt;
 mod laws;
+mod lexeme;
 mod operand;
+mod other;
 mod parse;
+mod place;
 mod simple;
+mod word;
 
 pub use class::is_constant;
 pub use cond::cond_in;
+pub use end::ParseEnd;
 pub use expr::{expr_in, fact_in, factors_in, group, summands_in};
+pub use halt::Halt;
 pub use laws::{one_answer_for_conds, one_answer_for_exprs, one_cond, one_expr};
+pub use lexeme::{Lexeme, Symbol, lexemes};
 pub use operand::{const_at, name_at, opnd_in, ref_in};
+pub use other::{behind_stop, is_name, is_stop, name, stands_name, stop};
 pub use parse::{cond_of, expr_of};
+pub use place::{end_at, lexemes_from, line_at};
 pub use simple::one_alone;
+pub use word::{behind, expect, is_word, line_of, next, stands};

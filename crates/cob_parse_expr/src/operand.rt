@@ -3,10 +3,11 @@ ghost use Rattle.std.specs.Prelude.{◌≡◌, ◌≤◌, ◌<◌, length, IfOk,
 ghost use Rattle.reading.specs.Readers.{lead};
 ghost use Rattle.cob_parse_expr.specs.Classes.{name_of, const_of};
 ghost use Rattle.cob_parse_expr.specs.Reading.{qualifiers_at, ref_at, opnd_at};
-ghost use Rattle.cob_lexemes.specs.Steps.{signs, Gives, behind_word};
+ghost use Rattle.cob_parse_expr.specs.Steps.{signs, Gives, behind_word};
 
 use crate::class::{Mark, behind, constant_in, name_in};
-use cob_lexemes::{Halt, Lexeme};
+use crate::halt::Halt;
+use crate::lexeme::Lexeme;
 use cob_tree::{Const, Many, Name, Opnd, Ref};
 use std::alloc::{AllocError, Global};
 

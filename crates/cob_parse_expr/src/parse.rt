@@ -3,13 +3,14 @@ ghost use Rattle.std.specs.Prelude.{◌≡◌, ◌≤◌, ℕ, length, IfOk, OnE
 ghost use Rattle.cob_tree.specs.ExprView.{plain_expr};
 ghost use Rattle.cob_tree.specs.CondView.{plain_cond};
 ghost use Rattle.reading.specs.Outcome.{IsRead, OpensTooDeep};
-ghost use Rattle.cob_lexemes.specs.Places.{from};
+ghost use Rattle.cob_parse_expr.specs.Places.{from};
 ghost use Rattle.cob_parse_expr.specs.Alphabet.{grammar};
 ghost use Rattle.cob_parse_expr.specs.Parsing.{expr_syntax, cond_syntax, IsWrong};
 
 use crate::cond::cond_in;
+use crate::end::ParseEnd;
 use crate::expr::expr_in;
-use cob_lexemes::{ParseEnd, end_at, lexemes_from};
+use crate::place::{end_at, lexemes_from};
 use cob_tree::{Cond, Expr, Token};
 use std::alloc::Global;
 

@@ -9,9 +9,9 @@ ghost use Rattle.cob_tree.specs.CondView.{plain_cond, plain_conj, plain_neg, pla
 ghost use Rattle.cob_tree.specs.PrintExpr.{one_alone};
 ghost use Rattle.cob_tree.specs.Takes.{takes_simple, takes_neg};
 ghost use Rattle.cob_parse_expr.specs.CondSteps.{simple_alone, neg_alone, conj_alone};
-ghost use Rattle.cob_lexemes.specs.Steps.{Gives};
+ghost use Rattle.cob_parse_expr.specs.Steps.{Gives};
 
-use cob_lexemes::Halt;
+use crate::halt::Halt;
 use cob_tree::{Cond, Conj, Expr, Fact, Neg, Primary, Rel, SignTest, Simple};
 use std::alloc::Global;
 

@@ -21,7 +21,7 @@ use Rattle.reading.proofs.Opt.{when, when_law}
 use Rattle.reading.proofs.Choose.{choose_syntax, Tells, choose_law}
 use Rattle.reading.proofs.Must.{must_joint, must_law}
 use Rattle.reading.proofs.Follow.{Joint}
-use Rattle.cob_lexemes.specs.Classes.{the}
+use Rattle.cob_parse_expr.specs.LexemeClasses.{the}
 use Rattle.cob_parse_data.proofs.ClassLaws as classes
 use Rattle.cob_parse_verb.specs.Procedure.{procedure}
 use Rattle.cob_parse_verb.specs.Turning.{choices_at}

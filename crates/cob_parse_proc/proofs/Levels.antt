@@ -25,7 +25,7 @@ use Rattle.reading.proofs.Optional.{optional_syntax}
 use Rattle.reading.proofs.Opt.{Opening, opener_of, optional_tail}
 use Rattle.reading.proofs.Grows.{Samples, samples_one, samples_opening, grows_optional, grows_seen, grows_dependent, grows_choose, grows_tail, grows_many_from, Grows}
 use Rattle.reading.proofs.Must.{Ends, ends_by, closed_all}
-use Rattle.cob_lexemes.specs.Classes.{the}
+use Rattle.cob_parse_expr.specs.LexemeClasses.{the}
 use Rattle.cob_parse_verb.specs.declared.word.Begin.{Begin}
 use Rattle.cob_parse_verb.specs.Procedure.{procedure, token_front}
 use Rattle.cob_parse_verb.specs.Heads as heads

@@ -18,7 +18,7 @@ use Rattle.cob_tree.specs.PrintStmt.{print_opnds, print_recvs, print_refs, way_w
 use Rattle.cob_tree.specs.Takes.{takes_stmts, takes_stmt, takes_phrase, takes_tail, takes_whens, takes_when, takes_verb, takes_into, unless}
 use Rattle.cob_tree.specs.Shaped.{ShapedStmts, ShapedStmt, ShapedPhrase, ShapedTail, ShapedEnd, ShapedWhens, ShapedWhen, ShapedVerb, ShapedParagraph}
 use Rattle.reading.specs.Printing.{Matches}
-use Rattle.cob_lexemes.specs.Classes.{by_symbol}
+use Rattle.cob_parse_expr.specs.LexemeClasses.{by_symbol}
 use Rattle.cob_parse_data.specs.Lines.{without_lines}
 use Rattle.cob_parse_data.proofs.LinesLaw.{front_blank, shaped}
 use Rattle.cob_parse_verb.specs.Heads as heads

@@ -4,14 +4,14 @@ use Rattle.std.proofs.lemmas.List.{length-map}
 use Rattle.cob_tree.specs.declared.token.Token.{Token}
 use Rattle.cob_tree.specs.Symbols.{Sign, seen}
 use Rattle.cob_tree.specs.Stmt.{Tree}
-use Rattle.cob_lexemes.specs.declared.lexeme.Lexeme.{Lexeme}
-use Rattle.cob_lexemes.specs.Lexemes.{plain_lexeme}
-use Rattle.cob_lexemes.specs.declared.halt.Halt.{Halt}
-use Rattle.cob_lexemes.specs.declared.halt.Halt.TheVariants as halt
-use Rattle.cob_lexemes.specs.Steps.{signs, Fails}
-use Rattle.cob_lexemes.specs.declared.end.ParseEnd.TheVariants as end
-use Rattle.cob_lexemes.specs.Places.{line_at, end_at}
-use Rattle.cob_lexemes.proofs.StepLemmas.{fails_first}
+use Rattle.cob_parse_expr.specs.declared.lexeme.Lexeme.{Lexeme}
+use Rattle.cob_parse_expr.specs.Lexemes.{plain_lexeme}
+use Rattle.cob_parse_expr.specs.declared.halt.Halt.{Halt}
+use Rattle.cob_parse_expr.specs.declared.halt.Halt.TheVariants as halt
+use Rattle.cob_parse_expr.specs.Steps.{signs, Fails}
+use Rattle.cob_parse_expr.specs.declared.end.ParseEnd.TheVariants as end
+use Rattle.cob_parse_expr.specs.Places.{line_at, end_at}
+use Rattle.cob_parse_expr.proofs.LexemeSteps.{fails_first}
 use Rattle.reading.specs.Readers.{Fault, Stop, Deep, ◌>>=◌, ended, whole}
 use Rattle.cob_parse_proc.specs.Program.{limit, tree_at}
 use Rattle.cob_parse_proc.specs.Parsing.{IsTree, IsWrong, IsDeep}

@@ -6,8 +6,8 @@ use Rattle.reading.specs.Readers.{branch, seq, closed}
 use Rattle.reading.specs.Printing.{begins}
 use Rattle.reading.specs.Law.{Agrees}
 use Rattle.reading.proofs.Wider.{agree_same, agree_seen, agree_seq, agree_branch, agree_many, agree_closed}
-use Rattle.cob_lexemes.specs.Classes.{name_symbol, by_symbol, of, is, the, on_its_line, stop_symbol}
-use Rattle.cob_lexemes.specs.Classes as tokens
+use Rattle.cob_parse_expr.specs.LexemeClasses.{name_symbol, by_symbol, of, is, the, on_its_line, stop_symbol}
+use Rattle.cob_parse_expr.specs.LexemeClasses as tokens
 use Rattle.cob_parse_data.specs.Reading.{back, front}
 use Rattle.cob_parse_proc.specs.Bare.{list_takes}
 use Rattle.cob_parse_proc.specs.Reading.{may_go, stmts_at}

@@ -21,7 +21,7 @@ use Rattle.reading.proofs.Opens.{below_wider}
 use Rattle.reading.proofs.Exact.{enough}
 use Rattle.reading.proofs.Wider.{agree_map}
 use Rattle.reading.proofs.Whole.{whole_sound, whole_complete, whole_fails, whole_none}
-use Rattle.cob_lexemes.specs.Classes.{by_symbol}
+use Rattle.cob_parse_expr.specs.LexemeClasses.{by_symbol}
 use Rattle.cob_parse_data.proofs.ClassLaws.{one_token}
 use Rattle.cob_parse_proc.specs.Program.{limit, tree_at}
 use Rattle.cob_parse_proc.specs.Parsing.{ShapedTree, top, IsTree, GoesOn, Stops, IsDeep}

@@ -25,7 +25,7 @@ use Rattle.reading.proofs.Starts.{Starts}
 use Rattle.reading.proofs.Tail.{apart, Tail}
 use Rattle.reading.proofs.Many.{is_given, many_syntax}
 use Rattle.reading.proofs.Deeper.{deepens_never, deepens_seen, deepens_seq, deepens_tail, deepens_branch, deepens_closed, deepens_many}
-use Rattle.cob_lexemes.specs.Classes.{name_symbol, by_symbol, is}
+use Rattle.cob_parse_expr.specs.LexemeClasses.{name_symbol, by_symbol, is}
 use Rattle.cob_parse_data.proofs.Parts.{pair_syntax, list_syntax}
 use Rattle.cob_parse_data.proofs.ClassLaws.{one_token, free_of, one_syntax, line_syntax, starts_with, stops, names, lines}
 use Rattle.cob_parse_data.proofs.ClassLaws as classes

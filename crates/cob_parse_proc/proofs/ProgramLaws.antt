@@ -24,7 +24,7 @@ use Rattle.reading.proofs.Tail.{Tail}
 use Rattle.reading.proofs.Many.{is_given}
 use Rattle.reading.proofs.Optional.{optional_syntax}
 use Rattle.reading.proofs.Must.{Ends, ends_by, closed_law}
-use Rattle.cob_lexemes.specs.Classes.{name_symbol, by_symbol, of, is, the, stop_symbol}
+use Rattle.cob_parse_expr.specs.LexemeClasses.{name_symbol, by_symbol, of, is, the, stop_symbol}
 use Rattle.cob_parse_data.specs.Reading.{back, front, named}
 use Rattle.cob_parse_data.proofs.Parts.{then_law, pair_syntax, pair_law, list_syntax, list_law, list_tail, optional_part, onward_false}
 use Rattle.cob_parse_data.proofs.ClassLaws.{one_token, begins_with, starts_with, one_syntax, one_law, line_syntax, one_word, free_of, is_the, stops, names, lines}

@@ -7,7 +7,7 @@ use Rattle.cob_tree.specs.PrintStmt.{print_tree}
 use Rattle.reading.specs.Printing.{Matches}
 use Rattle.reading.proofs.Results.{cut_at}
 use Rattle.reading.proofs.Exact.{one_of_any}
-use Rattle.cob_lexemes.specs.Classes.{by_symbol}
+use Rattle.cob_parse_expr.specs.LexemeClasses.{by_symbol}
 use Rattle.cob_parse_proc.specs.Parsing.{ShapedTree, top, IsTree, GoesOn, Stops}
 use Rattle.cob_parse_proc.proofs.ProgramAnswers.{wides, wide_law, spelled}
 

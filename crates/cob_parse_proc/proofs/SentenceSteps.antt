@@ -2,11 +2,11 @@
 use Rattle.std.proofs.Common.{◌≡◌, Bool, List, [], ◌∷◌, Option, Some, None, Ok, Err, refl, ap}
 use Rattle.cob_tree.specs.Symbols.{Sign}
 use Rattle.cob_tree.specs.Stmt.{Stmts}
-use Rattle.cob_lexemes.specs.declared.halt.Halt.{Halt}
-use Rattle.cob_lexemes.specs.Steps.{Fails}
+use Rattle.cob_parse_expr.specs.declared.halt.Halt.{Halt}
+use Rattle.cob_parse_expr.specs.Steps.{Fails}
 use Rattle.reading.specs.Readers.{Stop, behind_on, behind, need, lead}
 use Rattle.reading.specs.Readers as reader
-use Rattle.cob_lexemes.specs.Classes.{of, stop_symbol}
+use Rattle.cob_parse_expr.specs.LexemeClasses.{of, stop_symbol}
 use Rattle.cob_parse_data.proofs.ListLoop.{fails_whole}
 use Rattle.cob_parse_proc.specs.Bare.{list_takes}
 use Rattle.cob_parse_proc.specs.Reading.{may_go, stmts_at}

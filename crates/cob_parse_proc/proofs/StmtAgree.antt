@@ -12,7 +12,7 @@ use Rattle.reading.specs.Readers as reader
 use Rattle.reading.specs.Printing.{begins, on_mark, peek_on}
 use Rattle.reading.specs.Law.{Agrees}
 use Rattle.reading.proofs.Wider.{agree_same, agree_seen, agree_follow, agree_branch, agree_choose, agree_optional, agree_need, agree_full, agree_many_from, agree_plus, agree_must}
-use Rattle.cob_lexemes.specs.Classes.{word_symbol}
+use Rattle.cob_parse_expr.specs.LexemeClasses.{word_symbol}
 use Rattle.cob_parse_verb.specs.declared.word.Start.{Start}
 use Rattle.cob_parse_verb.specs.Words.{start_key, begin_on, begin_of}
 use Rattle.cob_parse_verb.specs.Procedure.{procedure, word_front, token_front}

@@ -7,7 +7,7 @@ use Rattle.cob_tree.specs.Cues.{Cue, is, mark_cue, Starts, Signs, Scales}
 use Rattle.cob_tree.specs.Cues as cue
 use Rattle.reading.specs.Readers.{behind, stands}
 use Rattle.reading.specs.Printing.{on_mark, peek_on}
-use Rattle.cob_lexemes.specs.Classes.{word_symbol}
+use Rattle.cob_parse_expr.specs.LexemeClasses.{word_symbol}
 use Rattle.cob_parse_verb.specs.Procedure.{procedure, word_front, token_front}
 use Rattle.cob_parse_verb.specs.Words.{start_key}
 use Rattle.cob_parse_proc.specs.Reading.{here, one_word}

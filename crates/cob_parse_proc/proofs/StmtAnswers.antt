@@ -10,10 +10,10 @@ use Rattle.cob_tree.specs.Stmt as stmt
 use Rattle.cob_tree.specs.Takes.{takes_stmts, takes_verb}
 use Rattle.reading.specs.Readers.{Fault, Stop, Reader, ◌>>=◌, optional_on, optional, behind_on, behind, both_behind_on, both_behind}
 use Rattle.reading.proofs.Results.{ok_is}
-use Rattle.cob_lexemes.specs.declared.halt.Halt.{Halt}
-use Rattle.cob_lexemes.specs.declared.halt.Halt.TheVariants as halt
-use Rattle.cob_lexemes.specs.Steps.{Fails}
-use Rattle.cob_lexemes.proofs.StepLemmas.{fails_first, fails_second}
+use Rattle.cob_parse_expr.specs.declared.halt.Halt.{Halt}
+use Rattle.cob_parse_expr.specs.declared.halt.Halt.TheVariants as halt
+use Rattle.cob_parse_expr.specs.Steps.{Fails}
+use Rattle.cob_parse_expr.proofs.LexemeSteps.{fails_first, fails_second}
 use Rattle.cob_parse_verb.specs.declared.word.Begin.{Begin}
 use Rattle.cob_parse_verb.specs.Heads.{Arithmetic, Head, done, arithmetic, if_head, evaluate_head, perform_head, read_head, head_start, with_tail, takes_behind}
 use Rattle.cob_parse_verb.specs.Reading.{head_at}

@@ -9,9 +9,9 @@ use Rattle.reading.specs.Readers.{Fault, Stop, Deep, Reader, lead_as, lead, seen
 use Rattle.reading.specs.Printing.{begins}
 use Rattle.reading.proofs.Texts.{next_none}
 use Rattle.reading.proofs.Turns.{Turns, turns_start, turns_on, turns_end, turns_fail}
-use Rattle.cob_lexemes.specs.declared.halt.Halt.{Halt}
-use Rattle.cob_lexemes.specs.declared.halt.Halt.TheVariants as halt
-use Rattle.cob_lexemes.specs.Steps.{Fails}
+use Rattle.cob_parse_expr.specs.declared.halt.Halt.{Halt}
+use Rattle.cob_parse_expr.specs.declared.halt.Halt.TheVariants as halt
+use Rattle.cob_parse_expr.specs.Steps.{Fails}
 use Rattle.cob_parse_verb.specs.Procedure.{procedure}
 use Rattle.cob_parse_proc.specs.Reading.{here, one_word, last, Case, case_with, is_other, more_cases, cases_with, whens_with, whens_in, other_in, when_with, other_with, other_stands, make_stmts}
 use Rattle.cob_parse_proc.specs.StmtSteps.{make_chosen}

@@ -11,10 +11,10 @@ use Rattle.cob_tree.specs.Stmt.{Sel, Loop, Stmt, Stmts, MkWhen, When}
 use Rattle.cob_tree.specs.Takes.{takes_stmts}
 use Rattle.reading.specs.Readers.{Fault, Stop, Reader, ◌>>=◌, lead, follow, seen, optional_on, optional, behind, both_behind, left_on, missing, need_on, need, stands}
 use Rattle.reading.specs.Printing.{goes_by}
-use Rattle.cob_lexemes.specs.declared.halt.Halt.{Halt}
-use Rattle.cob_lexemes.specs.declared.halt.Halt.TheVariants as halt
-use Rattle.cob_lexemes.specs.Steps.{Fails}
-use Rattle.cob_lexemes.specs.Classes.{the}
+use Rattle.cob_parse_expr.specs.declared.halt.Halt.{Halt}
+use Rattle.cob_parse_expr.specs.declared.halt.Halt.TheVariants as halt
+use Rattle.cob_parse_expr.specs.Steps.{Fails}
+use Rattle.cob_parse_expr.specs.LexemeClasses.{the}
 use Rattle.cob_parse_verb.specs.declared.word.Begin.{Begin}
 use Rattle.cob_parse_verb.specs.Procedure.{procedure, word_front, token_front}
 use Rattle.cob_parse_verb.specs.Heads.{Arithmetic, Head, done, arithmetic, if_head, evaluate_head, perform_head, read_head, end_word, takes_behind}

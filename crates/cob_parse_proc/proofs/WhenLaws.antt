@@ -23,7 +23,7 @@ use Rattle.reading.proofs.Lead.{lead_syntax, branch_law}
 use Rattle.reading.proofs.Seen.{View, seen_law}
 use Rattle.reading.proofs.Starts.{one_decides}
 use Rattle.reading.proofs.Must.{Ends, ends_by}
-use Rattle.cob_lexemes.specs.Classes.{the}
+use Rattle.cob_parse_expr.specs.LexemeClasses.{the}
 use Rattle.cob_parse_data.proofs.WordLaws.{beside}
 use Rattle.cob_parse_verb.specs.Procedure.{procedure}
 use Rattle.cob_parse_verb.specs.Syntaxes.{choices_syntax}

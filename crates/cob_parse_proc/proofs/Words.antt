@@ -12,7 +12,7 @@ use Rattle.reading.proofs.Texts.{Always}
 use Rattle.reading.proofs.Lead.{Class}
 use Rattle.reading.proofs.Opt.{Opening, one_opening, two_opening}
 use Rattle.cob_parse_verb.specs.Procedure.{procedure, word_front, token_front}
-use Rattle.cob_lexemes.specs.Classes.{the, the_key}
+use Rattle.cob_parse_expr.specs.LexemeClasses.{the, the_key}
 use Rattle.cob_parse_data.proofs.ClassLaws as classes
 use Rattle.cob_parse_verb.specs.Heads.{Arithmetic, add_to, add_giving, subtract_from, subtract_giving, multiply_by, multiply_giving, divide_into, divide_giving, compute, end_word, end_cue}
 use Rattle.cob_parse_proc.specs.Reading.{one_word}

@@ -8,8 +8,8 @@ use Rattle.cob_tree.specs.Stmt.{Tree}
 use Rattle.cob_tree.specs.PrintStmt.{print_tree}
 use Rattle.cob_tree.specs.Shaped.{ShapedFront, ShapedStmts, ShapedParagraph, Shaped}
 use Rattle.reading.specs.Printing.{Matches, Below}
-use Rattle.cob_lexemes.specs.Places.{line_at}
-use Rattle.cob_lexemes.specs.Classes.{by_symbol}
+use Rattle.cob_parse_expr.specs.Places.{line_at}
+use Rattle.cob_parse_expr.specs.LexemeClasses.{by_symbol}
 
 -- what the grammar asks of a tree beside its names
 abbrev pub ShapedTree : Tree → Type 0

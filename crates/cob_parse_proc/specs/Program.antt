@@ -7,8 +7,8 @@ use Rattle.cob_tree.specs.Symbols.{Symbol, Key, Sign}
 use Rattle.cob_tree.specs.Stmt.{Stmts, Paragraph, Tree}
 use Rattle.reading.specs.Readers.{Reader, branch, seen, seq, many, optional, here_if, closed}
 use Rattle.reading.specs.Printing.{begins}
-use Rattle.cob_lexemes.specs.Classes.{name_symbol, word_symbol, by_symbol, of, the, on_its_line, stop_symbol}
-use Rattle.cob_lexemes.specs.Classes as tokens
+use Rattle.cob_parse_expr.specs.LexemeClasses.{name_symbol, word_symbol, by_symbol, of, the, on_its_line, stop_symbol}
+use Rattle.cob_parse_expr.specs.LexemeClasses as tokens
 use Rattle.cob_parse_data.specs.Reading.{back, front, heading, named, front_at}
 use Rattle.cob_parse_verb.specs.declared.word.Start.{Start}
 use Rattle.cob_parse_verb.specs.Words.{start_key}

@@ -10,7 +10,7 @@ use Rattle.cob_tree.specs.Stmt.{Sel, Stmt, MkStmt, Verb, if_, evaluate, perform_
 use Rattle.cob_tree.specs.Takes.{takes_sel}
 use Rattle.reading.specs.Readers.{Reader, nothing, lead, follow, branch, seen, choose, optional, behind, both_behind, many_from, plus, need, must, stands, full}
 use Rattle.reading.specs.Printing.{begins, goes_on}
-use Rattle.cob_lexemes.specs.Classes.{of, the}
+use Rattle.cob_parse_expr.specs.LexemeClasses.{of, the}
 use Rattle.cob_parse_verb.specs.declared.word.Begin.{Begin}
 use Rattle.cob_parse_verb.specs.Procedure.{procedure}
 use Rattle.cob_parse_verb.specs.Heads.{Head, done, arithmetic, if_head, evaluate_head, perform_head, read_head, with_tail, end_word, takes_behind}

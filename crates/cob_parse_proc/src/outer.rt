@@ -1,12 +1,12 @@
 //! The tokens outside of sentences: each tells by itself what it begins.
 ghost use Rattle.std.specs.Prelude.{◌≡◌, ◌<◌, length, IfOk};
 ghost use Rattle.reading.specs.Readers.{lead};
-ghost use Rattle.cob_lexemes.specs.Classes.{here, name_symbol, on_its_line};
-ghost use Rattle.cob_lexemes.specs.Steps.{signs, Gives};
+ghost use Rattle.cob_parse_expr.specs.LexemeClasses.{here, name_symbol, on_its_line};
+ghost use Rattle.cob_parse_expr.specs.Steps.{signs, Gives};
 ghost use Rattle.cob_parse_proc.specs.Program.{start_symbol};
 
 use crate::token::is_start;
-use cob_lexemes::{Halt, Lexeme, name, next};
+use cob_parse_expr::{Halt, Lexeme, name, next};
 use cob_tree::Name;
 use std::alloc::Global;
 

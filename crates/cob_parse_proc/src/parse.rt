@@ -3,13 +3,13 @@ ghost use Rattle.std.specs.Prelude.{◌≡◌, ℕ, map, IfOk, Err};
 ghost use Rattle.cob_tree.specs.Symbols.{seen};
 ghost use Rattle.cob_tree.specs.StmtView.{plain_tree};
 ghost use Rattle.reading.specs.Readers.{whole};
-ghost use Rattle.cob_lexemes.specs.declared.end.ParseEnd.TheVariants as end;
-ghost use Rattle.cob_lexemes.specs.Steps.{signs, Gives};
+ghost use Rattle.cob_parse_expr.specs.declared.end.ParseEnd.TheVariants as end;
+ghost use Rattle.cob_parse_expr.specs.Steps.{signs, Gives};
 ghost use Rattle.cob_parse_proc.specs.Program.{limit, tree_at};
 ghost use Rattle.cob_parse_proc.specs.Parsing.{IsTree, IsWrong, IsDeep};
 
 use crate::tree::tree_in;
-use cob_lexemes::{Halt, Lexeme, ParseEnd, end_at, lexemes};
+use cob_parse_expr::{Halt, Lexeme, ParseEnd, end_at, lexemes};
 use cob_tree::{Token, Tree};
 use std::alloc::Global;
 

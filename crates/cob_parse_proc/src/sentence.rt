@@ -1,14 +1,14 @@
 //! Sentences and paragraphs.
 ghost use Rattle.std.specs.Prelude.{◌≡◌, ◌≤◌, ◌<◌, length, IfOk, map};
 ghost use Rattle.cob_tree.specs.StmtView.{plain_sentence, plain_paragraph};
-ghost use Rattle.cob_lexemes.specs.Steps.{signs, Gives};
+ghost use Rattle.cob_parse_expr.specs.Steps.{signs, Gives};
 ghost use Rattle.cob_parse_proc.specs.Program.{limit, sentence_at, sentences_at, behind_name, paragraph_at, paragraphs_at};
 ghost use Rattle.cob_parse_proc.specs.StmtSteps.{plain_list};
 
 use crate::outer::{name_on_line, stands_start};
 use crate::statement::stmts_in;
 use crate::token::left_at;
-use cob_lexemes::{Halt, Lexeme, behind_stop, stands_name, stop};
+use cob_parse_expr::{Halt, Lexeme, behind_stop, stands_name, stop};
 use cob_tree::{Many, Paragraph, Sentence, Stmt};
 use std::alloc::Global;
 

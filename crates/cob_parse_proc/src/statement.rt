@@ -5,7 +5,7 @@ ghost use Rattle.cob_tree.specs.Stmt.{whens_of};
 ghost use Rattle.cob_tree.specs.StmtView.{plain_stmt, plain_tail, plain_verb, plain_when};
 ghost use Rattle.cob_tree.specs.Takes.{takes_stmts, takes_stmt, takes_whens, takes_when};
 ghost use Rattle.reading.specs.Readers.{optional_on};
-ghost use Rattle.cob_lexemes.specs.Steps.{signs, Gives};
+ghost use Rattle.cob_parse_expr.specs.Steps.{signs, Gives};
 ghost use Rattle.cob_parse_proc.specs.Reading.{when_with, stmt_with, stmts_at};
 ghost use Rattle.cob_parse_verb.specs.VerbSteps.{plain_head};
 ghost use Rattle.cob_parse_proc.specs.StmtSteps.{plain_list, plain_phrase, plain_branches, plain_cases, plain_ends, may, phrase_may, tail_may, branches_may, cases_may, ends_may, verb_may, list_at, tail_at, branches_at, chosen_at, cases_at, body_at, ends_at, verb_at};
@@ -17,7 +17,7 @@ use crate::verb::{
     Branches, Cases, Ends, tail, when, with_body, with_branches, with_cases, with_ends,
     with_phrases, with_room,
 };
-use cob_lexemes::{Halt, Lexeme, behind};
+use cob_parse_expr::{Halt, Lexeme, behind};
 use cob_parse_verb::{Head, choices_in, head_in};
 use cob_tree::{Keyword, Stmt, Tail, Verb, When};
 use std::alloc::Global;

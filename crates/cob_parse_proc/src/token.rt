@@ -4,14 +4,14 @@ ghost use Rattle.std.specs.Option.{option_map};
 ghost use Rattle.cob_tree.specs.declared.keyword.Keyword.TheVariants as key;
 ghost use Rattle.cob_tree.specs.Cues.{Starts, Whens};
 ghost use Rattle.reading.specs.Readers.{behind, both_behind};
-ghost use Rattle.cob_lexemes.specs.Lexemes.{plain_symbol};
-ghost use Rattle.cob_lexemes.specs.Classes.{word_symbol};
-ghost use Rattle.cob_lexemes.specs.Steps.{signs, Fails, Gives};
+ghost use Rattle.cob_parse_expr.specs.Lexemes.{plain_symbol};
+ghost use Rattle.cob_parse_expr.specs.LexemeClasses.{word_symbol};
+ghost use Rattle.cob_parse_expr.specs.Steps.{signs, Fails, Gives};
 ghost use Rattle.cob_parse_verb.specs.Words.{start_key};
 ghost use Rattle.cob_parse_proc.specs.Reading.{here, one_word};
 ghost use Rattle.cob_parse_proc.specs.StmtSteps.{full_at, left_at, behind_error, end_at};
 
-use cob_lexemes::{Halt, Lexeme, Symbol, behind, expect, next};
+use cob_parse_expr::{Halt, Lexeme, Symbol, behind, expect, next};
 use cob_parse_verb::start_of;
 use cob_tree::Keyword;
 

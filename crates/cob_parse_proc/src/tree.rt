@@ -1,12 +1,12 @@
 //! Whole programs.
 ghost use Rattle.std.specs.Prelude.{◌≤◌, ◌<◌, length, IfOk};
 ghost use Rattle.cob_tree.specs.StmtView.{plain_tree};
-ghost use Rattle.cob_lexemes.specs.Steps.{signs, Gives};
+ghost use Rattle.cob_parse_expr.specs.Steps.{signs, Gives};
 ghost use Rattle.cob_parse_proc.specs.Program.{limit, before_at, ending_at, end_at, tree_at};
 
 use crate::sentence::{paragraphs, sentences};
-use cob_lexemes::{Halt, Lexeme, expect, line_of, stands, stop};
 use cob_parse_data::{front_in, named};
+use cob_parse_expr::{Halt, Lexeme, expect, line_of, stands, stop};
 use cob_tree::{EndProgram, Front, Keyword, Many, Tree};
 use std::alloc::Global;
 

@@ -8,12 +8,12 @@ ghost use Rattle.cob_tree.specs.Stmt as stmt;
 ghost use Rattle.cob_tree.specs.StmtView.{plain_loop, plain_sel, plain_tail, plain_verb, plain_when};
 ghost use Rattle.cob_tree.specs.Takes.{takes_verb};
 ghost use Rattle.reading.specs.Readers.{Reader, seen};
-ghost use Rattle.cob_lexemes.specs.Steps.{signs, Gives};
+ghost use Rattle.cob_parse_expr.specs.Steps.{signs, Gives};
 ghost use Rattle.cob_parse_verb.specs.Heads.{with_tail};
 ghost use Rattle.cob_parse_verb.specs.VerbSteps.{plain_arithmetic};
 ghost use Rattle.cob_parse_proc.specs.StmtSteps.{Branches as Two, Cases as Choice, Ends as Both, plain_list, plain_phrase, plain_branches, plain_cases, plain_ends, may, tail_may, branches_may, cases_may, ends_may, if_of, evaluate_of, read_of};
 
-use cob_lexemes::{Halt, Lexeme};
+use cob_parse_expr::{Halt, Lexeme};
 use cob_parse_verb::Arithmetic;
 use cob_tree::{Cond, Loop, Many, Name, Ref, Sel, Stmt, Subject, Tail, Verb, When};
 use std::alloc::{AllocError, Global};

@@ -10,7 +10,7 @@ use Rattle.cob_tree.specs.Takes.{begins_opnd, begins_loop}
 use Rattle.reading.specs.Readers.{stands}
 use Rattle.reading.specs.Printing.{begins, on_mark, ahead, peek_on}
 use Rattle.cob_parse_expr.specs.Alphabet.{key_front, symbol_front, grammar}
-use Rattle.cob_lexemes.specs.Classes.{name_symbol, word_symbol}
+use Rattle.cob_parse_expr.specs.LexemeClasses.{name_symbol, word_symbol}
 use Rattle.cob_parse_expr.specs.Classes.{name_of, const_as, const_of, of_key, of_of}
 use Rattle.cob_parse_expr.proofs.CueLemmas.{not_cues}
 use Rattle.cob_parse_expr.proofs.ClassLaws.{told}

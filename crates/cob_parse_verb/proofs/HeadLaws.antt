@@ -27,7 +27,7 @@ use Rattle.reading.proofs.Maybe.{maybe_syntax, maybe_tail}
 use Rattle.reading.proofs.Opt.{phrase_syntax, phrase_law}
 use Rattle.reading.proofs.Choose.{choose_syntax, choose_law}
 use Rattle.cob_parse_expr.specs.Alphabet.{grammar}
-use Rattle.cob_lexemes.specs.Classes.{word_symbol}
+use Rattle.cob_parse_expr.specs.LexemeClasses.{word_symbol}
 use Rattle.cob_parse_expr.specs.Parsing.{cond_syntax}
 use Rattle.cob_parse_expr.specs.CondReading.{cond_at}
 use Rattle.cob_parse_expr.proofs.CueLemmas.{only}

@@ -33,7 +33,7 @@ use Rattle.reading.proofs.Many.{is_given, many_syntax}
 use Rattle.reading.proofs.Maybe.{maybe_syntax, maybe_tail}
 use Rattle.reading.proofs.Plus.{plus_syntax, plus_law}
 use Rattle.cob_parse_expr.specs.Alphabet.{key_front, symbol_front, grammar}
-use Rattle.cob_lexemes.specs.Classes.{name_symbol}
+use Rattle.cob_parse_expr.specs.LexemeClasses.{name_symbol}
 use Rattle.cob_parse_expr.specs.Classes.{name_of}
 use Rattle.cob_parse_expr.specs.Reading.{here, ref_at, opnd_at}
 use Rattle.cob_parse_expr.proofs.CueLemmas.{only, not_cues, not_taken}

@@ -6,9 +6,9 @@ use Rattle.cob_tree.specs.Cues.{Cue}
 use Rattle.reading.specs.Readers.{Fault, Stop, Deep, Reader, ◌>>=◌, many_at, no_step}
 use Rattle.reading.specs.Printing.{begins}
 use Rattle.cob_parse_expr.specs.Alphabet.{grammar}
-use Rattle.cob_lexemes.specs.declared.halt.Halt.{Halt}
-use Rattle.cob_lexemes.specs.declared.halt.Halt.TheVariants as halt
-use Rattle.cob_lexemes.specs.Steps.{Fails}
+use Rattle.cob_parse_expr.specs.declared.halt.Halt.{Halt}
+use Rattle.cob_parse_expr.specs.declared.halt.Halt.TheVariants as halt
+use Rattle.cob_parse_expr.specs.Steps.{Fails}
 use Rattle.cob_parse_expr.proofs.Loop.{with_front}
 use Rattle.cob_parse_verb.specs.Lists.{some_at}
 

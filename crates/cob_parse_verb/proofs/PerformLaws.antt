@@ -27,7 +27,7 @@ use Rattle.reading.proofs.Many.{many_syntax, many_law}
 use Rattle.reading.proofs.Opt.{opener_here, phrase_syntax, plain_law}
 use Rattle.reading.proofs.Choose.{choose_syntax, choose_law}
 use Rattle.cob_parse_expr.specs.Alphabet.{grammar}
-use Rattle.cob_lexemes.specs.Classes.{name_symbol, word_symbol}
+use Rattle.cob_parse_expr.specs.LexemeClasses.{name_symbol, word_symbol}
 use Rattle.cob_parse_expr.specs.Classes.{name_of, const_as, const_of, of_key}
 use Rattle.cob_parse_expr.specs.Reading.{second, qualifiers_at}
 use Rattle.cob_parse_expr.proofs.CueLemmas.{not_taken}

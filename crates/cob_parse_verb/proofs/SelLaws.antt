@@ -27,7 +27,7 @@ use Rattle.reading.proofs.Grows.{Grows, samples_one, grows_one, grows_nothing, g
 use Rattle.reading.proofs.Opt.{opt_syntax, opt_law}
 use Rattle.reading.proofs.Choose.{choose_syntax, choose_law}
 use Rattle.cob_parse_expr.specs.Alphabet.{grammar}
-use Rattle.cob_lexemes.specs.Classes.{word_symbol}
+use Rattle.cob_parse_expr.specs.LexemeClasses.{word_symbol}
 use Rattle.cob_parse_expr.specs.Reading.{second, expr_at}
 use Rattle.cob_parse_expr.specs.Parsing.{expr_syntax, cond_syntax}
 use Rattle.cob_parse_expr.proofs.CueLemmas.{only, not_taken}

@@ -25,7 +25,7 @@ use Rattle.reading.proofs.Seen.{View, seen_law}
 use Rattle.reading.proofs.Opt.{opt_syntax, opt_law, phrase_syntax, phrase_law}
 use Rattle.reading.proofs.Choose.{choose_syntax, choose_law}
 use Rattle.cob_parse_expr.specs.Alphabet.{grammar}
-use Rattle.cob_lexemes.specs.Classes.{name_symbol}
+use Rattle.cob_parse_expr.specs.LexemeClasses.{name_symbol}
 use Rattle.cob_parse_expr.specs.Classes.{name_of}
 use Rattle.cob_parse_expr.proofs.CueLemmas.{only}
 use Rattle.cob_parse_expr.proofs.Generic.{tells_by_one}

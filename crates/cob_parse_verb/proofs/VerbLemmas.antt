@@ -19,9 +19,9 @@ use Rattle.cob_parse_expr.specs.Alphabet.{grammar}
 use Rattle.cob_parse_expr.specs.Classes.{name_of, const_of}
 use Rattle.cob_parse_expr.specs.Reading.{qualifiers_at, ref_at, opnd_at, expr_at}
 use Rattle.cob_parse_expr.specs.CondReading.{cond_at}
-use Rattle.cob_lexemes.specs.declared.halt.Halt.{Halt}
-use Rattle.cob_lexemes.specs.Steps.{Leads, Lacks, Fails}
-use Rattle.cob_lexemes.proofs.StepLemmas.{fails_first, fails_second}
+use Rattle.cob_parse_expr.specs.declared.halt.Halt.{Halt}
+use Rattle.cob_parse_expr.specs.Steps.{Leads, Lacks, Fails}
+use Rattle.cob_parse_expr.proofs.LexemeSteps.{fails_first, fails_second}
 use Rattle.cob_parse_expr.proofs.CondLemmas.{no_not}
 use Rattle.reading.proofs.Results.{ok_is}
 use Rattle.cob_parse_verb.specs.Words as word

@@ -17,12 +17,12 @@ use Rattle.reading.proofs.Lead.{Class}
 use Rattle.reading.specs.Printing.{Here}
 use Rattle.cob_tree.specs.Cues.{key_cue}
 use Rattle.cob_parse_expr.specs.Alphabet.{key_front, grammar}
-use Rattle.cob_lexemes.specs.Classes.{word_symbol}
+use Rattle.cob_parse_expr.specs.LexemeClasses.{word_symbol}
 use Rattle.cob_parse_verb.specs.Words as word
 use Rattle.cob_parse_verb.specs.declared.word.Start.{Start}
 use Rattle.cob_parse_verb.specs.declared.word.Start.TheVariants as start
 use Rattle.cob_parse_verb.specs.declared.word.Begin.{Begin}
-use Rattle.cob_lexemes.proofs.WordLemmas.{own_key, only_the}
+use Rattle.cob_parse_expr.proofs.WordLemmas.{own_key, only_the}
 use Rattle.cob_parse_verb.specs.Words.{Word, key_of, the_key, the, mode_key, mode_of, place_key, place_of, equal_rel, equal_symbol, equal_of, start_word, start_key, begin_on, begin_of}
 
 -- ---- one word

@@ -14,7 +14,7 @@ use Rattle.reading.proofs.Lead.{lead_syntax, branch_law}
 use Rattle.reading.proofs.Starts.{Begins, Starts, starts_by_one}
 use Rattle.reading.proofs.Opt.{Opening, one_opening}
 use Rattle.cob_parse_expr.specs.Alphabet.{symbol_front, grammar}
-use Rattle.cob_lexemes.specs.Classes.{word_symbol}
+use Rattle.cob_parse_expr.specs.LexemeClasses.{word_symbol}
 use Rattle.cob_parse_expr.specs.Reading.{here}
 use Rattle.cob_parse_expr.proofs.CueLemmas.{not_taken}
 use Rattle.cob_parse_expr.proofs.ClassLaws.{told}

@@ -9,8 +9,8 @@ use Rattle.cob_tree.specs.declared.stmt.Mode.TheVariants as mode
 use Rattle.cob_tree.specs.declared.stmt.Place.{Place}
 use Rattle.cob_tree.specs.declared.stmt.Place.TheVariants as place
 use Rattle.cob_tree.specs.Symbols.{Symbol, Relation, Sign}
-use Rattle.cob_lexemes.specs.Classes.{of, word_symbol}
-use Rattle.cob_lexemes.specs.Classes as known
+use Rattle.cob_parse_expr.specs.LexemeClasses.{of, word_symbol}
+use Rattle.cob_parse_expr.specs.LexemeClasses as known
 use Rattle.cob_parse_verb.specs.declared.word.Start.{Start}
 use Rattle.cob_parse_verb.specs.declared.word.Start.TheVariants as start
 use Rattle.cob_parse_verb.specs.declared.word.Begin.{Begin}

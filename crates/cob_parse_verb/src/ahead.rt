@@ -4,13 +4,13 @@ ghost use Rattle.cob_tree.specs.Cues.{is, Givings, Names, Modes, Whens};
 ghost use Rattle.cob_tree.specs.Takes.{begins_opnd, begins_loop};
 ghost use Rattle.reading.specs.Printing.{begins};
 ghost use Rattle.cob_parse_expr.specs.Alphabet.{grammar};
-ghost use Rattle.cob_lexemes.specs.Steps.{signs};
+ghost use Rattle.cob_parse_expr.specs.Steps.{signs};
 ghost use Rattle.cob_parse_verb.specs.Procedure.{procedure};
 ghost use Rattle.cob_parse_verb.specs.Turning.{turns, follows_name};
 ghost use Rattle.cob_parse_verb.specs.VerbSteps.{loop_stands};
 
 use crate::token::{begins_constant, begins_mode, begins_name, begins_of};
-use cob_lexemes::{Lexeme, stands};
+use cob_parse_expr::{Lexeme, stands};
 use cob_tree::Keyword;
 
 /// Whether another name may stand here.

@@ -5,7 +5,7 @@ ghost use Rattle.cob_tree.specs.ExprView.{plain_expr};
 ghost use Rattle.cob_tree.specs.Stmt.{add_to, add_giving, subtract_from, subtract_giving, multiply_by, multiply_giving, divide_into, divide_giving, compute};
 ghost use Rattle.cob_tree.specs.StmtView.{plain_tail, plain_verb};
 ghost use Rattle.reading.specs.Readers.{seen};
-ghost use Rattle.cob_lexemes.specs.Steps.{signs, Gives};
+ghost use Rattle.cob_parse_expr.specs.Steps.{signs, Gives};
 ghost use Rattle.cob_parse_verb.specs.Heads.{with_tail, end_word};
 ghost use Rattle.cob_parse_verb.specs.Heads as head;
 ghost use Rattle.cob_parse_verb.specs.Sums.{make_add, add_at, make_subtract, subtract_at, make_multiply, multiply_at, make_divide, divide_at, by_part, compute_at};
@@ -15,8 +15,7 @@ ghost use Rattle.cob_parse_verb.specs.VerbSteps.{plain_arithmetic, plain_target}
 use crate::list::{opnds_in, recvs_in};
 use crate::target::{Aim, Target, aim_in, giving_in, giving_remainder_in, target_in};
 use crate::token::expect_equal;
-use cob_lexemes::{Halt, Lexeme, behind, expect};
-use cob_parse_expr::{expr_in, opnd_in};
+use cob_parse_expr::{Halt, Lexeme, behind, expect, expr_in, opnd_in};
 use cob_tree::{Expr, Keyword, Many, Opnd, Recv, Ref, Tail, Verb, Way};
 use std::alloc::Global;
 

@@ -1,7 +1,7 @@
 //! Statements before their own lists.
 ghost use Rattle.std.specs.Prelude.{◌≡◌, ◌≤◌, ◌<◌, length, IfOk};
 ghost use Rattle.cob_tree.specs.Cues.{NotRelates};
-ghost use Rattle.cob_lexemes.specs.Steps.{signs, Gives};
+ghost use Rattle.cob_parse_expr.specs.Steps.{signs, Gives};
 ghost use Rattle.reading.specs.Readers.{seen};
 ghost use Rattle.cob_parse_verb.specs.Heads.{arithmetic, takes_behind, takes_head};
 ghost use Rattle.cob_parse_verb.specs.Reading.{if_at, behind_at, head_at};
@@ -17,8 +17,7 @@ use crate::simple::{
 };
 use crate::token::begin_in;
 use crate::word::{Begin, Start};
-use cob_lexemes::{Halt, Lexeme};
-use cob_parse_expr::cond_in;
+use cob_parse_expr::{Halt, Lexeme, cond_in};
 use cob_tree::{Cond, Loop, Name, Ref, Subject, Verb};
 use std::alloc::Global;
 

@@ -1,12 +1,11 @@
 //! Lists of names, references, operands, receivers and files.
 ghost use Rattle.std.specs.Prelude.{◌≡◌, ◌≤◌, ◌<◌, length, IfOk};
-ghost use Rattle.cob_lexemes.specs.Steps.{signs, Gives};
+ghost use Rattle.cob_parse_expr.specs.Steps.{signs, Gives};
 ghost use Rattle.cob_parse_verb.specs.Lists.{names_at, refs_at, opnds_at, recv_at, recvs_at, opens_at, files_at};
 
 use crate::ahead::{mode_begins, name_begins, operand_begins};
 use crate::token::mode_in;
-use cob_lexemes::{Halt, Lexeme, behind};
-use cob_parse_expr::{name_at, opnd_in, ref_in};
+use cob_parse_expr::{Halt, Lexeme, behind, name_at, opnd_in, ref_in};
 use cob_tree::{Keyword, Many, Name, Opens, Opnd, Recv, Ref};
 use std::alloc::Global;
 

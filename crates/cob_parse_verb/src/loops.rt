@@ -5,13 +5,12 @@ ghost use Rattle.cob_tree.specs.Cues.{NotRelates};
 ghost use Rattle.cob_tree.specs.Stmt.{times, until};
 ghost use Rattle.cob_tree.specs.StmtView.{plain_loop};
 ghost use Rattle.cob_tree.specs.Takes.{takes_cond, takes_loop};
-ghost use Rattle.cob_lexemes.specs.Steps.{signs, Gives};
+ghost use Rattle.cob_parse_expr.specs.Steps.{signs, Gives};
 ghost use Rattle.cob_parse_verb.specs.Turning.{times_at, varying_at, until_at, varied_at, tested_at, loop_at};
 
 use crate::ahead::operand_begins;
 use crate::token::place_in;
-use cob_lexemes::{Halt, Lexeme, behind, expect};
-use cob_parse_expr::{cond_in, opnd_in, ref_in};
+use cob_parse_expr::{Halt, Lexeme, behind, cond_in, expect, opnd_in, ref_in};
 use cob_tree::{Cond, Keyword, Loop, Opnd, Place, Varying};
 use std::alloc::Global;
 

@@ -6,7 +6,7 @@ ghost use Rattle.cob_tree.specs.Cues.{NotRelates};
 ghost use Rattle.cob_tree.specs.Stmt.{perform_range};
 ghost use Rattle.cob_tree.specs.StmtView.{plain_loop};
 ghost use Rattle.reading.specs.Readers.{seen};
-ghost use Rattle.cob_lexemes.specs.Steps.{signs, Gives};
+ghost use Rattle.cob_parse_expr.specs.Steps.{signs, Gives};
 ghost use Rattle.cob_parse_verb.specs.Heads.{done, takes_behind};
 ghost use Rattle.cob_parse_verb.specs.Turning.{through_at, ranged_at, behind_name, named_at, unnamed_at, make_perform, perform_at};
 ghost use Rattle.cob_parse_verb.specs.VerbSteps.{plain_head, make_ranged, counted_at};
@@ -15,8 +15,7 @@ use crate::ahead::{counts, loop_begins, name_goes_on};
 use crate::head::Head;
 use crate::loops::{loop_in, tested_in, times};
 use crate::token::{begins_constant, begins_name};
-use cob_lexemes::{Halt, Lexeme, behind, expect};
-use cob_parse_expr::{const_at, name_at, ref_in};
+use cob_parse_expr::{Halt, Lexeme, behind, const_at, expect, name_at, ref_in};
 use cob_tree::{Keyword, Loop, Name, Opnd, Verb};
 use std::alloc::Global;
 

@@ -6,7 +6,7 @@ ghost use Rattle.cob_tree.specs.ExprView.{plain_expr};
 ghost use Rattle.cob_tree.specs.Stmt.{any, range, choice};
 ghost use Rattle.cob_tree.specs.StmtView.{plain_sel};
 ghost use Rattle.cob_tree.specs.Takes.{takes_cond, takes_sel};
-ghost use Rattle.cob_lexemes.specs.Steps.{signs, Gives};
+ghost use Rattle.cob_parse_expr.specs.Steps.{signs, Gives};
 ghost use Rattle.cob_parse_verb.specs.Heads.{takes_behind};
 ghost use Rattle.cob_parse_verb.specs.Listed.{takes_listed};
 ghost use Rattle.cob_parse_verb.specs.Reading.{evaluate_at};
@@ -15,8 +15,7 @@ ghost use Rattle.cob_parse_verb.specs.VerbSteps.{plain_head, sel_behind};
 
 use crate::ahead::when_begins;
 use crate::head::Head;
-use cob_lexemes::{Halt, Lexeme, behind, expect};
-use cob_parse_expr::{cond_in, expr_in, one_alone, ref_in};
+use cob_parse_expr::{Halt, Lexeme, behind, cond_in, expect, expr_in, one_alone, ref_in};
 use cob_tree::{Cond, Expr, Keyword, Sel, Subject};
 use std::alloc::Global;
 

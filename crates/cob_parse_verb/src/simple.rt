@@ -2,15 +2,14 @@
 ghost use Rattle.std.specs.Prelude.{◌≡◌, ◌≤◌, length, IfOk};
 ghost use Rattle.cob_tree.specs.Cues.{NotRelates};
 ghost use Rattle.cob_tree.specs.Stmt.{move, set, display, go, exit, continue, stop_run, open_, close, write};
-ghost use Rattle.cob_lexemes.specs.Steps.{signs, Gives};
+ghost use Rattle.cob_parse_expr.specs.Steps.{signs, Gives};
 ghost use Rattle.cob_parse_verb.specs.Heads.{done, takes_behind};
 ghost use Rattle.cob_parse_verb.specs.Reading.{move_at, set_at, display_at, go_at, exit_at, continue_at, stop_at, open_at, close_at, written_at, write_at, read_at};
 ghost use Rattle.cob_parse_verb.specs.VerbSteps.{plain_head};
 
 use crate::head::Head;
 use crate::list::{files_in, names_in, opnds_in, refs_in};
-use cob_lexemes::{Halt, Lexeme, behind, expect};
-use cob_parse_expr::{name_at, opnd_in, ref_in};
+use cob_parse_expr::{Halt, Lexeme, behind, expect, name_at, opnd_in, ref_in};
 use cob_tree::{Keyword, Many, Name, Opens, Opnd, Ref, Verb};
 use std::alloc::Global;
 

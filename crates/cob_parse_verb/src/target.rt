@@ -1,6 +1,6 @@
 //! Where arithmetic statements put their results.
 ghost use Rattle.std.specs.Prelude.{◌≡◌, ◌≤◌, ◌&&◌, length, IfOk};
-ghost use Rattle.cob_lexemes.specs.Steps.{signs, Gives};
+ghost use Rattle.cob_parse_expr.specs.Steps.{signs, Gives};
 ghost use Rattle.cob_parse_verb.specs.Lists.{recvs_at};
 ghost use Rattle.cob_parse_verb.specs.Targets.{may_give, giving_at, target_at, given_at};
 ghost use Rattle.cob_parse_verb.specs.VerbSteps.{plain_aim, aim_if, aim_at, plain_target};
@@ -8,8 +8,7 @@ ghost use Rattle.cob_parse_verb.specs.VerbSteps.{plain_aim, aim_if, aim_at, plai
 use crate::ahead::giving_begins;
 use crate::list::recvs_in;
 use crate::token::begins_name;
-use cob_lexemes::{Halt, Lexeme, behind, expect};
-use cob_parse_expr::{const_at, ref_in};
+use cob_parse_expr::{Halt, Lexeme, behind, const_at, expect, ref_in};
 use cob_tree::{Keyword, Opnd, Recv, Ref};
 use std::alloc::Global;
 

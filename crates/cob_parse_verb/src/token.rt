@@ -1,15 +1,14 @@
 //! The tokens that stand in statements before their lists of statements, in front of lexemes.
 ghost use Rattle.std.specs.Prelude.{◌≡◌, ◌<◌, length, IfOk, is_some, false};
 ghost use Rattle.reading.specs.Readers.{lead, stands};
-ghost use Rattle.cob_lexemes.specs.Classes.{word_symbol};
-ghost use Rattle.cob_lexemes.specs.Lexemes.{plain_symbol};
-ghost use Rattle.cob_lexemes.specs.Steps.{signs, Gives};
+ghost use Rattle.cob_parse_expr.specs.LexemeClasses.{word_symbol};
+ghost use Rattle.cob_parse_expr.specs.Lexemes.{plain_symbol};
+ghost use Rattle.cob_parse_expr.specs.Steps.{signs, Gives};
 ghost use Rattle.cob_parse_expr.specs.Classes.{name_of, const_of, of_key, of_of};
 ghost use Rattle.cob_parse_verb.specs.Words.{mode_key, mode_of, place_key, place_of, equal_symbol, equal_of, start_key, begin_of};
 
 use crate::word::{Begin, Start, start_of};
-use cob_lexemes::{Halt, Lexeme, Symbol, is_name, next};
-use cob_parse_expr::is_constant;
+use cob_parse_expr::{Halt, Lexeme, Symbol, is_constant, is_name, next};
 use cob_tree::{Keyword, Mode, Place, Rel};
 
 fn key_mode(keyword: Keyword) -> Option<Mode>

@@ -6,7 +6,7 @@ ghost use Rattle.cob_program.specs.ActView.{plain_program, plain_stmts, plain_ph
 ghost use Rattle.cob_runs.specs.Contents.{form_at};
 ghost use Rattle.cob_runs.specs.Acts.{open_one, close_one};
 ghost use Rattle.cob_runs.specs.Steps.{outcome_of, each_from, behind_read, done};
-ghost use Rattle.cob_items.specs.WellFormed.{CanMove};
+ghost use Rattle.cob_store.specs.WellFormed.{CanMove};
 ghost use Rattle.cob_world.specs.Becoming.{Becomes};
 ghost use Rattle.cob_step.specs.Views.{plain_control, plain_run};
 

@@ -7,7 +7,7 @@ ghost use Rattle.cob_runs.specs.Files.{Choice};
 ghost use Rattle.cob_runs.specs.Runs.{begin};
 ghost use Rattle.cob_runs.specs.State.{state};
 ghost use Rattle.cob_runs.specs.Steps.{step, step_on, settled_state, front_done, number_of};
-ghost use Rattle.cob_items.specs.WellFormed.{HasWellFormedItems};
+ghost use Rattle.cob_store.specs.WellFormed.{HasWellFormedItems};
 ghost use Rattle.cob_world.specs.Becoming.{Becomes};
 ghost use Rattle.cob_world.specs.Doing.{CanDoProgram};
 ghost use Rattle.cob_step.specs.Ready.{CanDoNext, IsReady};

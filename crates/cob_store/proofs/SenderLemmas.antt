@@ -13,7 +13,7 @@ use Rattle.cob_data.specs.declared.layout.Item.{Item}
 use Rattle.cob_data.specs.declared.layout.Layout.{Layout}
 use Rattle.cob_program.specs.Bounds.{IsWithin, IsSmall, form_bound}
 use Rattle.cob_runs.specs.Contents.{item_at, form_at, length_at}
-use Rattle.cob_items.specs.WellFormed.{HasWellFormedItems, IsWellFormedItem, IsWellFormedForm, IsShort}
+use Rattle.cob_store.specs.WellFormed.{HasWellFormedItems, IsWellFormedItem, IsWellFormedForm, IsShort}
 
 pub found_at : {X : Type 0} (P : X → Type 0) (xs : List X) (place : ℕ) → All P xs → IfSome (slice_get xs place) P
 found_at P [] place all = tt

@@ -5,7 +5,7 @@ use Rattle.std.proofs.lemmas.List.{take_all, take_at, take-append-le, take-repli
 use Rattle.std.proofs.Math.Seq.{take-append-add}
 use borrow.Rule.Slice.PartMut.{put_mid}
 use Rattle.cob_runs.specs.Contents.{fitted}
-use Rattle.cob_items.proofs.Parts.{put_mid-written}
+use Rattle.cob_store.proofs.Parts.{put_mid-written}
 
 fitted_short : (n : ℕ) (text : List ℕ) (count : ℕ) → length text ≤ n → count ≡ length text → take count text ++ replicate (n - count) 32 ≡ fitted n text
 fitted_short n text count short is =

@@ -3,7 +3,7 @@ ghost use Rattle.std.specs.Prelude.{◌≡◌, ◌↔◌, [], length, false, IfO
 ghost use Rattle.std.specs.Result.{OnOk};
 ghost use Rattle.cob_runs.specs.Moves.{moved};
 ghost use Rattle.cob_runs.specs.Runs.{with_value, with_constant, with_values, first_storage};
-ghost use Rattle.cob_items.specs.WellFormed.{HasWellFormedItems, IsWellFormedItem, IsConstant, CanMove};
+ghost use Rattle.cob_store.specs.WellFormed.{HasWellFormedItems, IsWellFormedItem, IsConstant, CanMove};
 
 use crate::end::MoveEnd;
 use crate::moves::{moved_in, room};

@@ -4,14 +4,15 @@ ghost use Rattle.std.specs.List.{All};
 ghost use Rattle.std.specs.Result.{OnOk};
 ghost use Rattle.cob_runs.specs.Contents.{form_at, length_at};
 ghost use Rattle.cob_runs.specs.Moves.{takes_number, is_group_sender, moved, after_move};
-ghost use Rattle.cob_items.specs.WellFormed.{HasWellFormedItems, IsWellFormedForm, CanMove};
+ghost use Rattle.cob_store.specs.WellFormed.{HasWellFormedItems, IsWellFormedForm, CanMove};
 ghost use Rattle.cob_store.specs.Moving.{HasLayoutLength, IsCause, all_moved, all_filled, AreAsLong};
 
 use crate::end::MoveEnd;
+use crate::items::item_at;
 use crate::senders::{is_group_sender, number_of};
+use crate::stores::{fill_bytes, store_at};
 use crate::writes::write_moved;
 use cob_data::{Item, Layout, Sender};
-use cob_items::{fill_bytes, item_at, store_at};
 use cob_tree::{Form, Kind, Many};
 use dec_num::Mode;
 use std::alloc::{AllocError, Global};

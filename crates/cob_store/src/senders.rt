@@ -4,11 +4,12 @@ ghost use Rattle.cob_program.specs.Bounds.{IsSmall};
 ghost use Rattle.cob_tree.specs.declared.form.Form.TheVariants as form;
 ghost use Rattle.cob_runs.specs.Contents.{number_in};
 ghost use Rattle.cob_runs.specs.Moves.{number_of, is_group, is_group_sender};
-ghost use Rattle.cob_items.specs.WellFormed.{HasWellFormedItems, IsCountable};
+ghost use Rattle.cob_store.specs.WellFormed.{HasWellFormedItems, IsCountable};
 ghost use Rattle.cob_store.specs.Moving.{HasLayoutLength};
 
+use crate::items::item_at;
+use crate::numbers::{literal, number_at, number_in};
 use cob_data::{Layout, Sender};
-use cob_items::{item_at, literal, number_at, number_in};
 use cob_tree::Form;
 use dec_num::Scaled;
 

@@ -2,12 +2,13 @@
 ghost use Rattle.std.specs.Prelude.{◌≡◌, ◌≤◌, ◌<◌, ◌^◌, ◌++◌, ◌∷◌, ◌==◌, [], length, unsigned_abs, IfOk};
 ghost use Rattle.std.specs.Result.{OnOk};
 ghost use Rattle.cob_runs.specs.Showing.{minus_if, with_point, shown_number, shown_item, shown_sender, line_of};
-ghost use Rattle.cob_items.specs.WellFormed.{HasWellFormedItems, IsWellFormedForm};
+ghost use Rattle.cob_store.specs.WellFormed.{HasWellFormedItems, IsWellFormedForm};
 ghost use Rattle.cob_data.specs.declared.layout.Sender.TheVariants as sender;
 
+use crate::items::{bytes_at, item_at};
+use crate::numbers::number_in;
 use crate::texts::spell;
 use cob_data::{Layout, Sender};
-use cob_items::{bytes_at, item_at, number_in};
 use cob_tree::{Form, Num};
 use dec_num::Scaled;
 use std::alloc::AllocError;

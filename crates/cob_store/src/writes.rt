@@ -8,13 +8,15 @@ ghost use Rattle.cob_program.specs.Bounds.{IsSmall};
 ghost use Rattle.cob_runs.specs.Contents.{stored};
 ghost use Rattle.cob_runs.specs.Faults.{or_fault};
 ghost use Rattle.cob_runs.specs.Moves.{takes_number, is_group_sender, item_text, text_of, raw_text, moved_text, moved_number, moved_amount, moved};
-ghost use Rattle.cob_items.specs.WellFormed.{HasWellFormedItems, IsWellFormedForm, IsCountable, CanMove};
+ghost use Rattle.cob_store.specs.WellFormed.{HasWellFormedItems, IsWellFormedForm, IsCountable, CanMove};
 ghost use Rattle.cob_store.specs.Moving.{HasLayoutLength, Writes, fitted_text};
 
+use crate::items::{bytes_at, item_at};
+use crate::numbers::{number_in, scale_of};
 use crate::senders::{is_group_sender, number_of};
+use crate::stores::{digits_of, write_units};
 use crate::texts::{write_fill, write_spelled, write_text};
 use cob_data::{Layout, Sender};
-use cob_items::{bytes_at, digits_of, item_at, number_in, scale_of, write_units};
 use cob_tree::{Form, Kind};
 use dec_num::{Fit, Mode, Scaled, fit};
 

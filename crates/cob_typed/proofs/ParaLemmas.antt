@@ -10,8 +10,8 @@ use Rattle.cob_tree.specs.declared.tree.Paragraph.{Paragraph}
 use Rattle.cob_tree.specs.StmtView.{plain_paragraph}
 use Rattle.cob_data.specs.declared.end.Rule.{Rule}
 use Rattle.cob_data.specs.declared.end.Rule.TheVariants.{Q11}
-use Rattle.cob_names.specs.declared.found.Found.{Found}
-use Rattle.cob_names.specs.Search.{found_and}
+use Rattle.cob_typed_exprs.specs.declared.found.Found.{Found}
+use Rattle.cob_typed_exprs.specs.Search.{found_and}
 use Rattle.cob_typed_exprs.specs.declared.finding.Finding.{Finding}
 use Rattle.cob_typed_exprs.specs.Judged.{finding, noted, unless}
 use Rattle.cob_typed_exprs.specs.Scope.{place_if, found_in, paras_from}

@@ -1,3 +1,8 @@
+pub mod AboveLemmas
+pub mod HomeLemmas
+pub mod FoundLemmas
+pub mod MeaningLemmas
+pub mod FewPlaces
 pub mod EachLemmas
 pub mod Loops
 pub mod Places

@@ -3,10 +3,10 @@ use Rattle.std.proofs.Common.{ℕ, zero, suc, ◌≡◌, ◌<◌, ◌≤◌, Boo
 use Rattle.std.proofs.lemmas.Bool.{cases_lt}
 use Rattle.std.proofs.lemmas.List.{append-nil}
 use Rattle.cob_tree.specs.declared.operand.Ref.{Ref}
-use Rattle.cob_names.specs.declared.found.Found.{Found}
-use Rattle.cob_names.specs.declared.found.Found.TheVariants as found
-use Rattle.cob_names.specs.Names.{IsFound, NamesItem, NamesFlag, NamesFile, NamesRecord, names_item, names_flag_at, names_file_at, names_record}
-use Rattle.cob_names.proofs.MeaningLemmas.{one_found}
+use Rattle.cob_typed_exprs.specs.declared.found.Found.{Found}
+use Rattle.cob_typed_exprs.specs.declared.found.Found.TheVariants as found
+use Rattle.cob_typed_exprs.specs.Names.{IsFound, NamesItem, NamesFlag, NamesFile, NamesRecord, names_item, names_flag_at, names_file_at, names_record}
+use Rattle.cob_typed_exprs.proofs.MeaningLemmas.{one_found}
 use Rattle.cob_typed_exprs.specs.Scope.{Scope, place_if, places, found_in, item_named, flag_named, file_named, record_named}
 
 -- a place below n that has it

@@ -1,3 +1,7 @@
+pub mod Names
+pub mod Tables
+pub mod Homes
+pub mod Search
 pub mod Judged
 pub mod Scope
 pub mod Paras

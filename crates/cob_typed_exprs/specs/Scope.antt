@@ -8,9 +8,9 @@ use Rattle.cob_data.specs.declared.end.Rule.{Rule}
 use Rattle.cob_data.specs.declared.end.Rule.TheVariants.{Q1}
 use Rattle.cob_data.specs.declared.layout.Item.{Item}
 use Rattle.cob_data.specs.declared.layout.Layout.{Layout}
-use Rattle.cob_names.specs.declared.found.Found.{Found}
-use Rattle.cob_names.specs.declared.found.Found.TheVariants as found
-use Rattle.cob_names.specs.Names.{names_item, names_flag_at, names_file_at, names_record}
+use Rattle.cob_typed_exprs.specs.declared.found.Found.{Found}
+use Rattle.cob_typed_exprs.specs.declared.found.Found.TheVariants as found
+use Rattle.cob_typed_exprs.specs.Names.{names_item, names_flag_at, names_file_at, names_record}
 use Rattle.cob_typed_exprs.specs.Judged.{Judged, sound, breaks}
 
 -- the layout, and the names of the paragraphs behind the unnamed one

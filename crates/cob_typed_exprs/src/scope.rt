@@ -2,13 +2,14 @@
 ghost use Rattle.std.specs.Prelude.{◌≡◌, map, slice_get, IfOk, OnOk};
 ghost use Rattle.cob_typed_exprs.specs.Paras.{HasParas};
 ghost use Rattle.std.specs.Option.{option_copied};
-ghost use Rattle.cob_names.specs.declared.found.Found.{Found};
+ghost use Rattle.cob_typed_exprs.specs.declared.found.Found.{Found};
 ghost use Rattle.cob_typed_exprs.specs.Judged.{noted};
 ghost use Rattle.cob_typed_exprs.specs.Scope.{item_named, flag_named, file_named, record_named, para_named, is_there, names_apart, means_something, exactly_one, one_of_kind, rule_if, the_item, form_at};
 
 use crate::finding::{Finding, note};
+use crate::found::Found;
+use crate::names::Names;
 use cob_data::{FileDecl, Flag, Item, Layout, Rule};
-use cob_names::{Found, Names};
 use cob_tree::{Form, Paragraph, Ref};
 use indexmap::IndexMap;
 use std::alloc::{AllocError, Global};

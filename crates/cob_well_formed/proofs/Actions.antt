@@ -14,8 +14,8 @@ use Rattle.cob_tree.specs.Forms.{is_number_form}
 use Rattle.cob_data.specs.declared.end.Rule.TheVariants.{Q2, Q9, Q10}
 use Rattle.cob_data.specs.declared.layout.Flag.{Flag}
 use Rattle.cob_data.specs.declared.layout.Sender.{Sender}
-use Rattle.cob_names.specs.declared.found.Found.{Found}
-use Rattle.cob_names.specs.declared.found.Found.TheVariants as found
+use Rattle.cob_typed_exprs.specs.declared.found.Found.{Found}
+use Rattle.cob_typed_exprs.specs.declared.found.Found.TheVariants as found
 use Rattle.cob_typed_exprs.specs.Judged.{each_of, if_there}
 use Rattle.cob_typed_exprs.specs.Scope.{Scope, form_at, one_of_kind, the_item}
 use Rattle.cob_typed_exprs.specs.Kinds.{may_move, is_number, is_whole}

@@ -2,7 +2,7 @@
 use Rattle.std.proofs.Common.{◌≡◌, ℕ, ◌+◌, ◌≤◌, zero, suc, Bool, true, false, if◌then◌else◌, cond, eqb, ◌&&◌, ◌||◌, List, [], ◌∷◌, length, take, drop, Option, None, Some, IfSome, refl, ap, ◌∙◌, arith}
 use Rattle.std.proofs.lemmas.Bool.{and_parts, eqb-true}
 use Rattle.std.proofs.lemmas.List.Sums.{sum_by-cons}
-use Rattle.cob_lines.specs.declared.Mark.{Mark}
+use Rattle.cob_lex.specs.declared.text.Mark.{Mark}
 use Rattle.cob_tree.specs.declared.keyword.Keyword.TheVariants.{Is}
 use Rattle.cob_tree.specs.declared.token.Rel.{Rel}
 use Rattle.cob_lex.specs.declared.mark.Class.{Class}

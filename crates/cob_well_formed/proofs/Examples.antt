@@ -2,7 +2,7 @@
 use Rattle.std.proofs.Common.{◌≡◌, ◌≤◌, true, false, [], ◌∷◌, ◌++◌, replicate, refl, arith}
 use Rattle.cob_tree.specs.declared.token.Num.{Num}
 use Rattle.cob_data.specs.Values.{number_fits}
-use Rattle.cob_items.specs.WellFormed.{IsShortLiteral}
+use Rattle.cob_store.specs.WellFormed.{IsShortLiteral}
 
 abbrev long_five : Num
 long_five = record { sign = 0; digits = replicate 18 48 ++ 53 ∷ []; scale = 0 }

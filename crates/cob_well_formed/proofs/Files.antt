@@ -11,9 +11,9 @@ use Rattle.cob_data.specs.declared.end.Rule.{Rule}
 use Rattle.cob_data.specs.declared.end.Rule.TheVariants.{Q1, Q9}
 use Rattle.cob_data.specs.declared.layout.FileDecl.{FileDecl}
 use Rattle.cob_data.specs.declared.layout.Layout.{Layout}
-use Rattle.cob_names.specs.declared.found.Found.{Found}
-use Rattle.cob_names.specs.declared.found.Found.TheVariants as found
-use Rattle.cob_names.specs.Names.{is_among, is_record, names_item, names_record}
+use Rattle.cob_typed_exprs.specs.declared.found.Found.{Found}
+use Rattle.cob_typed_exprs.specs.declared.found.Found.TheVariants as found
+use Rattle.cob_typed_exprs.specs.Names.{is_among, is_record, names_item, names_record}
 use Rattle.cob_runs.specs.Acts.{file_from}
 use Rattle.cob_typed_exprs.specs.Judged.{kept, both, each_of}
 use Rattle.cob_typed_exprs.specs.Scope.{Scope, place_if, places, found_in, means_something, one_of_kind, file_named, record_named, plain_name}

@@ -28,7 +28,7 @@ use Rattle.cob_data.specs.ItemRules as rules
 use Rattle.cob_data.specs.Rules.{Facts, condition_breaks, condition_lines}
 use Rattle.cob_data.specs.Layouts.{laid_items, pair_of, flag_of, layout_in}
 use Rattle.cob_typed_verbs.specs.Verbs.{first_value}
-use Rattle.cob_items.specs.WellFormed.{CanMove}
+use Rattle.cob_store.specs.WellFormed.{CanMove}
 use Rattle.cob_calc.specs.Comparing.{IsShortEnd, AreShortPairs}
 use Rattle.cob_well_formed.specs.Layouts.{IsWellFormedFlag}
 use Rattle.cob_well_formed.proofs.ShortValues.{IsShortConst, IsShortRange, IsShortClause, IsShortPlaced}

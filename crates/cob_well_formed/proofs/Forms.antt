@@ -26,7 +26,7 @@ use Rattle.cob_data.specs.Values.{has_category, has_room, holds, holds_alone}
 use Rattle.cob_data.specs.ItemRules.{breaks_parts, breaks_pictures, breaks_values, may_begin_with, is_formless}
 use Rattle.cob_data.specs.Rules.{item_breaks}
 use Rattle.cob_data.specs.Layouts.{first_low, item_at}
-use Rattle.cob_items.specs.WellFormed.{IsWellFormedForm, IsShortLiteral, CanMove, IsConstant, IsWellFormedItem}
+use Rattle.cob_store.specs.WellFormed.{IsWellFormedForm, IsShortLiteral, CanMove, IsConstant, IsWellFormedItem}
 use Rattle.cob_well_formed.proofs.ShortValues.{IsShortConst, IsShortRange, IsShortClause, IsShortPlaced}
 use Rattle.cob_well_formed.proofs.Pairs.{HasOwnBytes}
 

@@ -22,7 +22,7 @@ use Rattle.cob_data.specs.Files.{is_named, is_two_bytes, is_status_holder, may_h
 use Rattle.cob_data.specs.Rules.{Facts, facts_of, item_breaks, item_lines, condition_lines, select_breaks, select_lines, fd_lines, end_lines, lines_in}
 use Rattle.cob_data.specs.Layouts.{item_at, laid_items, status_place, file_of, fd_place, layout_in, layout, HasLayout}
 use Rattle.cob_data.proofs.AnswerLemmas.{seated}
-use Rattle.cob_items.specs.WellFormed.{IsWellFormedForm, IsWellFormedItem, IsWellFormedFile}
+use Rattle.cob_store.specs.WellFormed.{IsWellFormedForm, IsWellFormedItem, IsWellFormedFile}
 use Rattle.cob_tree.specs.PrintFront.{print_front}
 use Rattle.cob_well_formed.specs.Numerals.{AreShort}
 use Rattle.cob_well_formed.specs.Layouts.{IsWellFormedLayout}

@@ -5,9 +5,9 @@ use Rattle.cob_tree.specs.declared.stmt.Opens.{Opens}
 use Rattle.cob_tree.specs.Stmt as tree
 use Rattle.cob_data.specs.declared.end.Rule.TheVariants.{Q9}
 use Rattle.cob_data.specs.declared.layout.Flag.{Flag}
-use Rattle.cob_names.specs.declared.found.Found.{Found}
-use Rattle.cob_names.specs.declared.found.Found.TheVariants as found
-use Rattle.cob_names.specs.Names.{names_file_at}
+use Rattle.cob_typed_exprs.specs.declared.found.Found.{Found}
+use Rattle.cob_typed_exprs.specs.declared.found.Found.TheVariants as found
+use Rattle.cob_typed_exprs.specs.Names.{names_file_at}
 use Rattle.cob_program.specs.declared.act.Opening.{Opening}
 use Rattle.cob_typed_exprs.specs.Judged.{Judged, each_of}
 use Rattle.cob_typed_exprs.specs.Scope.{Scope, place_if, places, means_something, one_of_kind, file_named, plain_name}

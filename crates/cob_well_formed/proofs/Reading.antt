@@ -1,7 +1,7 @@
 -- Each number among the raw tokens of a text has at most 18 digits.
 use Rattle.std.proofs.Common.{◌≡◌, ℕ, ◌+◌, ◌-◌, zero, suc, List, [], ◌∷◌, ◌++◌, drop, drop-drop, Option, None, Some, Result, Ok, Err, IfOk, refl, ap, ◌∙◌, sym}
 use Rattle.std.specs.List.{AllByRecursion}
-use Rattle.cob_lines.specs.declared.Mark.{Mark}
+use Rattle.cob_lex.specs.declared.text.Mark.{Mark}
 use Rattle.cob_lex.specs.declared.cut.Shape.{Shape}
 use Rattle.cob_lex.specs.declared.cut.State.{State}
 use Rattle.cob_lex.specs.declared.cut.Cut.{Cut}

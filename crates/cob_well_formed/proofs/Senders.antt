@@ -14,7 +14,7 @@ use Rattle.cob_data.specs.declared.layout.Sender.TheVariants as sender
 use Rattle.cob_runs.specs.Contents.{form_at}
 use Rattle.cob_runs.specs.Deciding.{is_number_end}
 use Rattle.cob_runs.specs.Moves.{takes_number}
-use Rattle.cob_items.specs.WellFormed.{IsShort, IsCountable, CanMove}
+use Rattle.cob_store.specs.WellFormed.{IsShort, IsCountable, CanMove}
 use Rattle.cob_calc.specs.Comparing.{IsShortEnd}
 use Rattle.cob_world.specs.Needs.{IsNumber}
 use Rattle.cob_typed_exprs.specs.Scope.{Scope}

@@ -3,7 +3,7 @@ use Rattle.std.proofs.Common.{◌≡◌, ℕ, ◌≤◌, List, [], ◌∷◌, ma
 use Rattle.std.specs.List.{AllByRecursion, filter}
 use Rattle.std.proofs.lemmas.List.{length-map}
 use Rattle.std.proofs.lemmas.List.Sums.{length-filter}
-use Rattle.cob_lines.specs.declared.Mark.{Mark}
+use Rattle.cob_lex.specs.declared.text.Mark.{Mark}
 use Rattle.cob_tree.specs.declared.token.Token.{Token}
 use Rattle.cob_lex.specs.declared.cut.Shape.{Shape}
 use Rattle.cob_lex.specs.declared.cut.Shape.TheVariants.{Word, Number, Padded, Literal, Symbol, Relation, Stop, PictureString}

@@ -17,7 +17,7 @@ use Rattle.cob_tree.specs.PrintFront.{heading, print_name_and_stop, print_if, pr
 use Rattle.cob_data.specs.declared.description.Area.{Area}
 use Rattle.cob_data.specs.declared.description.Area.TheVariants as area
 use Rattle.cob_data.specs.Entries.{Placed, list_if, fds_in, entries_in, placed, file_entries, all_entries}
-use Rattle.cob_items.specs.WellFormed.{IsShortLiteral}
+use Rattle.cob_store.specs.WellFormed.{IsShortLiteral}
 use Rattle.cob_well_formed.specs.Numerals.{IsShortItem, AreShort}
 
 -- ---- lists one behind the other

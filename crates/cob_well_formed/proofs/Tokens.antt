@@ -1,9 +1,9 @@
 -- The numerals of a source's tree have at most 18 digits, since those among its tokens have.
 use Rattle.std.proofs.Common.{◌≡◌, ℕ, List, [], ◌∷◌, map, Option, None, Some, Result, Ok, Err, refl, subst}
 use Rattle.std.specs.List.{AllByRecursion}
-use Rattle.cob_lines.specs.declared.Mark.{Mark}
-use Rattle.cob_lines.specs.declared.refusal.Place as text
-use Rattle.cob_lines.specs.Text.{source_text}
+use Rattle.cob_lex.specs.declared.text.Mark.{Mark}
+use Rattle.cob_lex.specs.declared.refusal.Place as text
+use Rattle.cob_lex.specs.Text.{source_text}
 use Rattle.cob_tree.specs.declared.keyword.Keyword.{Keyword}
 use Rattle.cob_tree.specs.declared.token.Tok.{Tok}
 use Rattle.cob_tree.specs.declared.token.Tok.TheVariants as tok
@@ -14,7 +14,7 @@ use Rattle.cob_tree.specs.Items.{Item}
 use Rattle.cob_tree.specs.PrintStmt.{print_tree}
 use Rattle.cob_tree.specs.Stmt.{Tree}
 use Rattle.reading.specs.Printing.{Matches}
-use Rattle.cob_lexemes.specs.Classes.{by_symbol}
+use Rattle.cob_parse_expr.specs.LexemeClasses.{by_symbol}
 use Rattle.cob_lex.specs.declared.piece.Place as lex
 use Rattle.cob_lex.specs.Canonical.{canonical_tokens}
 use Rattle.cob_lex.specs.Scan.{Scan, BadLineAt, BadTokenAt, Tokens, lexed, joined, scan_of}

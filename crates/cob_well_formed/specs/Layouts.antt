@@ -7,7 +7,7 @@ use Rattle.cob_data.specs.declared.layout.Layout.{Layout}
 use Rattle.cob_data.specs.Layouts.{HasLayout, layout}
 use Rattle.cob_typed_verbs.specs.Verbs.{first_value}
 use Rattle.cob_runs.specs.Contents.{form_at}
-use Rattle.cob_items.specs.WellFormed.{HasWellFormedItems, CanMove}
+use Rattle.cob_store.specs.WellFormed.{HasWellFormedItems, CanMove}
 use Rattle.cob_calc.specs.Comparing.{AreShortPairs}
 use Rattle.cob_well_formed.specs.Numerals.{AreShort}
 

@@ -5,7 +5,7 @@ use Rattle.cob_tree.specs.Symbols.{Symbol, Number}
 use Rattle.cob_tree.specs.Items.{Item}
 use Rattle.cob_tree.specs.Stmt.{Tree}
 use Rattle.cob_tree.specs.PrintStmt.{print_tree}
-use Rattle.cob_items.specs.WellFormed.{IsShortLiteral}
+use Rattle.cob_store.specs.WellFormed.{IsShortLiteral}
 
 abbrev pub IsShortSymbol : Symbol → Type 0
 IsShortSymbol (Number n) = IsShortLiteral n

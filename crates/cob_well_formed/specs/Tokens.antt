@@ -1,12 +1,12 @@
 -- Tokens whose numbers have at most 18 digits (ISO 1989:1985, "Numeric literals").
 use Rattle.std.specs.Prelude.{◌≡◌, List, Ok}
 use Rattle.std.specs.List.{AllByRecursion}
-use Rattle.cob_lines.specs.declared.Mark.{Mark}
+use Rattle.cob_lex.specs.declared.text.Mark.{Mark}
 use Rattle.cob_tree.specs.declared.token.Tok.{Tok}
 use Rattle.cob_tree.specs.declared.token.Tok.TheVariants as tok
 use Rattle.cob_tree.specs.declared.token.Token.{Token}
 use Rattle.cob_lex.specs.Canonical.{canonical_tokens}
-use Rattle.cob_items.specs.WellFormed.{IsShortLiteral}
+use Rattle.cob_store.specs.WellFormed.{IsShortLiteral}
 
 abbrev pub IsShortTok : Tok → Type 0
 IsShortTok (tok.Number n) = IsShortLiteral n

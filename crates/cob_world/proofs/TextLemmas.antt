@@ -4,7 +4,7 @@ use Rattle.std.proofs.lemmas.List.{take_all, take_at, take-take, drop_at, drop-d
 use lib.Seq.{paste}
 use borrow.Rule.Slice.PartMut.{put_mid}
 use Rattle.cob_runs.specs.Contents.{area, written, fitted}
-use Rattle.cob_items.proofs.Parts.{put_mid-written}
+use Rattle.cob_store.proofs.Parts.{put_mid-written}
 use Rattle.cob_store.proofs.TextLemmas.{fitted_is}
 
 -- bytes, as many of a text as are kept, and then spaces

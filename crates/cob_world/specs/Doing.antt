@@ -7,7 +7,7 @@ use Rattle.cob_data.specs.declared.layout.Layout.{Layout}
 use Rattle.cob_data.specs.declared.layout.Sender.{Sender}
 use Rattle.cob_program.specs.Act.{Turns, once, times, until, varying, MkStmt, Stmts, no_stmts, more_stmts, Phrase, left_out, given, Act, move, arith, if_, evaluate, perform, read, write, Whens, no_whens, more_whens, MkWhen, Body, range, inline, Para, Program}
 use Rattle.cob_runs.specs.Contents.{form_at}
-use Rattle.cob_items.specs.WellFormed.{CanMove}
+use Rattle.cob_store.specs.WellFormed.{CanMove}
 use Rattle.cob_calc.specs.Arithmetic.{CanCompute}
 use Rattle.cob_calc.specs.Comparing.{CanDecide}
 use Rattle.cob_world.specs.Needs.{IsNumber}

@@ -2,7 +2,7 @@
 use Rattle.std.specs.Prelude.{◌≡◌, ℕ, List, length}
 use Rattle.cob_program.specs.declared.program.Program.{Program}
 use Rattle.cob_runs.specs.State.{World}
-use Rattle.cob_items.specs.WellFormed.{HasWellFormedItems}
+use Rattle.cob_store.specs.WellFormed.{HasWellFormedItems}
 
 -- a program, and what a run of it works on
 pub record ProgramWorld : Type 0 where

@@ -3,7 +3,7 @@ ghost use Rattle.std.specs.Prelude.{◌≡◌, ◌+◌, [], length, map, drop, I
 ghost use Rattle.std.specs.Option.{option_map};
 ghost use Rattle.cob_program.specs.ActView.{plain_program};
 ghost use Rattle.cob_runs.specs.Runs.{content_at, first_files, first_world};
-ghost use Rattle.cob_items.specs.WellFormed.{HasWellFormedItems};
+ghost use Rattle.cob_store.specs.WellFormed.{HasWellFormedItems};
 
 use crate::files::File;
 use crate::world::World;

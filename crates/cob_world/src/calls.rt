@@ -5,15 +5,15 @@ ghost use Rattle.std.specs.Result.{OnOk};
 ghost use Rattle.cob_runs.specs.Files.{opened, after_close, with_status};
 ghost use Rattle.cob_runs.specs.State.{with_storage, with_files};
 ghost use Rattle.cob_runs.specs.Acts.{open_one, close_one, take_one, into_if, read_one, write_one};
-ghost use Rattle.cob_items.specs.WellFormed.{HasWellFormedItems, IsWellFormedFile};
+ghost use Rattle.cob_store.specs.WellFormed.{HasWellFormedItems, IsWellFormedFile};
 ghost use Rattle.cob_world.specs.Calling.{called, read_by, written_by, acted, refilled, replaced};
 
 use crate::files::File;
 use crate::statuses::{decl_at, is_fine, put_found, put_into, put_status, put_written};
 use crate::world::World;
 use cob_data::{FileDecl, Layout};
-use cob_items::bytes_at;
 use cob_program::Opening;
+use cob_store::bytes_at;
 use cob_tree::Bytes;
 use std::alloc::{AllocError, Global};
 

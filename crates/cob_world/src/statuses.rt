@@ -5,14 +5,14 @@ ghost use Rattle.std.specs.Option.{option_copied};
 ghost use Rattle.cob_runs.specs.Contents.{area};
 ghost use Rattle.cob_runs.specs.Files.{status_bytes, with_status, chosen_in, record_in};
 ghost use Rattle.cob_runs.specs.Acts.{is_fine, decl_at, has_status, found_in, into_from, file_from};
-ghost use Rattle.cob_items.specs.WellFormed.{HasWellFormedItems, IsWellFormedFile};
+ghost use Rattle.cob_store.specs.WellFormed.{HasWellFormedItems, IsWellFormedFile};
 ghost use Rattle.cob_world.specs.Becoming.{undefined_by};
 ghost use Rattle.cob_world.specs.Calling.{as_found};
 
 use crate::areas::{copy_area, write_at, write_text};
 use crate::world::World;
 use cob_data::{FileDecl, Layout};
-use cob_items::{fill_bytes, item_at};
+use cob_store::{fill_bytes, item_at};
 use cob_tree::Bytes;
 
 /// The file at a place, if there is one.

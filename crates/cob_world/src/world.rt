@@ -7,7 +7,7 @@ ghost use Rattle.cob_program.specs.SumView.{plain_sum};
 ghost use Rattle.cob_runs.specs.Contents.{form_at};
 ghost use Rattle.cob_runs.specs.Acts.{move, compute, show, move_if, set_varied};
 ghost use Rattle.cob_runs.specs.State.{with_storage};
-ghost use Rattle.cob_items.specs.WellFormed.{HasWellFormedItems, CanMove};
+ghost use Rattle.cob_store.specs.WellFormed.{HasWellFormedItems, CanMove};
 ghost use Rattle.cob_calc.specs.Arithmetic.{CanCompute};
 ghost use Rattle.cob_world.specs.Becoming.{Becomes, Leaves, without_shown};
 ghost use Rattle.cob_world.specs.Views.{plain_mode};

@@ -11,7 +11,7 @@ use Rattle.cob_tree.specs.declared.form.Form.TheVariants.{Group}
 use Rattle.cob_data.specs.declared.layout.Item.{Item}
 use Rattle.cob_data.specs.declared.layout.Layout.{Layout}
 use Rattle.num_bytes.specs.Reading.{contents_value}
-use Rattle.cob_items.specs.WellFormed.{IsWellFormedForm, IsWellFormedItem, HasWellFormedItems}
+use Rattle.cob_store.specs.WellFormed.{IsWellFormedForm, IsWellFormedItem, HasWellFormedItems}
 use Rattle.cob_runs.specs.Contents.{area, item_at, form_at, bytes_at, scale_of, scaled_by}
 use Rattle.graph_runs.specs.Sources.{HasSignIfSeparate, SeparateItemsHaveSigns}
 use Rattle.data_laws.specs.Items.{IsOwn, NumbersAreOwn}

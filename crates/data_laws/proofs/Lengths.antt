@@ -21,7 +21,7 @@ use Rattle.num_bytes.specs.Reading.{binary_width, number_length}
 use Rattle.num_bytes.specs.Writing.{packed, number_bytes, is_minus, sign_half, overpunched_digit, sign_byte}
 use Rattle.num_bytes.specs.Editing.{edited, edited_bytes, still_suppressed, begins_suppressed, all_suppressed}
 use Rattle.num_bytes.proofs.DigitLemmas.{length-digit_text}
-use Rattle.cob_items.specs.WellFormed.{IsWellFormedForm}
+use Rattle.cob_store.specs.WellFormed.{IsWellFormedForm}
 use Rattle.cob_runs.specs.Contents.{fitted, digits_of, scale_of, bytes_of, stored}
 use Rattle.cob_runs.specs.Faults.{◌>>=◌, or_fault}
 use Rattle.cob_runs.specs.Moves.{takes_number, number_of, text_of, raw_text, is_group_sender, moved_amount, moved}

@@ -12,8 +12,8 @@ use Rattle.num_bytes.specs.Digits.{digits_in, number_of, signed_number}
 use Rattle.num_bytes.specs.Reading.{is_own, last, packed_digits, twos_complement, binary_width, number_value, contents_value}
 use Rattle.num_bytes.proofs.RoundTrip.{number_back}
 use Rattle.cob_program.specs.Bounds.{form_bound}
-use Rattle.cob_items.specs.WellFormed.{IsWellFormedForm}
-use Rattle.cob_items.proofs.ReadBound.{read_within}
+use Rattle.cob_store.specs.WellFormed.{IsWellFormedForm}
+use Rattle.cob_store.proofs.ReadBound.{read_within}
 use Rattle.cob_runs.specs.Contents.{bytes_of, scale_of, scaled_by}
 use Rattle.graph_runs.specs.Sources.{HasSignIfSeparate}
 use Rattle.data_laws.specs.Items.{IsOwn, NumbersReadBack}

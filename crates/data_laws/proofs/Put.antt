@@ -31,7 +31,7 @@ use Rattle.cob_data.specs.ItemRules.{breaks_values, may_begin_with}
 use Rattle.cob_data.specs.Rules.{facts_of, item_breaks}
 use Rattle.cob_data.specs.Layouts.{first_low, laid_items, layout, HasLayout}
 use Rattle.cob_program.specs.Values.{negated, digit_of, numeral, literal, whole_number}
-use Rattle.cob_items.specs.WellFormed.{IsWellFormedForm}
+use Rattle.cob_store.specs.WellFormed.{IsWellFormedForm}
 use Rattle.num_bytes.specs.Reading.{contents_value}
 use Rattle.cob_runs.specs.Contents.{item_at, fitted, bytes_of, stored, number_in, scaled_by}
 use Rattle.cob_runs.specs.Faults.{or_fault}

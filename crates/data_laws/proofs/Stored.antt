@@ -9,7 +9,7 @@ use Rattle.cob_tree.specs.declared.form.Form.TheVariants as form
 use Rattle.cob_data.specs.declared.layout.Item.{Item}
 use Rattle.cob_data.specs.declared.layout.Layout.{Layout}
 use Rattle.cob_data.specs.declared.layout.Sender.{Sender}
-use Rattle.cob_items.specs.WellFormed.{IsWellFormedItem}
+use Rattle.cob_store.specs.WellFormed.{IsWellFormedItem}
 use Rattle.cob_runs.specs.Contents.{area, written, fitted, item_at, form_at, bytes_at, number_in}
 use Rattle.cob_runs.specs.Moves.{moved}
 use Rattle.cob_runs.specs.Runs.{with_value, with_constant, with_values, first_storage}

@@ -6,7 +6,7 @@ use Rattle.cob_tree.specs.declared.form.Form.TheVariants as form
 use Rattle.cob_tree.specs.declared.form.Usage.{Usage}
 use Rattle.cob_data.specs.declared.layout.Layout.{Layout}
 use Rattle.num_bytes.specs.Reading.{is_own, contents_value}
-use Rattle.cob_items.specs.WellFormed.{IsWellFormedForm, HasWellFormedItems}
+use Rattle.cob_store.specs.WellFormed.{IsWellFormedForm, HasWellFormedItems}
 use Rattle.cob_runs.specs.Contents.{form_at, number_at, bytes_of}
 use Rattle.cob_runs.specs.Moves.{takes_number}
 use Rattle.graph_runs.specs.Sources.{SeparateItemsHaveSigns}

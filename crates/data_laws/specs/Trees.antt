@@ -13,7 +13,7 @@ use Rattle.cob_data.specs.declared.layout.Layout.{Layout}
 use Rattle.cob_data.specs.declared.layout.Sender.TheVariants as sender
 use Rattle.cob_data.specs.Layouts.{HasLayout, layout}
 use Rattle.cob_program.specs.Values.{literal}
-use Rattle.cob_items.specs.WellFormed.{HasWellFormedItems}
+use Rattle.cob_store.specs.WellFormed.{HasWellFormedItems}
 use Rattle.cob_runs.specs.Contents.{number_at, scaled_by}
 use Rattle.cob_runs.specs.Moves.{number_of}
 use Rattle.cob_runs.specs.Runs.{first_storage}

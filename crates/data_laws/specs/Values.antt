@@ -2,7 +2,7 @@
 use Rattle.std.specs.Prelude.{◌≡◌, ℕ, List, [], length, Ok}
 use Rattle.cob_data.specs.declared.layout.Item.{Item}
 use Rattle.cob_data.specs.declared.layout.Layout.{Layout}
-use Rattle.cob_items.specs.WellFormed.{HasWellFormedItems}
+use Rattle.cob_store.specs.WellFormed.{HasWellFormedItems}
 use Rattle.cob_runs.specs.Contents.{bytes_at, number_in, number_at}
 use Rattle.cob_runs.specs.Moves.{moved}
 use Rattle.cob_runs.specs.Runs.{first_storage}

@@ -1,3 +1,15 @@
+pub mod Numbers
+pub mod Upper
+pub mod Values
+pub mod FormSums
+pub mod Assigned
+pub mod Changed
+pub mod Demanded
+pub mod Forgotten
+pub mod Errors
+pub mod Scales
+pub mod Forms
+pub mod Results
 pub mod Matrix
 pub mod Paths
 pub mod Storages

@@ -13,9 +13,22 @@
 //! first row that comes to a node is taken as it is.
 #![tactic(auto)]
 
+mod altered;
+mod arithmetic;
+mod assignment;
+mod bound_laws;
+mod bounds;
 mod closing;
 mod closure_laws;
+mod demands;
+mod error_laws;
+mod errors;
+mod forgetting;
+mod form;
+mod form_laws;
+mod image_laws;
 mod joining;
+mod known;
 mod lattice;
 mod laws;
 mod least;
@@ -24,15 +37,35 @@ mod order;
 mod row_laws;
 mod settling;
 mod sizes;
+mod small;
+mod sums;
+mod terms;
 mod widening;
 mod words;
 
+pub use altered::negated;
+pub use arithmetic::{lin_add, lin_scale};
+pub use assignment::assign;
+pub use bound_laws::{lower_matrices_show_lower_bounds, no_value_is_above_its_bound};
+pub use bounds::upper;
 pub use closing::close;
 pub use closure_laws::{
     closed_words_are_tight, closing_is_the_closure, closures_are_closings, closures_are_one,
     matrices_stay_tight_beside_a_row,
 };
+pub use demands::demand;
+pub use error_laws::{
+    errors_are_sound, stores_lie_between, sums_span_at_greater_scales, surer_errors_are_narrower,
+};
+pub use errors::error_of;
+pub use forgetting::forget;
+pub use form::Lin;
+pub use form_laws::{narrower_forms_have_narrower_multiples, narrower_forms_have_narrower_sums};
+pub use image_laws::{
+    assigned_matrices_are_monotone, demanded_matrices_are_monotone, forgotten_matrices_are_monotone,
+};
 pub use joining::join_rows;
+pub use known::Known;
 pub use lattice::{add_bound, join, leq, widen};
 pub use laws::{
     close_is_monotone, closed_words_are_least_sums, growth_is_bounded, matrices_are_a_lattice,

@@ -7,14 +7,14 @@ use Rattle.std.proofs.lemmas.Option.{same_Some}
 use Rattle.cob_program.specs.Act.{Program}
 use Rattle.cob_runs.specs.declared.action.Cell.{Cell}
 use Rattle.cob_graph.specs.Graphs.{cells_of as program_cells}
-use Rattle.cell_rows.specs.Known.{Known}
-use Rattle.cell_rows.specs.Elements.{CellsFit}
-use Rattle.cell_rows.specs.Rows as rows
-use Rattle.cell_rows.specs.Rows.{cells_of}
-use Rattle.cell_rows.proofs.Rows.{element_back}
+use Rattle.interval_domain.specs.Known.{Known}
+use Rattle.interval_domain.specs.Elements.{CellsFit}
+use Rattle.interval_domain.specs.Rows as rows
+use Rattle.interval_domain.specs.Rows.{cells_of}
+use Rattle.interval_domain.proofs.Rows.{element_back}
 use Rattle.cell_steps.specs.Homes.{homes_of, owns}
 use Rattle.cell_laws.specs.Entry.{entry_known, entry_cells}
-use Rattle.cell_walk.specs.ProgramRows.{IsRowOf}
+use Rattle.cell_layer.specs.ProgramRows.{IsRowOf}
 use Rattle.diff_steps.specs.Packs.{Pack, size_of}
 use Rattle.diff_steps.specs.Steps.{all_closed}
 use Rattle.diff_steps.specs.Edges.{or_bottoms, no_bounds, entry_packs}

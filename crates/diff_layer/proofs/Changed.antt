@@ -7,22 +7,22 @@ use Rattle.cob_program.specs.Act.{Act, Program}
 use Rattle.cob_runs.specs.declared.action.Action.{Action}
 use Rattle.cob_runs.specs.Contents.{form_at}
 use Rattle.cob_edge_parts.specs.Parts.{Amount, Part, read, unread, divide, store, bytes_in, guard, read_count, set_count, count_down, guard_count}
-use Rattle.linear_form.specs.declared.form.Lin.{Lin}
-use Rattle.result_ranges.specs.declared.amounts.Taken.{Taken}
-use Rattle.result_ranges.specs.declared.amounts.Receiver.{Receiver}
-use Rattle.result_ranges.specs.declared.amounts.AmountRange.{AmountRange}
-use Rattle.result_ranges.specs.declared.amounts.AmountRange.TheVariants as range
-use Rattle.result_ranges.specs.Receivers.{receiver_of}
-use Rattle.cell_rows.specs.Known.{Known}
-use Rattle.cell_rows.specs.Elements.{Element}
+use Rattle.diff_bounds.specs.declared.form.Lin.{Lin}
+use Rattle.transfer_ranges.specs.declared.amounts.Taken.{Taken}
+use Rattle.transfer_ranges.specs.declared.amounts.Receiver.{Receiver}
+use Rattle.transfer_ranges.specs.declared.amounts.AmountRange.{AmountRange}
+use Rattle.transfer_ranges.specs.declared.amounts.AmountRange.TheVariants as range
+use Rattle.transfer_ranges.specs.Receivers.{receiver_of}
+use Rattle.interval_domain.specs.Known.{Known}
+use Rattle.interval_domain.specs.Elements.{Element}
 use Rattle.cell_steps.specs.Homes.{of_item, of_count}
 use Rattle.cell_steps.specs.Seen.{Seen}
 use Rattle.cell_steps.specs.Stores.{with_taken, taking, amount_at, behind_store}
 use Rattle.cell_steps.specs.Steps.{with_cells_if}
 use Rattle.cell_laws.specs.Sizes.{IsSmallPart}
-use Rattle.cell_walk.specs.Latest.{Latest, ranges_of, outcome, latest_behind}
-use Rattle.cell_walk.specs.Walks.{with_taken_small, step_small}
-use Rattle.cell_walk.proofs.SmallEdges.{all_is_taken}
+use Rattle.cell_layer.specs.Latest.{Latest, ranges_of, outcome, latest_behind}
+use Rattle.cell_layer.specs.Walks.{with_taken_small, step_small}
+use Rattle.cell_layer.proofs.SmallEdges.{all_is_taken}
 use Rattle.diff_steps.specs.Packs.{Pack, size_of, cell_of, pack_decimals, unit_of}
 use Rattle.diff_steps.specs.Matrices.{bottom}
 use Rattle.diff_steps.specs.Moments.{Bytes}

@@ -7,7 +7,7 @@ use Rattle.std.proofs.lemmas.Int.{ints}
 use Rattle.dec_num.specs.declared.types.Mode.{Mode}
 use Rattle.cob_data.specs.declared.layout.Sender.{Sender}
 use Rattle.dec_num.specs.declared.types.Mode.TheVariants.{Trunc}
-use Rattle.decimal_interval.specs.declared.bounds.Interval.{Interval}
+use Rattle.interval_domain.specs.declared.bounds.Interval.{Interval}
 use Rattle.cob_tree.specs.declared.fault.Kind.{Kind}
 use Rattle.cob_tree.specs.declared.fault.Kind.TheVariants as kind
 use Rattle.cob_program.specs.declared.act.How.TheVariants as how
@@ -18,22 +18,22 @@ use Rattle.cob_runs.specs.declared.action.Action.{Action}
 use Rattle.cob_runs.specs.Contents.{form_at}
 use Rattle.cob_runs.specs.Computing.{items_in}
 use Rattle.cob_edge_parts.specs.Parts.{Amount, moved, computed, remaining, augmented, Part, read, unread, divide, store, bytes_in, guard, read_count, set_count, count_down, guard_count, has_phrase}
-use Rattle.linear_form.specs.declared.form.Lin.{Lin}
-use Rattle.linear_form.specs.Upper.{upper_of}
+use Rattle.diff_bounds.specs.declared.form.Lin.{Lin}
+use Rattle.diff_bounds.specs.Upper.{upper_of}
 use Rattle.sum_forms.specs.Constants.{range_form}
 use Rattle.sum_forms.specs.SumForms.{sum_form}
 use Rattle.sum_ranges.specs.declared.ranged.Ranged.{Ranged}
 use Rattle.sum_ranges.specs.SumRanges.{sum_range}
-use Rattle.result_ranges.specs.declared.amounts.Taken.{Taken}
-use Rattle.result_ranges.specs.declared.amounts.Receiver.{Receiver}
-use Rattle.result_ranges.specs.declared.amounts.AmountRange.{AmountRange}
-use Rattle.result_ranges.specs.declared.amounts.AmountRange.TheVariants as range
-use Rattle.result_ranges.specs.Operands.{alone, taken_from, whole_range}
-use Rattle.result_ranges.specs.Stores.{operands, amount_range}
-use Rattle.result_ranges.specs.Receivers.{receiver_of, counter}
-use Rattle.result_ranges.specs.ResultRanges.{most, exceeds, amount_units, may_fail, near_range, lowered, count_may_fail}
-use Rattle.cell_amounts.specs.Working.{amount_from}
-use Rattle.cell_rows.specs.Known.{Known}
+use Rattle.transfer_ranges.specs.declared.amounts.Taken.{Taken}
+use Rattle.transfer_ranges.specs.declared.amounts.Receiver.{Receiver}
+use Rattle.transfer_ranges.specs.declared.amounts.AmountRange.{AmountRange}
+use Rattle.transfer_ranges.specs.declared.amounts.AmountRange.TheVariants as range
+use Rattle.transfer_ranges.specs.Operands.{alone, taken_from, whole_range}
+use Rattle.transfer_ranges.specs.Stores.{operands, amount_range}
+use Rattle.transfer_ranges.specs.Receivers.{receiver_of, counter}
+use Rattle.transfer_ranges.specs.ResultRanges.{most, exceeds, amount_units, may_fail, near_range, lowered, count_may_fail}
+use Rattle.edge_amounts.specs.Working.{amount_from}
+use Rattle.interval_domain.specs.Known.{Known}
 use Rattle.cell_steps.specs.Homes.{of_count, homes_of}
 use Rattle.cell_steps.specs.Cells.{units_of}
 use Rattle.cell_steps.specs.Operands.{edge_operands, settled, amount_of}
@@ -41,9 +41,9 @@ use Rattle.cell_steps.specs.Seen.{Seen}
 use Rattle.cell_steps.specs.Stores.{range_at, with_taken}
 use Rattle.cell_steps.specs.Clearing.{is_misfit, has_quotient, all_fit_of, all_fit, all_count, clears_part}
 use Rattle.cell_laws.specs.Sizes.{sends_small, IsSmallPart, IsSmallStore}
-use Rattle.cell_walk.specs.Walks.{if_sent_small, with_taken_small, clears_small, CanStep}
-use Rattle.cell_walk.proofs.SmallEdges.{all_is_taken}
-use Rattle.cell_walk.proofs.Stepping.{taken_can, taken_written}
+use Rattle.cell_layer.specs.Walks.{if_sent_small, with_taken_small, clears_small, CanStep}
+use Rattle.cell_layer.proofs.SmallEdges.{all_is_taken}
+use Rattle.cell_layer.proofs.Stepping.{taken_can, taken_written}
 use Rattle.diff_steps.specs.Packs.{Pack, size_of, pack_decimals}
 use Rattle.diff_steps.specs.Moments.{Bytes, is_written}
 use Rattle.diff_steps.specs.Forms.{amount_form, set_form, lowered_form, has_operands, kept_form, cell_at}

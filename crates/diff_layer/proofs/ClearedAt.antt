@@ -11,13 +11,13 @@ use Rattle.cob_program.specs.ActView.{plain_act, plain_stmt}
 use Rattle.cob_program.specs.Act.{Act, Stmt, Program}
 use Rattle.cob_runs.specs.declared.action.Action.{Action}
 use Rattle.cob_edge_parts.specs.Parts.{Part}
-use Rattle.borrowed_parts.specs.PartView.{edge_parts}
+use Rattle.edge_amounts.specs.PartView.{edge_parts}
 use Rattle.cell_steps.specs.Seen.{Seen}
 use Rattle.cell_laws.specs.Sizes.{IsSmallPart}
-use Rattle.cell_walk.specs.Kept.{clears_at_part}
-use Rattle.cell_walk.specs.Statements.{act_in}
-use Rattle.cell_walk.specs.Walks.{clears_small, CanStep}
-use Rattle.cell_walk.proofs.Stepping.{held_at}
+use Rattle.cell_layer.specs.Kept.{clears_at_part}
+use Rattle.cell_layer.specs.NumberedStatements.{act_in}
+use Rattle.cell_layer.specs.Walks.{clears_small, CanStep}
+use Rattle.cell_layer.proofs.Stepping.{held_at}
 use Rattle.diff_steps.specs.Packs.{Pack}
 use Rattle.diff_steps.specs.Moments.{Bytes}
 use Rattle.diff_steps.specs.Clearing.{clears_part2}

@@ -10,7 +10,7 @@ use Rattle.cob_runs.specs.Effects.{act_at}
 use Rattle.cob_graph.specs.declared.graph.Edge.{Edge}
 use Rattle.cob_graph.specs.declared.graph.Graph.{Graph}
 use Rattle.cob_edge_parts.specs.Parts.{Part, parts_of}
-use Rattle.cell_rows.specs.Known.{Known}
+use Rattle.interval_domain.specs.Known.{Known}
 use Rattle.cell_steps.specs.Seen.{Seen, beginning}
 use Rattle.cell_steps.specs.Steps.{step}
 use Rattle.cell_steps.specs.Clearing.{clears_part, clears_parts}

@@ -12,9 +12,9 @@ use Rattle.cob_program.specs.ActView.{plain_stmt}
 use Rattle.cob_program.specs.Act.{Stmt, MkStmt, Act, Program}
 use Rattle.cob_graph.specs.declared.graph.Edge.{Edge}
 use Rattle.cob_graph.specs.declared.graph.Graph.{Graph}
-use Rattle.cell_rows.specs.Known.{Known}
+use Rattle.interval_domain.specs.Known.{Known}
 use Rattle.cell_laws.specs.Layer.{left}
-use Rattle.cell_walk.specs.Statements.{act_in, number_in}
+use Rattle.cell_layer.specs.NumberedStatements.{act_in, number_in}
 use Rattle.cell_layer.specs.Statements.{IsNumbered}
 use Rattle.cell_layer.specs.Held.{IsHeld, IsLeft}
 use Rattle.cell_layer.proofs.Finding.{is_left_some, is_left_none}

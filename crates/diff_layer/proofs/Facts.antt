@@ -1,10 +1,10 @@
 -- Rows of the first layer that are reached.
 use Rattle.std.proofs.Common.{◌≡◌, true, false, List, length, ℤ, Some, None, ap, subst, ◌∙◌}
 use Rattle.std.specs.Prelude.{if◌then◌else◌}
-use Rattle.decimal_interval.specs.declared.bounds.Interval.{Interval}
-use Rattle.cell_rows.specs.Elements.{CellsFit, ElementFits}
-use Rattle.cell_rows.specs.Rows.{IsReached, IsRow, cells_of, is_reached, element_of, row_from, width_of}
-use Rattle.cell_rows.proofs.Rows.{row_width}
+use Rattle.interval_domain.specs.declared.bounds.Interval.{Interval}
+use Rattle.interval_domain.specs.Elements.{CellsFit, ElementFits}
+use Rattle.interval_domain.specs.Rows.{IsReached, IsRow, cells_of, is_reached, element_of, row_from, width_of}
+use Rattle.interval_domain.proofs.Rows.{row_width}
 
 module _ (row : List ℤ) where
   pub element_there : is_reached row ≡ true → element_of row ≡ Some (cells_of row)

@@ -4,16 +4,16 @@ use Rattle.std.specs.Prelude.{max, slice_get, slice_index_or, IfSome}
 use Rattle.std.specs.List.{AllByRecursion}
 use Rattle.std.proofs.lemmas.Int.{ints}
 use Rattle.dec_num.proofs.Powers.{ten_positive, ten_monotone}
-use Rattle.decimal_interval.proofs.Ends.{times_grows}
+use Rattle.interval_domain.proofs.IntervalEnds.{times_grows}
 use Rattle.cob_data.specs.declared.layout.Layout.{Layout}
 use Rattle.cob_program.specs.Act.{Program}
 use Rattle.diff_bounds.specs.Matrix.{largest}
-use Rattle.cell_rows.specs.Known.{Known, KnownFits}
-use Rattle.cell_rows.specs.Elements.{CellsFit}
+use Rattle.interval_domain.specs.Known.{Known, KnownFits}
+use Rattle.interval_domain.specs.Elements.{CellsFit}
 use Rattle.cell_steps.specs.Homes.{Home, homes_of, home_range, owns}
 use Rattle.cell_steps.specs.Storages.{known_of}
 use Rattle.cell_laws.proofs.CellLists.{known_fits}
-use Rattle.cell_walk.proofs.Stepping.{held_at}
+use Rattle.cell_layer.proofs.Stepping.{held_at}
 use Rattle.diff_steps.specs.Packs.{Pack, decimals_of, pack_decimals, unit_of}
 use Rattle.pack_forms.specs.declared.closings.KnownCell.{KnownCell}
 use Rattle.pack_forms.specs.KnownCells.{cell, known_cells, AreEnds, HasEnds, HaveEnds}

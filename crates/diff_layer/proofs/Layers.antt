@@ -16,7 +16,7 @@ use Rattle.cob_graph.specs.declared.graph.Graph.{Graph}
 use Rattle.dom_laws.specs.Lattice.{IsElement}
 use Rattle.dom_laws.specs.Flow.{IsEdge, IsNode}
 use Rattle.graph_runs.specs.Places.{no_edge, edge_at}
-use Rattle.cell_rows.specs.Rows.{IsRow, element_of}
+use Rattle.interval_domain.specs.Rows.{IsRow, element_of}
 use Rattle.cell_steps.specs.Homes.{Home, homes_of, home_range, owns}
 use Rattle.cell_layer.specs.Held.{IsHeld}
 use Rattle.cell_layer.proofs.Making.{sound_items}

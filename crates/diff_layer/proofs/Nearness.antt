@@ -7,7 +7,7 @@ use Rattle.dec_num.specs.Exact.{with_sign_of, near_size, near}
 use Rattle.dec_num.specs.Scaled.{value_of}
 use Rattle.dec_num.proofs.Powers.{ten_positive}
 use Rattle.sum_ranges.specs.Ranged.{decimal}
-use Rattle.result_ranges.specs.declared.amounts.Receiver.{Receiver}
+use Rattle.transfer_ranges.specs.declared.amounts.Receiver.{Receiver}
 use Rattle.diff_steps.specs.Clearing.{high_fits, low_fits}
 use Rattle.pack_forms.proofs.Sizes.{low_as_high}
 

@@ -15,13 +15,13 @@ use Rattle.cob_graph.specs.declared.graph.Graph.{Graph}
 use Rattle.cob_edge_parts.specs.Parts.{Part, read, unread, divide, store, bytes_in, guard, read_count, set_count, count_down, guard_count, moved, parts_of}
 use Rattle.cell_laws.specs.Places.{IsInPlace}
 use Rattle.cell_laws.proofs.Parts.{parts_are_in_place}
-use Rattle.cell_amounts.specs.Small.{is_small_amount}
+use Rattle.edge_amounts.specs.Small.{is_small_amount}
 use Rattle.cell_steps.specs.Agreeing.{of_operands}
 use Rattle.cell_steps.specs.Operands.{edge_amount}
 use Rattle.cell_laws.proofs.StoresKeep.{its_amount, counts_amount}
-use Rattle.borrowed_parts.specs.PartView.{edge_parts}
+use Rattle.edge_amounts.specs.PartView.{edge_parts}
 use Rattle.cell_laws.specs.Layer.{left}
-use Rattle.cell_walk.specs.Statements.{act_in}
+use Rattle.cell_layer.specs.NumberedStatements.{act_in}
 use Rattle.cell_layer.specs.Statements.{IsNumbered}
 use Rattle.cell_layer.specs.Held.{IsHeld, IsLeft}
 use Rattle.cell_layer.proofs.Finding.{is_left_some}

@@ -14,8 +14,8 @@ use Rattle.cob_data.specs.declared.layout.Layout.{Layout}
 use Rattle.cob_program.specs.Act.{Turns, times, Stmt, MkStmt, Act, perform, Program}
 use Rattle.cob_program.specs.Statements.{program_statements}
 use Rattle.cob_runs.specs.Contents.{item_at, form_at, scale_of}
-use Rattle.cob_items.specs.WellFormed.{IsWellFormedForm, IsWellFormedItem, HasWellFormedItems}
-use Rattle.decimal_interval.specs.declared.bounds.Interval.{Interval}
+use Rattle.cob_store.specs.WellFormed.{IsWellFormedForm, IsWellFormedItem, HasWellFormedItems}
+use Rattle.interval_domain.specs.declared.bounds.Interval.{Interval}
 use Rattle.cell_steps.specs.Homes.{Home, of_item, of_count, if_named, home_of, item_homes, turns_homes, act_homes, count_homes, homes_of, picture_range, form_range}
 use Rattle.diff_layer.specs.Plans.{IsShortHome}
 

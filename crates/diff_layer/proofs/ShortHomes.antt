@@ -14,7 +14,7 @@ use Rattle.cob_data.specs.declared.layout.Layout.{Layout}
 use Rattle.cob_program.specs.Act.{once, times, until, varying, Stmt, MkStmt, Act, perform, Program}
 use Rattle.cob_program.specs.Statements.{program_statements}
 use Rattle.cob_runs.specs.Contents.{item_at, form_at, scale_of}
-use Rattle.cob_items.specs.WellFormed.{IsWellFormedForm, IsWellFormedItem, HasWellFormedItems}
+use Rattle.cob_store.specs.WellFormed.{IsWellFormedForm, IsWellFormedItem, HasWellFormedItems}
 use Rattle.cell_steps.specs.Homes.{Home, of_item, of_count, picture_range, form_range, if_named, home_of, item_homes, act_homes, count_homes, homes_of}
 use Rattle.diff_steps.specs.Packs.{Pack}
 use Rattle.pack_laws.specs.Agreeing.{IsPackOf}

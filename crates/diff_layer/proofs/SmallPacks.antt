@@ -9,13 +9,13 @@ use Rattle.cob_program.specs.Logic.{Test, numbers, texts, member, numeric, alway
 use Rattle.cob_program.specs.Act.{Act, Program}
 use Rattle.cob_runs.specs.declared.action.Action.{Action}
 use Rattle.cob_edge_parts.specs.Parts.{Part, read, unread, divide, store, bytes_in, guard, read_count, set_count, count_down, guard_count}
-use Rattle.result_ranges.specs.declared.amounts.Taken.{Taken}
-use Rattle.cell_rows.specs.Known.{Known}
+use Rattle.transfer_ranges.specs.declared.amounts.Taken.{Taken}
+use Rattle.interval_domain.specs.Known.{Known}
 use Rattle.cell_steps.specs.Seen.{Seen, beginning}
 use Rattle.cell_steps.specs.Steps.{step}
 use Rattle.cell_laws.specs.Sizes.{sends_small, IsSmallPart}
-use Rattle.cell_walk.specs.Walks.{with_common, trimmed}
-use Rattle.cell_walk.proofs.SmallEdges.{step_same}
+use Rattle.cell_layer.specs.Walks.{with_common, trimmed}
+use Rattle.cell_layer.proofs.SmallEdges.{step_same}
 use Rattle.diff_steps.specs.Packs.{Pack}
 use Rattle.diff_steps.specs.Moments.{Bytes, Seen2, with_packs}
 use Rattle.diff_steps.specs.Steps.{each_pack, all_closed, guarded_pack, changed_pack, changed, written_by, step2}

@@ -11,14 +11,14 @@ use Rattle.cob_runs.specs.declared.action.Action.{Action}
 use Rattle.cob_runs.specs.Contents.{form_at}
 use Rattle.cob_runs.specs.Effects.{act_at}
 use Rattle.cob_runs.specs.Moves.{takes_number}
-use Rattle.cob_items.specs.WellFormed.{HasWellFormedItems}
+use Rattle.cob_store.specs.WellFormed.{HasWellFormedItems}
 use Rattle.cob_calc.specs.Contents.{bound_at}
 use Rattle.cob_calc.specs.Arithmetic.{is_small_result}
 use Rattle.cob_edge_parts.specs.Parts.{Amount, moved, computed, remaining, augmented, Part, read, unread, divide, store, bytes_in, guard, read_count, set_count, count_down, guard_count, parts_of}
 use Rattle.cob_graph.specs.declared.graph.Graph.{Graph}
 use Rattle.graph_runs.specs.Sources.{IsSourceGraph}
 use Rattle.sum_ranges.specs.Taking.{is_small_taken}
-use Rattle.result_ranges.specs.Operands.{is_whole}
+use Rattle.transfer_ranges.specs.Operands.{is_whole}
 use Rattle.cell_laws.proofs.Doing.{can_do_at}
 use Rattle.cell_laws.proofs.PremiseParts.{IsSourceAmount, IsSourcePart, every, parts_are_kept}
 use Rattle.cell_laws.proofs.Short.{countable_small, number_small}

@@ -11,11 +11,11 @@ use Rattle.cob_program.specs.Act.{Program}
 use Rattle.diff_bounds.specs.Matrix.{word, IsWord, IsMatrix}
 use Rattle.diff_bounds.specs.Closed.{closed, IsClosed}
 use Rattle.diff_bounds.proofs.Tight.{tight_of_closure}
-use Rattle.cell_rows.specs.Known.{Known}
-use Rattle.cell_rows.specs.Elements.{CellsFit}
+use Rattle.interval_domain.specs.Known.{Known}
+use Rattle.interval_domain.specs.Elements.{CellsFit}
 use Rattle.cell_steps.specs.Homes.{Home, homes_of, owns}
 use Rattle.cell_steps.specs.Storages.{known_of}
-use Rattle.cell_walk.proofs.Stepping.{held_at}
+use Rattle.cell_layer.proofs.Stepping.{held_at}
 use Rattle.diff_steps.specs.Packs.{Pack, size_of, unit_of}
 use Rattle.diff_steps.specs.Matrices.{with_words, high_word, low_word, put_high, put_low, put_word, put_closed}
 use Rattle.pack_forms.specs.KnownCells.{cell, AreEnds, HasEnds}

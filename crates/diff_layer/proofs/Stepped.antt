@@ -5,19 +5,19 @@ use Rattle.cob_program.specs.Values.{◌>>=◌}
 use Rattle.cob_program.specs.Act.{Act, Stmt, Program}
 use Rattle.cob_runs.specs.declared.action.Action.{Action}
 use Rattle.cob_edge_parts.specs.Parts.{Amount, moved, computed, remaining, augmented, Part, read, unread, divide, store, bytes_in, guard, read_count, set_count, count_down, guard_count}
-use Rattle.borrowed_parts.specs.PartView.{edge_parts}
-use Rattle.result_ranges.specs.declared.amounts.Taken.{Taken}
-use Rattle.cell_amounts.specs.Working.{CanWork}
-use Rattle.cell_rows.specs.Known.{Known}
+use Rattle.edge_amounts.specs.PartView.{edge_parts}
+use Rattle.transfer_ranges.specs.declared.amounts.Taken.{Taken}
+use Rattle.edge_amounts.specs.Working.{CanWork}
+use Rattle.interval_domain.specs.Known.{Known}
 use Rattle.cell_steps.specs.Agreeing.{of_operands}
 use Rattle.cell_steps.specs.Seen.{Seen}
 use Rattle.cell_steps.specs.Stores.{range_at, taking}
 use Rattle.cell_laws.specs.Sizes.{IsSmallPart}
-use Rattle.cell_walk.specs.Kept.{step_at}
-use Rattle.cell_walk.specs.Latest.{Latest, latest_behind}
-use Rattle.cell_walk.specs.Statements.{act_in}
-use Rattle.cell_walk.specs.Walks.{trimmed, with_taken_small, step_small, CanStep}
-use Rattle.cell_walk.proofs.Stepping.{taken_can, taken_written, can_work}
+use Rattle.cell_layer.specs.Kept.{step_at}
+use Rattle.cell_layer.specs.Latest.{Latest, latest_behind}
+use Rattle.cell_layer.specs.NumberedStatements.{act_in}
+use Rattle.cell_layer.specs.Walks.{trimmed, with_taken_small, step_small, CanStep}
+use Rattle.cell_layer.proofs.Stepping.{taken_can, taken_written, can_work}
 use Rattle.diff_steps.specs.Packs.{Pack}
 use Rattle.diff_steps.specs.Moments.{Bytes, Seen2, with_packs}
 use Rattle.diff_steps.specs.Steps.{each_pack, all_closed, changed_pack, changed, written_by}

@@ -8,18 +8,18 @@ use Rattle.cob_program.specs.Act.{Stmt, Program}
 use Rattle.cob_runs.specs.declared.action.Action.{Action}
 use Rattle.cob_runs.specs.declared.action.Cell.{Cell}
 use Rattle.cob_edge_parts.specs.Parts.{Part, is_handled}
-use Rattle.borrowed_parts.specs.PartView.{edge_parts}
-use Rattle.cell_rows.specs.Known.{Known}
-use Rattle.cell_rows.specs.Rows.{cells_of}
-use Rattle.cell_rows.specs.Elements.{CellsFit}
+use Rattle.edge_amounts.specs.PartView.{edge_parts}
+use Rattle.interval_domain.specs.Known.{Known}
+use Rattle.interval_domain.specs.Rows.{cells_of}
+use Rattle.interval_domain.specs.Elements.{CellsFit}
 use Rattle.cell_steps.specs.Homes.{owns}
 use Rattle.cell_steps.specs.Seen.{Seen, beginning}
 use Rattle.cell_laws.specs.Sizes.{IsSmallPart}
-use Rattle.cell_walk.specs.declared.kept.Kept.{Kept}
-use Rattle.cell_walk.specs.Kept.{seen}
-use Rattle.cell_walk.specs.ProgramRows.{IsRowOf}
-use Rattle.cell_walk.specs.Statements.{act_in}
-use Rattle.cell_walk.specs.Walks.{CanStep}
+use Rattle.cell_layer.specs.declared.kept.Kept.{Kept}
+use Rattle.cell_layer.specs.Kept.{seen}
+use Rattle.cell_layer.specs.ProgramRows.{IsRowOf}
+use Rattle.cell_layer.specs.NumberedStatements.{act_in}
+use Rattle.cell_layer.specs.Walks.{CanStep}
 use Rattle.diff_steps.specs.Moments.{Bytes, Seen2}
 use Rattle.diff_steps.specs.Steps.{all_closed}
 use Rattle.diff_steps.specs.Edges.{beginning2, steps2, finished2}

@@ -6,17 +6,17 @@ use Rattle.cob_program.specs.Act.{Program}
 use Rattle.cob_program.specs.Logic.{Test, numbers}
 use Rattle.cob_runs.specs.Contents.{form_at}
 use Rattle.cob_edge_parts.specs.Parts.{Amount, Part, store, bytes_in, guard, set_count, count_down}
-use Rattle.linear_form.specs.declared.form.Lin.{Lin}
-use Rattle.result_ranges.specs.declared.amounts.Taken.{Taken}
-use Rattle.result_ranges.specs.declared.amounts.Receiver.{Receiver}
-use Rattle.result_ranges.specs.declared.amounts.AmountRange.{AmountRange}
-use Rattle.result_ranges.specs.declared.amounts.AmountRange.TheVariants as range
-use Rattle.result_ranges.specs.Receivers.{receiver_of}
+use Rattle.diff_bounds.specs.declared.form.Lin.{Lin}
+use Rattle.transfer_ranges.specs.declared.amounts.Taken.{Taken}
+use Rattle.transfer_ranges.specs.declared.amounts.Receiver.{Receiver}
+use Rattle.transfer_ranges.specs.declared.amounts.AmountRange.{AmountRange}
+use Rattle.transfer_ranges.specs.declared.amounts.AmountRange.TheVariants as range
+use Rattle.transfer_ranges.specs.Receivers.{receiver_of}
 use Rattle.sum_ranges.specs.declared.ranged.Ranged.{Ranged}
-use Rattle.cell_rows.specs.Known.{Known}
+use Rattle.interval_domain.specs.Known.{Known}
 use Rattle.cell_steps.specs.Homes.{of_item, of_count}
 use Rattle.cell_steps.specs.Stores.{range_at}
-use Rattle.cell_walk.specs.Latest.{Latest}
+use Rattle.cell_layer.specs.Latest.{Latest}
 use Rattle.diff_steps.specs.Packs.{Pack, cell_of, decimals_of}
 use Rattle.diff_steps.specs.Matrices.{bottom}
 use Rattle.diff_steps.specs.Moments.{Bytes}

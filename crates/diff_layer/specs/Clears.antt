@@ -3,7 +3,7 @@ use Rattle.std.specs.Prelude.{ℕ, ◌||◌, ◌&&◌, not, if◌then◌else◌,
 use Rattle.std.specs.Option.{option_map_or}
 use Rattle.dec_num.specs.declared.types.Mode.{Mode}
 use Rattle.dec_num.specs.declared.types.Mode.TheVariants.{Trunc}
-use Rattle.decimal_interval.specs.declared.bounds.Interval.{Interval}
+use Rattle.interval_domain.specs.declared.bounds.Interval.{Interval}
 use Rattle.cob_tree.specs.declared.fault.Kind.{Kind}
 use Rattle.cob_tree.specs.declared.fault.Kind.TheVariants as kind
 use Rattle.cob_program.specs.Sum.{Atom}
@@ -11,20 +11,20 @@ use Rattle.cob_program.specs.Act.{Act, Program}
 use Rattle.cob_runs.specs.declared.action.Action.{Action}
 use Rattle.cob_runs.specs.Contents.{form_at}
 use Rattle.cob_edge_parts.specs.Parts.{Amount, Part, divide, store, set_count, count_down}
-use Rattle.result_ranges.specs.declared.amounts.Taken.{Taken}
-use Rattle.result_ranges.specs.declared.amounts.Receiver.{Receiver}
-use Rattle.result_ranges.specs.declared.amounts.AmountRange.{AmountRange}
-use Rattle.result_ranges.specs.declared.amounts.AmountRange.TheVariants as range
-use Rattle.result_ranges.specs.Receivers.{receiver_of, counter}
-use Rattle.result_ranges.specs.ResultRanges.{most, near_range, lowered}
-use Rattle.cell_amounts.specs.Working.{amount_from}
-use Rattle.cell_rows.specs.Known.{Known}
+use Rattle.transfer_ranges.specs.declared.amounts.Taken.{Taken}
+use Rattle.transfer_ranges.specs.declared.amounts.Receiver.{Receiver}
+use Rattle.transfer_ranges.specs.declared.amounts.AmountRange.{AmountRange}
+use Rattle.transfer_ranges.specs.declared.amounts.AmountRange.TheVariants as range
+use Rattle.transfer_ranges.specs.Receivers.{receiver_of, counter}
+use Rattle.transfer_ranges.specs.ResultRanges.{most, near_range, lowered}
+use Rattle.edge_amounts.specs.Working.{amount_from}
+use Rattle.interval_domain.specs.Known.{Known}
 use Rattle.cell_steps.specs.Homes.{of_count, homes_of}
 use Rattle.cell_steps.specs.Cells.{units_of}
 use Rattle.cell_steps.specs.Operands.{is_remainder}
 use Rattle.cell_steps.specs.Seen.{Seen}
 use Rattle.cell_steps.specs.Stores.{range_at}
-use Rattle.cell_walk.specs.Walks.{with_taken_small}
+use Rattle.cell_layer.specs.Walks.{with_taken_small}
 use Rattle.diff_steps.specs.Clearing.{some_pack, is_apart_in}
 use Rattle.diff_steps.specs.Forms.{has_operands}
 use Rattle.diff_steps.specs.Moments.{Bytes, Seen2}

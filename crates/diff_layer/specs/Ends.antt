@@ -3,10 +3,10 @@ use Rattle.std.specs.Prelude.{ℕ, Bool, true, false, List, ℤ, Option, None}
 use Rattle.dec_num.specs.declared.types.Mode.{Mode}
 use Rattle.cob_program.specs.Act.{Program}
 use Rattle.cob_edge_parts.specs.Parts.{Part, store, set_count, count_down}
-use Rattle.linear_form.specs.declared.form.Lin.{Lin}
-use Rattle.result_ranges.specs.declared.amounts.Taken.{Taken}
-use Rattle.result_ranges.specs.declared.amounts.Receiver.{Receiver}
-use Rattle.cell_rows.specs.Known.{Known}
+use Rattle.diff_bounds.specs.declared.form.Lin.{Lin}
+use Rattle.transfer_ranges.specs.declared.amounts.Taken.{Taken}
+use Rattle.transfer_ranges.specs.declared.amounts.Receiver.{Receiver}
+use Rattle.interval_domain.specs.Known.{Known}
 use Rattle.diff_steps.specs.Packs.{Pack, size_of, pack_decimals}
 use Rattle.diff_steps.specs.Moments.{Bytes}
 use Rattle.diff_steps.specs.Forms.{amount_form, set_form, lowered_form}

@@ -10,16 +10,16 @@ use Rattle.std.proofs.lemmas.List.{length-map}
 use Rattle.cob_program.specs.declared.act.Stmt as declared_stmt
 use Rattle.cob_program.specs.Act.{Program}
 use Rattle.cob_graph.specs.declared.graph.Graph.{Graph}
-use Rattle.decimal_interval.specs.declared.bounds.Interval.{Interval}
+use Rattle.interval_domain.specs.declared.bounds.Interval.{Interval}
 use Rattle.dom_laws.specs.Lattice.{IsLattice}
 use Rattle.dom_laws.specs.Flow.{IsFlow}
 use Rattle.dom_laws.specs.Meaning.{IsMeaning}
 use Rattle.graph_runs.specs.Sources.{IsSourceGraph}
-use Rattle.cell_rows.specs.Known.{Known, KnownFits}
-use Rattle.cell_rows.specs.Elements.{Element, CellsFit, ElementFits}
-use Rattle.cell_rows.specs.Rows.{IsRow, element_of}
+use Rattle.interval_domain.specs.Known.{Known, KnownFits}
+use Rattle.interval_domain.specs.Elements.{Element, CellsFit, ElementFits}
+use Rattle.interval_domain.specs.Rows.{IsRow, element_of}
 use Rattle.cell_steps.specs.Homes.{Home, homes_of, owns}
-use Rattle.cell_walk.proofs.FirstCells.{homes_many}
+use Rattle.cell_layer.proofs.FirstCells.{homes_many}
 use Rattle.cell_layer.specs.Held.{IsHeld}
 use Rattle.diff_bounds.specs.declared.Pack as declared
 use Rattle.diff_bounds.specs.Widening.{AreThresholds}

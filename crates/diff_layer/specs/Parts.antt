@@ -6,15 +6,15 @@ use Rattle.cob_program.specs.Bounds.{is_small}
 use Rattle.cob_runs.specs.declared.action.Action.{Action}
 use Rattle.cob_calc.specs.Contents.{bound_at}
 use Rattle.cob_edge_parts.specs.Parts.{Amount, Part, store, guard, set_count, moved}
-use Rattle.guard_ranges.specs.Small.{is_small_test}
-use Rattle.result_ranges.specs.declared.amounts.Taken.{Taken}
-use Rattle.cell_amounts.specs.Small.{is_small_amount}
-use Rattle.cell_amounts.specs.Working.{CanWork}
-use Rattle.cell_rows.specs.Known.{Known}
+use Rattle.transfer_ranges.specs.Small.{is_small_test}
+use Rattle.transfer_ranges.specs.declared.amounts.Taken.{Taken}
+use Rattle.edge_amounts.specs.Small.{is_small_amount}
+use Rattle.edge_amounts.specs.Working.{CanWork}
+use Rattle.interval_domain.specs.Known.{Known}
 use Rattle.cell_steps.specs.Agreeing.{of_operands}
 use Rattle.cell_steps.specs.Operands.{edge_amount}
 use Rattle.cell_steps.specs.Stores.{range_at}
-use Rattle.cell_walk.specs.Latest.{Latest}
+use Rattle.cell_layer.specs.Latest.{Latest}
 use Rattle.diff_steps.specs.Packs.{Pack, size_of, pack_decimals}
 use Rattle.diff_steps.specs.Moments.{Bytes}
 use Rattle.pack_forms.specs.Sizes.{HasSmallTop}

@@ -6,11 +6,11 @@ use Rattle.cob_program.specs.Values.{◌>>=◌}
 use Rattle.cob_program.specs.Act.{Stmt, Act, Program}
 use Rattle.cob_runs.specs.declared.action.Action.{Action}
 use Rattle.cob_edge_parts.specs.Parts.{Part}
-use Rattle.borrowed_parts.specs.PartView.{edge_parts}
-use Rattle.cell_rows.specs.Known.{Known}
+use Rattle.edge_amounts.specs.PartView.{edge_parts}
+use Rattle.interval_domain.specs.Known.{Known}
 use Rattle.cell_steps.specs.Seen.{Seen, beginning}
-use Rattle.cell_walk.specs.Statements.{act_in}
-use Rattle.cell_walk.specs.Walks.{step_small}
+use Rattle.cell_layer.specs.NumberedStatements.{act_in}
+use Rattle.cell_layer.specs.Walks.{step_small}
 use Rattle.diff_steps.specs.Packs.{Pack}
 use Rattle.diff_steps.specs.Moments.{Bytes, Seen2, with_packs}
 use Rattle.diff_steps.specs.Steps.{all_closed, changed}

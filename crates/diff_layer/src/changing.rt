@@ -1,13 +1,13 @@
 //! What a part makes of the matrices of packs.
 ghost use Rattle.std.specs.Prelude.{◌≡◌, length, List};
 ghost use Rattle.cob_program.specs.ActView.{plain_program};
-ghost use Rattle.borrowed_parts.specs.PartView.{plain_part};
+ghost use Rattle.edge_amounts.specs.PartView.{plain_part};
 ghost use Rattle.diff_bounds.specs.Matrix.{IsMatrix};
-ghost use Rattle.cell_rows.specs.Elements.{CellsFit};
-ghost use Rattle.cell_rows.specs.Rows.{cells_of};
+ghost use Rattle.interval_domain.specs.Elements.{CellsFit};
+ghost use Rattle.interval_domain.specs.Rows.{cells_of};
 ghost use Rattle.cell_steps.specs.Homes.{owns};
-ghost use Rattle.cell_walk.specs.Kept.{latest_of};
-ghost use Rattle.cell_walk.specs.ProgramRows.{IsRowOf};
+ghost use Rattle.cell_layer.specs.Kept.{latest_of};
+ghost use Rattle.cell_layer.specs.ProgramRows.{IsRowOf};
 ghost use Rattle.diff_steps.specs.Moments.{Bytes};
 ghost use Rattle.diff_steps.specs.Packs.{size_of};
 ghost use Rattle.pack_forms.specs.Views.{plain_pack, HasUnit, program_of, known_in};
@@ -20,10 +20,10 @@ use crate::gone::{Gone, forget};
 use crate::guards::guard;
 use crate::plans::{PackPlan, view_of};
 use crate::stores::store;
-use borrowed_parts::EdgePart;
-use cell_walk::{Kept, KnownItems};
+use cell_layer::{Kept, KnownItems};
 use cob_program::Program;
 use cob_runs::Cell;
+use edge_amounts::EdgePart;
 use pack_forms::PackView;
 
 // what a part makes of the matrix of a pack

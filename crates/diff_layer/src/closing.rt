@@ -2,12 +2,12 @@
 ghost use Rattle.std.specs.Prelude.{◌≡◌, ◌-◌, ◌^◌, ◌≤◌, length, IsTrue, Some, None, if◌then◌else◌};
 ghost use Rattle.cob_program.specs.ActView.{plain_program};
 ghost use Rattle.diff_bounds.specs.Matrix.{IsMatrix};
-ghost use Rattle.cell_rows.specs.Known.{IsOrdered};
-ghost use Rattle.cell_rows.specs.Elements.{CellsFit};
-ghost use Rattle.cell_rows.specs.Rows.{cells_of};
+ghost use Rattle.interval_domain.specs.Known.{IsOrdered};
+ghost use Rattle.interval_domain.specs.Elements.{CellsFit};
+ghost use Rattle.interval_domain.specs.Rows.{cells_of};
 ghost use Rattle.cell_steps.specs.Homes.{homes_of, owns};
 ghost use Rattle.cell_steps.specs.Storages.{known_of};
-ghost use Rattle.cell_walk.specs.ProgramRows.{IsRowOf};
+ghost use Rattle.cell_layer.specs.ProgramRows.{IsRowOf};
 ghost use Rattle.diff_steps.specs.Matrices.{put_closed};
 ghost use Rattle.diff_steps.specs.Packs as packs;
 ghost use Rattle.diff_steps.specs.Packs.{size_of};
@@ -18,10 +18,10 @@ ghost use Rattle.diff_layer.specs.Closed.{IsClosedBy, IsClosedRow};
 ghost use Rattle.diff_layer.specs.Plans.{plain_plan, plain_plans, IsPlanOf, ArePlansOf, matrices_for, IsRowFor};
 
 use crate::plans::{PackPlan, words_for};
-use cell_walk::{known_of_count, known_of_item};
+use cell_layer::{known_of_count, known_of_item};
 use cob_program::Program;
 use cob_runs::Cell;
-use decimal_interval::Interval;
+use interval_domain::Interval;
 use pack_forms::{KnownCell, PackCell, unit_of};
 
 // what a row says of what a cell is of

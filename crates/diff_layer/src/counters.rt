@@ -1,8 +1,8 @@
 //! Counters of a pack.
 ghost use Rattle.std.specs.Prelude.{◌≡◌, ◌≤◌, length, List, Option, IfSome};
 ghost use Rattle.diff_bounds.specs.Matrix.{IsMatrix};
-ghost use Rattle.result_ranges.specs.declared.amounts.Taken.{Taken};
-ghost use Rattle.cell_rows.specs.Elements.{CellsFit};
+ghost use Rattle.transfer_ranges.specs.declared.amounts.Taken.{Taken};
+ghost use Rattle.interval_domain.specs.Elements.{CellsFit};
 ghost use Rattle.cell_steps.specs.Homes.{of_count, owns};
 ghost use Rattle.diff_steps.specs.Forms as forms;
 ghost use Rattle.diff_steps.specs.Moments.{Bytes};
@@ -13,9 +13,9 @@ ghost use Rattle.pack_forms.specs.Views.{plain_pack, HasUnit, program_of, known_
 ghost use Rattle.pack_forms.specs.Writing.{sender_items, are_written};
 ghost use Rattle.diff_layer.specs.Changes.{cell_assigned};
 
-use cell_walk::{Kept, KnownItems};
+use cell_layer::{Kept, KnownItems};
 use cob_data::Sender;
-use linear_form::Lin;
+use diff_bounds::Lin;
 use pack_forms::{PackCell, PackView, assign_or_forget, cell_in, lowered_form, set_form};
 
 // makes the counter's cell, where the pack has it, a form

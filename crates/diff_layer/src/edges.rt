@@ -1,8 +1,8 @@
 //! What edges make of matrices, in place, and the faults that they clear.
 ghost use Rattle.std.specs.Prelude.{◌≡◌, ◌≤◌, length, if◌then◌else◌, Some, None, Contains};
 ghost use Rattle.cob_program.specs.ActView.{plain_program};
-ghost use Rattle.cell_rows.specs.Rows.{IsReached, IsRow, cells_of, element_of};
-ghost use Rattle.cell_rows.specs.Elements.{CellsFit};
+ghost use Rattle.interval_domain.specs.Rows.{IsReached, IsRow, cells_of, element_of};
+ghost use Rattle.interval_domain.specs.Elements.{CellsFit};
 ghost use Rattle.cell_steps.specs.Homes.{owns};
 ghost use Rattle.cell_layer.specs.Held.{IsHeld};
 ghost use Rattle.diff_layer.specs.Plans.{plain_plans, ArePlansOf, matrices_for, IsRowFor};
@@ -13,10 +13,10 @@ use crate::clearing::packs_clear;
 use crate::plans::PackPlan;
 use crate::walking::walk_packs;
 use cell_layer::left;
-use cell_rows::is_reached;
 use cob_graph::{Edge, Graph};
 use cob_program::{Program, Stmt};
 use cob_tree::Kind;
+use interval_domain::is_reached;
 
 /// Makes of matrices what an edge makes of them, beside a row of what is known of cells at its source, which changes.
 /// Answers false where no run passes the edge; the words then aren't told.

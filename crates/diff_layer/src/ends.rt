@@ -2,16 +2,16 @@
 ghost use Rattle.std.specs.Prelude.{◌≡◌, ◌≤◌, ◌<◌, ◌≤ℤ◌, ◌^◌, ◌||◌, length, List, pos, neg_ℤ, int_le, unsigned_abs, Option, Some, IfSome};
 ghost use Rattle.std.specs.Option.{option_map_or};
 ghost use Rattle.cob_program.specs.ActView.{plain_program};
-ghost use Rattle.borrowed_parts.specs.PartView.{plain_part};
+ghost use Rattle.edge_amounts.specs.PartView.{plain_part};
 ghost use Rattle.diff_bounds.specs.Matrix.{IsMatrix};
-ghost use Rattle.linear_form.specs.declared.form.Lin.{Lin};
+ghost use Rattle.diff_bounds.specs.declared.form.Lin.{Lin};
 ghost use Rattle.sum_ranges.specs.Sizes.{IsSmallRange};
-ghost use Rattle.result_ranges.specs.ResultRanges.{most, near_range};
-ghost use Rattle.result_ranges.specs.Sizes.{IsReceiver};
-ghost use Rattle.cell_rows.specs.Elements.{CellsFit};
-ghost use Rattle.cell_rows.specs.Rows.{cells_of};
+ghost use Rattle.transfer_ranges.specs.ResultRanges.{most, near_range};
+ghost use Rattle.transfer_ranges.specs.Sizes.{IsReceiver};
+ghost use Rattle.interval_domain.specs.Elements.{CellsFit};
+ghost use Rattle.interval_domain.specs.Rows.{cells_of};
 ghost use Rattle.cell_steps.specs.Homes.{owns};
-ghost use Rattle.cell_walk.specs.ProgramRows.{IsRowOf};
+ghost use Rattle.cell_layer.specs.ProgramRows.{IsRowOf};
 ghost use Rattle.diff_steps.specs.Clearing.{high_fits, low_fits, some_pack, high_shown, low_shown};
 ghost use Rattle.diff_steps.specs.Moments.{Bytes};
 ghost use Rattle.diff_steps.specs.Packs.{Pack, size_of, pack_decimals};
@@ -23,15 +23,15 @@ ghost use Rattle.diff_layer.specs.Parts.{CanChange, IsWrittenTo};
 ghost use Rattle.diff_layer.specs.Plans.{plain_plan, plain_plans, IsPlanOf, ArePlansOf, matrices_for, IsRowFor};
 
 use crate::plans::{PackPlan, view_of, words_for};
-use borrowed_parts::EdgePart;
-use cell_walk::{Kept, KnownItems};
+use cell_layer::{Kept, KnownItems};
 use cob_program::Program;
 use cob_runs::Cell;
 use dec_num::{Fit, Mode, Scaled, fit};
-use linear_form::Lin;
+use diff_bounds::Lin;
+use edge_amounts::EdgePart;
 use pack_forms::{PackView, amount_form, lowered_form, set_form, shows_high, shows_low};
-use result_ranges::Receiver;
 use sum_ranges::Ranged;
+use transfer_ranges::Receiver;
 
 // ---- by the matrices
 

@@ -9,7 +9,7 @@ ghost use Rattle.diff_steps.specs.Stores.{forgotten_cells};
 ghost use Rattle.pack_forms.specs.Cells.{plain_cell, plain_cells};
 ghost use Rattle.diff_layer.specs.Gone.{is_gone};
 
-use cell_walk::share_bytes;
+use cell_layer::share_bytes;
 use cob_data::{Item, Layout};
 use pack_forms::{PackCell, forget_cells};
 

@@ -2,8 +2,8 @@
 ghost use Rattle.std.specs.Prelude.{◌≡◌, ◌≤◌, length};
 ghost use Rattle.std.specs.List.{list_all};
 ghost use Rattle.cob_program.specs.ActView.{plain_program};
-ghost use Rattle.cell_rows.specs.Elements.{CellsFit};
-ghost use Rattle.cell_rows.specs.Rows.{IsReached, cells_of};
+ghost use Rattle.interval_domain.specs.Elements.{CellsFit};
+ghost use Rattle.interval_domain.specs.Rows.{IsReached, cells_of};
 ghost use Rattle.cell_steps.specs.Homes.{owns};
 ghost use Rattle.cell_layer.specs.Held.{IsHeld};
 ghost use Rattle.diff_bounds.specs.PackRows.{lists_of};
@@ -16,11 +16,11 @@ use crate::edges::clears_edge;
 use crate::layer::DiffLayer;
 use crate::plans::PackPlan;
 use cell_layer::{edge_at, edges_before, leaves};
-use cell_rows::is_reached;
 use cob_graph::Graph;
 use cob_program::{Program, Stmt};
 use cob_tree::Kind;
 use dom_laws::{Layer, Rows};
+use interval_domain::is_reached;
 
 // whether each edge that leaves a node clears the fault
 fn clears_node(

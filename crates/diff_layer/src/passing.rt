@@ -3,15 +3,15 @@
 ghost use Rattle.std.specs.Prelude.{◌≡◌, length, List, IsTrue, Some, None, if◌then◌else◌};
 ghost use Rattle.std.specs.List.{AllByRecursion};
 ghost use Rattle.cob_program.specs.ActView.{plain_program};
-ghost use Rattle.borrowed_parts.specs.PartView.{plain_part};
+ghost use Rattle.edge_amounts.specs.PartView.{plain_part};
 ghost use Rattle.diff_bounds.specs.Matrix.{IsMatrix};
 ghost use Rattle.cob_graph.specs.Graphs.{cells_of as program_cells};
-ghost use Rattle.cell_rows.specs.Elements.{CellsFit};
-ghost use Rattle.cell_rows.specs.Rows.{IsReached, cells_of};
-ghost use Rattle.cell_amounts.specs.Numbers.{number_of};
+ghost use Rattle.interval_domain.specs.Elements.{CellsFit};
+ghost use Rattle.interval_domain.specs.Rows.{IsReached, cells_of};
+ghost use Rattle.edge_amounts.specs.Numbers.{number_of};
 ghost use Rattle.cell_steps.specs.Homes.{homes_of, owns};
-ghost use Rattle.cell_walk.specs.Kept.{latest_of};
-ghost use Rattle.cell_walk.specs.ProgramRows.{known_in, IsCellNumber, IsRowOf};
+ghost use Rattle.cell_layer.specs.Kept.{latest_of};
+ghost use Rattle.cell_layer.specs.ProgramRows.{known_in, IsCellNumber, IsRowOf};
 ghost use Rattle.diff_steps.specs.Matrices.{put_closed};
 ghost use Rattle.diff_steps.specs.Moments.{Bytes};
 ghost use Rattle.diff_steps.specs.Packs.{size_of};
@@ -24,13 +24,11 @@ ghost use Rattle.diff_layer.specs.Plans.{plain_plan, plain_plans, IsPlanOf, AreP
 use crate::changing::change_plan;
 use crate::closing::close_again;
 use crate::plans::{PackPlan, words_for};
-use borrowed_parts::EdgePart;
-use cell_amounts::{cell_of, cell_of_count};
-use cell_rows::known_at;
-use cell_walk::Kept;
+use cell_layer::Kept;
 use cob_program::Program;
 use cob_runs::Cell;
-use decimal_interval::Interval;
+use edge_amounts::{EdgePart, cell_of, cell_of_count};
+use interval_domain::{Interval, known_at};
 use pack_forms::PackCell;
 
 // whether two lists of words are one

@@ -3,15 +3,15 @@ ghost use Rattle.std.specs.Prelude.{◌≡◌, ◌+◌, ◌-◌, ◌^◌, ◌≤
 ghost use Rattle.cob_program.specs.Bounds.{is_small};
 ghost use Rattle.cob_runs.specs.Contents.{form_at};
 ghost use Rattle.cob_calc.specs.Contents.{bound_at};
-ghost use Rattle.borrowed_parts.specs.PartView.{plain_amount};
+ghost use Rattle.edge_amounts.specs.PartView.{plain_amount};
 ghost use Rattle.diff_bounds.specs.Matrix.{IsMatrix};
-ghost use Rattle.result_ranges.specs.Receivers.{receiver_of};
-ghost use Rattle.cell_amounts.specs.Small.{is_small_amount};
-ghost use Rattle.cell_amounts.specs.Working.{CanWork};
-ghost use Rattle.cell_rows.specs.Elements.{CellsFit};
+ghost use Rattle.transfer_ranges.specs.Receivers.{receiver_of};
+ghost use Rattle.edge_amounts.specs.Small.{is_small_amount};
+ghost use Rattle.edge_amounts.specs.Working.{CanWork};
+ghost use Rattle.interval_domain.specs.Elements.{CellsFit};
 ghost use Rattle.cell_steps.specs.Homes.{of_item, owns};
 ghost use Rattle.cell_steps.specs.Stores.{range_at};
-ghost use Rattle.cell_walk.specs.Kept.{latest_of};
+ghost use Rattle.cell_layer.specs.Kept.{latest_of};
 ghost use Rattle.diff_steps.specs.Forms as forms;
 ghost use Rattle.diff_steps.specs.Moments.{Bytes};
 ghost use Rattle.diff_steps.specs.Packs.{cell_of, decimals_of};
@@ -21,13 +21,12 @@ ghost use Rattle.pack_forms.specs.Writing.{amount_items, are_written};
 ghost use Rattle.diff_layer.specs.Changes.{decimal_in, cell_stored, fitting_stored, store_changed};
 
 use crate::gone::{Gone, forget};
-use borrowed_parts::Amount;
-use cell_amounts::receiver_at;
-use cell_walk::{Kept, KnownItems};
+use cell_layer::{Kept, KnownItems};
 use dec_num::Mode;
 use diff_bounds::set_least_matrix;
+use edge_amounts::{Amount, receiver_at};
 use pack_forms::{PackCell, PackView, amount_form, cell_in, has_operands, store_at, unit_of};
-use result_ranges::{AmountRange, Taken};
+use transfer_ranges::{AmountRange, Taken};
 
 // the range of an amount that is a decimal, by what it is worked out of
 fn decimal_in(worked: Option<Taken>) -> Option<AmountRange>

@@ -3,14 +3,14 @@ ghost use Rattle.std.specs.Prelude.{◌≡◌, ◌≤◌, ◌<◌, ◌&&◌, ◌
 ghost use Rattle.std.specs.List.{AllByRecursion};
 ghost use Rattle.cob_program.specs.ActView.{plain_stmt, plain_program};
 ghost use Rattle.cob_edge_parts.specs.Parts.{is_handled};
-ghost use Rattle.borrowed_parts.specs.PartView.{edge_parts, plain_part};
+ghost use Rattle.edge_amounts.specs.PartView.{edge_parts, plain_part};
 ghost use Rattle.cell_laws.specs.Sizes.{IsSmallPart};
-ghost use Rattle.cell_rows.specs.Rows.{cells_of};
-ghost use Rattle.cell_walk.specs.Kept.{seen};
-ghost use Rattle.cell_walk.specs.ProgramRows.{IsRowOf};
-ghost use Rattle.cell_walk.specs.SmallCells.{has_small_cells};
-ghost use Rattle.cell_walk.specs.Statements.{act_in};
-ghost use Rattle.cell_walk.specs.Walks.{CanStep};
+ghost use Rattle.interval_domain.specs.Rows.{cells_of};
+ghost use Rattle.cell_layer.specs.Kept.{seen};
+ghost use Rattle.cell_layer.specs.ProgramRows.{IsRowOf};
+ghost use Rattle.cell_layer.specs.SmallCells.{has_small_cells};
+ghost use Rattle.cell_layer.specs.NumberedStatements.{act_in};
+ghost use Rattle.cell_layer.specs.Walks.{CanStep};
 ghost use Rattle.cell_layer.specs.Edges.{CanWalk};
 ghost use Rattle.diff_steps.specs.Moments.{Bytes};
 ghost use Rattle.pack_forms.specs.Writing.{are_written};
@@ -24,10 +24,10 @@ use crate::closing::close_all;
 use crate::passing::pass;
 use crate::plans::PackPlan;
 use crate::writing::writes_operands;
-use borrowed_parts::{EdgePart, part_at, part_count};
-use cell_walk::{Kept, walk};
+use cell_layer::{Kept, walk};
 use cob_program::{Act, Program, Stmt};
 use cob_runs::{Action, Cell};
+use edge_amounts::{EdgePart, part_at, part_count};
 
 // whether a part writes to bytes of the items of the operands
 fn writes(program: &Program, statement: &Stmt, action: Action, part: EdgePart) -> bool

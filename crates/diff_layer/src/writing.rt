@@ -6,18 +6,17 @@ ghost use Rattle.cob_program.specs.ActView.{plain_act};
 ghost use Rattle.cob_program.specs.Sum.{parts_of, factors_of};
 ghost use Rattle.cob_program.specs.SumView.{plain_sum, plain_part as plain_product, plain_factor, plain_atom};
 ghost use Rattle.cob_runs.specs.Computing.{items_in, items_in_parts, items_in_factors, items_in_atom};
-ghost use Rattle.borrowed_parts.specs.PartView.{plain_amount, plain_part};
+ghost use Rattle.edge_amounts.specs.PartView.{plain_amount, plain_part};
 ghost use Rattle.diff_steps.specs.Moments.{is_written, item_bytes};
 ghost use Rattle.pack_forms.specs.Writing.{sender_items, are_written};
 ghost use Rattle.diff_layer.specs.Writing.{bytes, product_items, items_of_amount, edge_items, part_bytes};
 
 use crate::gone::item_at;
-use borrowed_parts::{Amount, EdgePart};
-use cell_amounts::edge_amount;
-use cell_walk::share_bytes;
+use cell_layer::share_bytes;
 use cob_data::{Layout, Sender};
 use cob_program::{Act, Atom, Factor, Part, Program, Sum};
 use cob_runs::Action;
+use edge_amounts::{Amount, EdgePart, edge_amount};
 
 // whether bytes from an offset on, so many, are of the item at a place
 fn are_of(layout: &Layout, offset: u32, count: u32, place: u32) -> bool

@@ -23,11 +23,11 @@ use Rattle.cob_program.specs.Act.{times, varying, MkStmt, no_stmts, more_stmts, 
 use Rattle.cob_program.specs.Act as act
 use Rattle.cob_runs.specs.declared.action.Action.{Action}
 use Rattle.cob_runs.specs.declared.action.Action.TheVariants as action
-use Rattle.decimal_interval.specs.Corners.{interval}
-use Rattle.linear_form.specs.Forms.{if_small, coefs_of}
+use Rattle.interval_domain.specs.Corners.{interval}
+use Rattle.diff_bounds.specs.Forms.{if_small, coefs_of}
 use Rattle.diff_bounds.specs.Matrix.{none}
 use Rattle.diff_bounds.specs.Closed.{sums_through}
-use Rattle.cell_rows.specs.Known.{Known}
+use Rattle.interval_domain.specs.Known.{Known}
 use Rattle.cell_steps.specs.Homes.{of_item, of_count}
 use Rattle.diff_steps.specs.Packs.{Pack}
 use Rattle.diff_steps.specs.Edges.{post_packs, bottoms}

@@ -18,11 +18,11 @@ use Rattle.cob_program.specs.Logic.{Test, numbers, test}
 use Rattle.cob_program.specs.Act.{MkStmt, no_stmts, more_stmts, Phrase, left_out, given, Act, arith, if_, Program}
 use Rattle.cob_program.specs.Act as act
 use Rattle.cob_runs.specs.declared.action.Action.TheVariants as action
-use Rattle.decimal_interval.specs.Corners.{interval}
-use Rattle.linear_form.specs.Forms.{if_small, coefs_of}
+use Rattle.interval_domain.specs.Corners.{interval}
+use Rattle.diff_bounds.specs.Forms.{if_small, coefs_of}
 use Rattle.diff_bounds.specs.Matrix.{none}
 use Rattle.diff_bounds.specs.Closed.{sums_through}
-use Rattle.cell_rows.specs.Known.{Known}
+use Rattle.interval_domain.specs.Known.{Known}
 use Rattle.cell_steps.specs.Homes.{of_item}
 use Rattle.cell_steps.specs.Edges.{clears_edge}
 use Rattle.diff_steps.specs.Packs.{Pack}

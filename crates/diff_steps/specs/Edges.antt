@@ -5,8 +5,8 @@ use Rattle.cob_program.specs.Act.{Act, Program}
 use Rattle.cob_runs.specs.declared.action.Action.{Action}
 use Rattle.cob_edge_parts.specs.Parts.{Part, parts_of}
 use Rattle.diff_bounds.specs.Matrix.{none}
-use Rattle.cell_rows.specs.Known.{Known}
-use Rattle.cell_rows.specs.Elements.{Element}
+use Rattle.interval_domain.specs.Known.{Known}
+use Rattle.interval_domain.specs.Elements.{Element}
 use Rattle.cell_steps.specs.Seen.{Seen, beginning}
 use Rattle.cell_steps.specs.Stores.{handled}
 use Rattle.diff_steps.specs.Packs.{Pack, size_of}

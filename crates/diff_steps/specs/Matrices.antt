@@ -2,15 +2,15 @@
 use Rattle.std.specs.Prelude.{ℕ, zero, suc, ◌+◌, ◌/◌, ◌%◌, nat_eq, ◌||◌, if◌then◌else◌, List, ℤ, pos, neg_ℤ, ◌*ℤ◌, slice_get, Option, Some, None}
 use Rattle.std.specs.Int.{int_min}
 use Rattle.cob_data.specs.declared.layout.Layout.{Layout}
-use Rattle.linear_form.specs.declared.form.Lin.{Lin}
+use Rattle.diff_bounds.specs.declared.form.Lin.{Lin}
 use Rattle.diff_bounds.specs.Matrix.{word, none}
 use Rattle.diff_bounds.specs.Lattice.{matrix_of, bottom_word}
 use Rattle.diff_bounds.specs.Closed.{closed}
-use Rattle.linear_form.specs.Numbers.{word_of}
-use Rattle.linear_form.specs.Upper.{coef_at}
-use Rattle.linear_form.specs.Assigned.{upper_less, less_upper}
-use Rattle.linear_form.specs.Demanded.{lowered}
-use Rattle.cell_rows.specs.Known.{Known}
+use Rattle.diff_bounds.specs.Numbers.{word_of}
+use Rattle.diff_bounds.specs.Upper.{coef_at}
+use Rattle.diff_bounds.specs.Assigned.{upper_less, less_upper}
+use Rattle.diff_bounds.specs.Demanded.{lowered}
+use Rattle.interval_domain.specs.Known.{Known}
 use Rattle.cell_steps.specs.Homes.{Home}
 use Rattle.cell_steps.specs.Storages.{known_of}
 use Rattle.diff_steps.specs.Packs.{Pack, size_of, unit_of}

@@ -7,9 +7,9 @@ use Rattle.cob_program.specs.Act.{Act, Program}
 use Rattle.cob_runs.specs.declared.action.Action.{Action}
 use Rattle.cob_runs.specs.Contents.{form_at}
 use Rattle.cob_edge_parts.specs.Parts.{Amount, Part, store, bytes_in, guard, set_count, count_down}
-use Rattle.linear_form.specs.declared.form.Lin.{Lin}
-use Rattle.result_ranges.specs.Receivers.{receiver_of}
-use Rattle.cell_rows.specs.Known.{Known}
+use Rattle.diff_bounds.specs.declared.form.Lin.{Lin}
+use Rattle.transfer_ranges.specs.Receivers.{receiver_of}
+use Rattle.interval_domain.specs.Known.{Known}
 use Rattle.cell_steps.specs.Homes.{Home, of_item, of_count, is_home, homes_of}
 use Rattle.cell_steps.specs.Cells.{is_in_bytes, is_beside}
 use Rattle.cell_steps.specs.Seen.{Seen}

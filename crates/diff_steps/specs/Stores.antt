@@ -1,17 +1,17 @@
 -- What a store makes of a pack's matrix.
 use Rattle.std.specs.Prelude.{ℕ, suc, ◌||◌, nat_le, if◌then◌else◌, Bool, true, false, List, [], ◌∷◌, ℤ, pos, int_le, Option, Some, None}
 use Rattle.dec_num.specs.declared.types.Mode.{Mode}
-use Rattle.decimal_interval.specs.declared.bounds.Interval.{Interval}
+use Rattle.interval_domain.specs.declared.bounds.Interval.{Interval}
 use Rattle.cob_program.specs.Values.{◌>>=◌}
-use Rattle.linear_form.specs.declared.form.Lin.{Lin}
-use Rattle.linear_form.specs.Forms.{if_small}
-use Rattle.linear_form.specs.Results.{sum_of}
-use Rattle.linear_form.specs.Upper.{upper_of}
+use Rattle.diff_bounds.specs.declared.form.Lin.{Lin}
+use Rattle.diff_bounds.specs.Forms.{if_small}
+use Rattle.diff_bounds.specs.Results.{sum_of}
+use Rattle.diff_bounds.specs.Upper.{upper_of}
 use Rattle.sum_ranges.specs.declared.ranged.Ranged.{Ranged}
-use Rattle.linear_form.specs.declared.known.Known as sure
-use Rattle.linear_form.specs.Errors.{error_in}
-use Rattle.result_ranges.specs.declared.amounts.AmountRange.{AmountRange}
-use Rattle.result_ranges.specs.declared.amounts.AmountRange.TheVariants as range
+use Rattle.diff_bounds.specs.declared.known.Known as sure
+use Rattle.diff_bounds.specs.Errors.{error_in}
+use Rattle.transfer_ranges.specs.declared.amounts.AmountRange.{AmountRange}
+use Rattle.transfer_ranges.specs.declared.amounts.AmountRange.TheVariants as range
 use Rattle.sum_forms.specs.Constants.{constant_form}
 use Rattle.sum_forms.specs.SumForms.{turned_form}
 use Rattle.cell_steps.specs.Homes.{Home}

@@ -1,3 +1,4 @@
+pub mod Passing
 pub mod Growth
 pub mod Soundness
 pub mod Heads

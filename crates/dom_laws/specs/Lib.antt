@@ -1,3 +1,4 @@
+pub mod Leaks
 pub mod Lattice
 pub mod Flow
 pub mod Meaning

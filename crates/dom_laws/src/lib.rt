@@ -3,9 +3,11 @@
 #![tactic(auto)]
 
 mod counter;
+mod edge_pass;
 mod laws;
 mod traits;
 
 pub use counter::Steps;
+pub use edge_pass::pass;
 pub use laws::{clears_no_fault, growth_is_bounded, nothing_is_missed, stands_where_reached};
 pub use traits::{Domain, Layer, Rows, System};

@@ -1,9 +1,10 @@
 //! Commands, done on files and a sink.
-use analyse_command::{Findings, TRIAL_NAME, findings_for, tell, trial_findings};
 use batch_io::{MemFiles, MemSink};
-use command_answers::{Answer, Stop, check, show_found};
 use command_words::RunWords;
-use run_command::{run, task_for};
+use commands::{
+    Answer, Findings, Stop, TRIAL_NAME, check, findings_for, run, show_found, task_for, tell,
+    trial_findings,
+};
 use std::alloc::Global;
 
 // Tells what is found, or why nothing is.

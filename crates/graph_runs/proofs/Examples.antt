@@ -22,7 +22,7 @@ use Rattle.cob_graph.specs.declared.graph.Graph.{Graph}
 use Rattle.cob_graph.specs.Laid.{MkLaid, no_laid, more_laid, a_phrase, skipping, going, ending, computing, performing, showing, own_list, copy, LaidParas, no_laid_paras, more_laid_paras}
 use Rattle.cob_graph.specs.Graphs.{IsMainCopy}
 use Rattle.cob_graph.specs.WellFormed.{IsWellFormed}
-use Rattle.cob_items.specs.WellFormed.{IsWellFormedItem}
+use Rattle.cob_store.specs.WellFormed.{IsWellFormedItem}
 use Rattle.cob_edge_parts.specs.Ranges.{AreApart}
 use Rattle.cob_graph.specs.Lookup.{edge, node_at}
 use Rattle.cob_graph.proofs.Examples.{item_of, numeral, atom_sum, stmt1, say, para, unnamed, of_paras, the_file, twice, laid_twice, with_copies, is_graph}

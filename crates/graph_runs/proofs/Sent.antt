@@ -22,7 +22,7 @@ use Rattle.cob_program.specs.Act.{MkStmt, Stmts, no_stmts, more_stmts, Phrase, l
 use Rattle.cob_runs.specs.Effects.{or_else, act_among, act_in_phrase, act_below, act_in_whens, act_in_body, act_in_paras, act_at}
 use Rattle.cob_runs.specs.Contents.{area, item_at, scaled_by, number_in}
 use Rattle.cob_runs.specs.Moves.{number_of}
-use Rattle.cob_items.specs.WellFormed.{IsWellFormedForm, IsWellFormedItem, HasWellFormedItems}
+use Rattle.cob_store.specs.WellFormed.{IsWellFormedForm, IsWellFormedItem, HasWellFormedItems}
 use Rattle.cob_world.specs.Needs.{IsNumber}
 use Rattle.cob_world.specs.Doing.{CanDo, CanDoPhrase, CanDoAct, CanDoWhens, CanDoBody, CanDoParas, CanDoProgram}
 use Rattle.graph_runs.specs.Sent.{SentCountsAreShort}

@@ -15,8 +15,8 @@ use Rattle.num_bytes.specs.Reading.{both, last, is_own, binary_width, twos_compl
 use Rattle.num_bytes.proofs.PackedLemmas.{no_spare_odd}
 use Rattle.cob_program.specs.Bounds.{form_bound}
 use Rattle.cob_runs.specs.Contents.{scale_of, scaled_by}
-use Rattle.cob_items.specs.WellFormed.{IsWellFormedForm}
-use Rattle.cob_items.proofs.ReadBound.{read_within}
+use Rattle.cob_store.specs.WellFormed.{IsWellFormedForm}
+use Rattle.cob_store.proofs.ReadBound.{read_within}
 
 abbrev pub IsShort : ℤ → Type 0
 IsShort z = unsigned_abs z < 10 ^ 18

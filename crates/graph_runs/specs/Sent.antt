@@ -5,7 +5,7 @@ use Rattle.cob_data.specs.declared.layout.Sender.{Sender}
 use Rattle.cob_program.specs.Act.{times, perform, Body, Program}
 use Rattle.cob_runs.specs.Effects.{act_at}
 use Rattle.cob_runs.specs.Moves.{number_of}
-use Rattle.cob_items.specs.WellFormed.{HasWellFormedItems}
+use Rattle.cob_store.specs.WellFormed.{HasWellFormedItems}
 use Rattle.cob_world.specs.Doing.{CanDoProgram}
 
 -- It has at most 18 digits, whatever stands in storage.

@@ -1,12 +1,12 @@
 -- Rows that claims mean are elements of the first layer's lattice.
 use Rattle.std.proofs.Common.{◌≡◌, List, ℤ, sym, ap, subst}
-use Rattle.decimal_interval.specs.declared.bounds.Interval.{Interval}
+use Rattle.interval_domain.specs.declared.bounds.Interval.{Interval}
 use Rattle.dom_laws.specs.Lattice.{IsElement}
-use Rattle.cell_rows.specs.Elements.{ElementFits}
-use Rattle.cell_rows.specs.Rows.{cells_lattice, row_from, width_of}
-use Rattle.cell_rows.proofs.Rows.{element_back, row_width}
+use Rattle.interval_domain.specs.Elements.{ElementFits}
+use Rattle.interval_domain.specs.Rows.{cells_lattice, row_from, width_of}
+use Rattle.interval_domain.proofs.Rows.{element_back, row_width}
 use Rattle.cert_text.specs.View.{Place}
-use Rattle.claimed_rows.specs.Claims.{claimed_element, claimed_row}
+use Rattle.cert_text.specs.Claims.{claimed_element, claimed_row}
 use Rattle.cell_ranges.proofs.Claims.{claims_fit}
 
 element : (ranges : List Interval) (thresholds : List (List ℤ)) (place : Place) → IsElement (cells_lattice ranges thresholds) (claimed_row ranges place)

@@ -7,7 +7,7 @@ use Rattle.cell_steps.specs.Homes.{Home, homes_of}
 use Rattle.dom_laws.specs.Lattice.{IsElement}
 use Rattle.diff_bounds.specs.declared.Pack.{Pack}
 use Rattle.diff_bounds.specs.PackRows.{packs_lattice}
-use Rattle.claimed_rows.specs.MatrixClaims.{cells_in, sizes_of}
+use Rattle.cert_text.specs.MatrixClaims.{cells_in, sizes_of}
 use Rattle.pack_laws.specs.Layer as layer
 use Rattle.pack_laws.specs.Layer.{diff_lattice}
 use Rattle.pack_laws.specs.Packs.{home_at, pack_in, packs_in, packs_of, ArePacksOfCells}

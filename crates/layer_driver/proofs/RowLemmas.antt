@@ -9,7 +9,7 @@ use Rattle.diff_bounds.specs.declared.Pack.{Pack}
 use Rattle.diff_bounds.specs.Matrix.{IsMatrix}
 use Rattle.diff_bounds.specs.Widening.{AreThresholds}
 use Rattle.diff_bounds.specs.PackRows.{words_of, width_of, lists_of}
-use Rattle.claimed_rows.specs.MatrixClaims.{cells_in, sizes_of}
+use Rattle.cert_text.specs.MatrixClaims.{cells_in, sizes_of}
 use Rattle.layer_driver.specs.Rows.{no_thresholds, rows_for}
 
 -- ---- a matrix, and the others behind it

@@ -3,7 +3,7 @@ use Rattle.std.specs.Prelude.{ℕ, List, [], map, ℤ}
 use Rattle.dom_laws.specs.Lattice.{Lattice}
 use Rattle.diff_bounds.specs.declared.Pack.{Pack}
 use Rattle.diff_bounds.specs.PackRows.{packs_lattice}
-use Rattle.claimed_rows.specs.MatrixClaims.{cells_in, sizes_of}
+use Rattle.cert_text.specs.MatrixClaims.{cells_in, sizes_of}
 
 -- an empty list for each pack
 abbrev pub no_thresholds : List ℕ → List (List ℤ)

@@ -6,12 +6,12 @@ ghost use Rattle.cob_graph.specs.Graphs.{IsGraph};
 ghost use Rattle.cob_graph_build.specs.Limits.{IsWithinLimits};
 ghost use Rattle.graph_runs.specs.Sources.{IsSourceGraph};
 ghost use Rattle.dom_laws.specs.Lattice.{IsElement};
-ghost use Rattle.cell_rows.specs.Rows.{IsRow};
-ghost use Rattle.cell_rows.specs.Rows.{lists_of as cell_lists};
+ghost use Rattle.interval_domain.specs.Rows.{IsRow};
+ghost use Rattle.interval_domain.specs.Rows.{lists_of as cell_lists};
 ghost use Rattle.cell_steps.specs.Homes.{owns};
 ghost use Rattle.cell_ranges.specs.Ranges.{ends_of};
 ghost use Rattle.diff_bounds.specs.PackRows.{lists_of};
-ghost use Rattle.claimed_rows.specs.MatrixClaims.{cells_in, sizes_of};
+ghost use Rattle.cert_text.specs.MatrixClaims.{cells_in, sizes_of};
 ghost use Rattle.pack_laws.specs.Packs.{ArePacksOfCells};
 ghost use Rattle.layer_driver.specs.Rows.{no_thresholds, rows_of_packs};
 
@@ -29,10 +29,10 @@ use cell_ranges::{all_ends, own_ranges};
 use cob_graph::Graph;
 use cob_graph_build::{graph_of, nested};
 use cob_program::Program;
-use decimal_interval::Interval;
 use diff_bounds::Pack;
 use diff_layer::DiffLayer;
 use dom_laws::Domain;
+use interval_domain::Interval;
 use std::alloc::{AllocError, Global};
 use std::io;
 

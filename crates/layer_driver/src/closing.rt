@@ -3,7 +3,7 @@ ghost use Rattle.std.specs.Prelude.{◌≡◌, ◌≤◌, length};
 ghost use Rattle.std.specs.List.{AllByRecursion};
 ghost use Rattle.dom_laws.specs.Lattice.{IsElement};
 ghost use Rattle.diff_bounds.specs.Matrix.{IsMatrix};
-ghost use Rattle.claimed_rows.specs.MatrixClaims.{cells_in, sizes_of};
+ghost use Rattle.cert_text.specs.MatrixClaims.{cells_in, sizes_of};
 ghost use Rattle.layer_driver.specs.Rows.{rows_of_packs};
 
 use crate::shown::{RowKind, shown_row};

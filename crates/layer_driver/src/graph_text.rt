@@ -1,11 +1,11 @@
 //! A program's items and cells and its graph, in lines.
 use crate::part_text::write_part;
-use borrowed_parts::{part_at, part_count};
 use cob_data::Item;
 use cob_graph::{Edge, Graph};
 use cob_program::{Act, Program, Stmt};
 use cob_runs::Cell;
 use cob_tree::Form;
+use edge_amounts::{part_at, part_count};
 use std::alloc::{AllocError, Global};
 use std::io;
 

@@ -3,11 +3,10 @@ ghost use Rattle.std.specs.Prelude.{◌≡◌, ◌≤◌, ◌≤ℤ◌, neg_ℤ,
 ghost use Rattle.std.specs.List.{AllByRecursion};
 ghost use Rattle.dom_laws.specs.Lattice.{IsElement};
 ghost use Rattle.diff_bounds.specs.Matrix.{IsMatrix, largest};
-ghost use Rattle.claimed_rows.specs.MatrixClaims.{cells_in, sizes_of};
+ghost use Rattle.cert_text.specs.MatrixClaims.{cells_in, sizes_of};
 ghost use Rattle.layer_driver.specs.Rows.{rows_of_packs};
 
-use cert_text::Element;
-use claimed_rows::{claimed_rows_are_elements, set_claimed};
+use cert_text::{Element, claimed_rows_are_elements, set_claimed};
 use diff_bounds::{Pack, add_bound, words_of};
 use std::alloc::{AllocError, Global};
 

@@ -1,7 +1,7 @@
 //! Packs, read.
 ghost use Rattle.std.specs.Prelude.{◌≡◌, ◌≤◌, length, IfOk, IfSome};
 ghost use Rattle.diff_bounds.specs.PackRows.{lists_of};
-ghost use Rattle.claimed_rows.specs.MatrixClaims.{cells_in, sizes_of};
+ghost use Rattle.cert_text.specs.MatrixClaims.{cells_in, sizes_of};
 ghost use Rattle.pack_laws.specs.Packs.{AreRisingNumbers, ArePacksOfCells};
 ghost use Rattle.layer_driver.specs.Rows.{no_thresholds};
 

@@ -1,9 +1,9 @@
 //! Parts of edges, written.
-use borrowed_parts::{Amount, Divisor, EdgePart};
 use case_words::{how_word, mode_word, relation_word, write_atom, write_literal, write_sum};
 use cob_data::{Pair, Sender};
 use cob_program::{Sum, Test};
 use cob_tree::Rel;
+use edge_amounts::{Amount, Divisor, EdgePart};
 use std::alloc::AllocError;
 
 // ---- senders

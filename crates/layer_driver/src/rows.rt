@@ -1,13 +1,12 @@
 //! Rows of cells, read.
 ghost use Rattle.std.specs.Prelude.{◌≡◌, List, ℤ, IfOk, IfSome};
 ghost use Rattle.dom_laws.specs.Lattice.{IsElement};
-ghost use Rattle.cell_rows.specs.Rows.{cells_lattice};
+ghost use Rattle.interval_domain.specs.Rows.{cells_lattice};
 ghost use Rattle.cert_text.specs.View.{place_of};
-ghost use Rattle.claimed_rows.specs.Claims.{claimed_row};
+ghost use Rattle.cert_text.specs.Claims.{claimed_row};
 
-use cert_text::{Claim, Element};
-use claimed_rows::set_claimed_row;
-use decimal_interval::Interval;
+use cert_text::{Claim, Element, set_claimed_row};
+use interval_domain::Interval;
 use std::alloc::{AllocError, Global};
 
 // Two words of a row: nothing where they can't be read, no claim where nothing is known.

@@ -1,9 +1,9 @@
 -- When all differences are small, by the ends.
 use Rattle.std.proofs.Common.{ℤ, ◌-ℤ◌, ◌≤ℤ◌, arith}
 use Rattle.std.proofs.lemmas.Int.{ints}
-use Rattle.decimal_interval.specs.declared.bounds.Interval.{Interval}
-use Rattle.decimal_interval.specs.Bounds.{IsSmall}
-use Rattle.decimal_interval.specs.Results.{IsDifference, AreSmall}
+use Rattle.interval_domain.specs.declared.bounds.Interval.{Interval}
+use Rattle.interval_domain.specs.Bounds.{IsSmall}
+use Rattle.interval_domain.specs.Results.{IsDifference, AreSmall}
 
 small_between : (low high z : ℤ) → IsSmall low → IsSmall high → low ≤ℤ z → z ≤ℤ high → IsSmall z
 small_between low high z h k l m = omega (arith, ints)

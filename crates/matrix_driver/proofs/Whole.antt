@@ -1,8 +1,8 @@
 -- Forms over all eight cells, and matrices of which one row is assigned.
 use Rattle.std.proofs.Common.{◌≢◌, ℕ, ◌+◌, ◌<◌, ℤ, arith}
-use Rattle.linear_form.specs.declared.form.Lin.{Lin}
-use Rattle.linear_form.specs.Values.{IsOver}
-use Rattle.linear_form.specs.Assigned.{AreAssigned}
+use Rattle.diff_bounds.specs.declared.form.Lin.{Lin}
+use Rattle.diff_bounds.specs.Values.{IsOver}
+use Rattle.diff_bounds.specs.Assigned.{AreAssigned}
 use Rattle.diff_bounds.specs.Settled.{IsTightBut}
 use Rattle.diff_bounds.proofs.Tight.{tight_beside}
 

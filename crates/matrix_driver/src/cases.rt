@@ -4,10 +4,8 @@ ghost use Rattle.std.specs.Prelude.{◌^◌, ◌<◌, ◌≤◌, ◌≤ℤ◌, u
 use crate::inputs::{Input, class_of, form_of, matrix_of, place_of, range_of};
 use crate::rows::{reclose_case, row_case};
 use crate::shown::Answer;
-use cell_rows::class_join;
-use decimal_interval::{Interval, sub_i};
-use diff_bounds::close;
-use linear_form::{Lin, assign, demand, lin_add, lin_scale, upper};
+use diff_bounds::{Lin, assign, close, demand, lin_add, lin_scale, upper};
+use interval_domain::{Interval, class_join, sub_i};
 
 fn close_case(numbers: &[i128]) -> Option<Answer> {
     if numbers.len() != 81 {

@@ -1,12 +1,10 @@
 //! Numbers, places, ranges, classes, matrices and forms, read.
 ghost use Rattle.std.specs.Prelude.{◌≡◌, ◌+◌, ◌<◌, ◌≤◌, ◌≤ℤ◌, ◌^◌, neg_ℤ, length, unsigned_abs, IfSome, IsTrue};
 ghost use Rattle.diff_bounds.specs.Matrix.{largest, IsMatrix};
-ghost use Rattle.linear_form.specs.Forms.{IsSmallForm};
+ghost use Rattle.diff_bounds.specs.Forms.{IsSmallForm};
 
-use cell_rows::Class;
-use decimal_interval::Interval;
-use diff_bounds::add_bound;
-use linear_form::{Lin, lin_scale};
+use diff_bounds::{Lin, add_bound, lin_scale};
+use interval_domain::{Class, Interval};
 use std::alloc::{AllocError, Global};
 
 /// The word of no bound.

@@ -5,8 +5,7 @@ ghost use Rattle.diff_bounds.specs.Settled.{IsTightBut};
 
 use crate::inputs::{Input, bound_of};
 use crate::shown::Answer;
-use diff_bounds::{add_bound, close, close_row, closed_words_are_tight, settled};
-use linear_form::assign;
+use diff_bounds::{add_bound, assign, close, close_row, closed_words_are_tight, settled};
 
 // lowers a word of one row or of its column
 #[tactic(auto, using(diff_bounds::proofs::Tight::tight_but_one))]

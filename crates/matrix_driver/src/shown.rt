@@ -1,7 +1,6 @@
 //! Answers, written.
-use cell_rows::Class;
-use decimal_interval::Interval;
-use linear_form::Lin;
+use diff_bounds::Lin;
+use interval_domain::{Class, Interval};
 use std::alloc::{AllocError, Global};
 
 /// What a call answers.

@@ -5,8 +5,8 @@ use Rattle.cob_program.specs.Act.{Act, Program}
 use Rattle.cob_runs.specs.declared.action.Action.{Action}
 use Rattle.cob_runs.specs.Contents.{form_at}
 use Rattle.cob_edge_parts.specs.Parts.{Amount}
-use Rattle.linear_form.specs.declared.form.Lin.{Lin}
-use Rattle.result_ranges.specs.Receivers.{receiver_of}
+use Rattle.diff_bounds.specs.declared.form.Lin.{Lin}
+use Rattle.transfer_ranges.specs.Receivers.{receiver_of}
 use Rattle.cell_steps.specs.Homes.{of_item}
 use Rattle.cell_steps.specs.Seen.{Seen}
 use Rattle.cell_steps.specs.Stores.{amount_at}

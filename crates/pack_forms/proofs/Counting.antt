@@ -4,11 +4,11 @@ use Rattle.cob_program.specs.Act.{Program}
 use Rattle.sum_ranges.specs.declared.ranged.Ranged.{Ranged}
 use Rattle.sum_ranges.specs.Ranged.{ranged}
 use Rattle.sum_ranges.specs.Sizes.{IsSmallRange}
-use Rattle.cell_rows.specs.Known.{Known}
-use Rattle.cell_rows.specs.Elements.{CellsFit}
+use Rattle.interval_domain.specs.Known.{Known}
+use Rattle.interval_domain.specs.Elements.{CellsFit}
 use Rattle.cell_steps.specs.Homes.{of_count, homes_of, owns}
 use Rattle.cell_steps.specs.Cells.{units_of}
-use Rattle.cell_walk.proofs.CounterRanges.{count_is_small, count_is_ordered}
+use Rattle.cell_layer.proofs.CounterRanges.{count_is_small, count_is_ordered}
 
 pub count_small : (p : Program) (cells : List Known) (statement : ℕ) (r : Ranged) → CellsFit (owns p) cells →
     r ≡ ranged (units_of p.layout (homes_of p) cells (of_count statement)) 0 → IsSmallRange r

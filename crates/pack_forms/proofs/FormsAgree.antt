@@ -1,15 +1,15 @@
 -- Where two functions from places to ranges agree on all small items, so do the forms of sums of small numbers.
 use Rattle.std.proofs.Common.{◌≡◌, ℕ, ◌&&◌, Bool, true, false, if◌then◌else◌, List, Option, None, pos, refl, ap, ◌∙◌}
-use Rattle.decimal_interval.specs.Corners.{interval}
+use Rattle.interval_domain.specs.Corners.{interval}
 use Rattle.cob_program.specs.Sum.{Sum, MkSum, Parts, no_parts, more_parts, Part, MkPart, Factors, no_factors, more_factors, MkFactor, Atom, item, number, group}
 use Rattle.cob_program.specs.Values.{whole_number, ◌>>=◌}
 use Rattle.cob_program.specs.Bounds.{Bound, exactly, sum_bound, factor_bound, part_most, atom_most, is_small, is_small_sum, is_small_sum_from, is_small_part, is_small_product, is_small_atom}
 use Rattle.cob_program.specs.Act.{Program}
 use Rattle.cob_program.proofs.Steps.{both}
 use Rattle.cob_calc.specs.Contents.{bound_at}
-use Rattle.linear_form.specs.declared.form.Lin.{Lin}
-use Rattle.linear_form.specs.Forms.{if_small}
-use Rattle.linear_form.specs.Results.{sum_of}
+use Rattle.diff_bounds.specs.declared.form.Lin.{Lin}
+use Rattle.diff_bounds.specs.Forms.{if_small}
+use Rattle.diff_bounds.specs.Results.{sum_of}
 use Rattle.sum_ranges.specs.declared.ranged.Ranged.{Ranged}
 use Rattle.sum_ranges.specs.Ranged.{point}
 use Rattle.sum_ranges.specs.SumRanges.{turned, factor_range, product_range_from, atom_range}
@@ -18,11 +18,11 @@ use Rattle.sum_forms.specs.declared.front.Front.TheVariants.{Empty}
 use Rattle.sum_forms.specs.Constants.{constant_form, range_form, item_form}
 use Rattle.sum_forms.specs.Literals.{whole_factor, are_literals}
 use Rattle.sum_forms.specs.SumForms.{turned_form, next_front, next_form, literals_form, sum_form, sum_form_from, part_form, product_form_from, atom_form}
-use Rattle.cell_rows.specs.Known.{Known}
+use Rattle.interval_domain.specs.Known.{Known}
 use Rattle.cell_steps.specs.Stores.{range_at}
-use Rattle.cell_walk.specs.ShortRanges.{short_range_at}
-use Rattle.cell_walk.proofs.ShortAnswers.{short_is}
-use Rattle.cell_walk.proofs.SumsAgree.{bind_same, atom_same}
+use Rattle.cell_layer.specs.ShortRanges.{short_range_at}
+use Rattle.cell_layer.proofs.ShortAnswers.{short_is}
+use Rattle.cell_layer.proofs.SumsAgree.{bind_same, atom_same}
 
 either_same : {A : Type 0} (b : Bool) (x y u v : A) → x ≡ u → y ≡ v → (if b then x else y) ≡ (if b then u else v)
 either_same true x y u v e f = e

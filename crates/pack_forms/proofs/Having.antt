@@ -5,8 +5,8 @@ use Rattle.cob_program.specs.Sum.{Sum}
 use Rattle.cob_program.specs.Values.{◌>>=◌}
 use Rattle.sum_ranges.specs.declared.ranged.Ranged.{Ranged}
 use Rattle.sum_ranges.specs.SumRanges.{sum_range}
-use Rattle.result_ranges.specs.declared.amounts.Taken.{Taken}
-use Rattle.result_ranges.specs.Operands.{alone, taken_sum}
+use Rattle.transfer_ranges.specs.declared.amounts.Taken.{Taken}
+use Rattle.transfer_ranges.specs.Operands.{alone, taken_sum}
 use Rattle.cell_laws.proofs.Roots.{settled_is}
 use Rattle.cell_steps.specs.Operands.{settled}
 

@@ -16,19 +16,19 @@ use Rattle.sum_ranges.specs.SumRanges.{sum_range}
 use Rattle.sum_ranges.specs.Working.{AreBounded}
 use Rattle.sum_ranges.proofs.Bounded.{small_range_of, sum_range_within}
 use Rattle.sum_ranges.proofs.Rooms.{small_atom_most}
-use Rattle.result_ranges.specs.declared.amounts.Taken.{Taken}
-use Rattle.result_ranges.specs.Operands.{alone, whole_range, taken_sum}
-use Rattle.result_ranges.specs.Stores.{operands}
-use Rattle.result_ranges.specs.Sizes.{IsSmallAmount}
-use Rattle.cell_amounts.specs.Small.{is_small_amount, has_small_sum}
-use Rattle.cell_amounts.specs.Working.{amount_from}
+use Rattle.transfer_ranges.specs.declared.amounts.Taken.{Taken}
+use Rattle.transfer_ranges.specs.Operands.{alone, whole_range, taken_sum}
+use Rattle.transfer_ranges.specs.Stores.{operands}
+use Rattle.transfer_ranges.specs.Sizes.{IsSmallAmount}
+use Rattle.edge_amounts.specs.Small.{is_small_amount, has_small_sum}
+use Rattle.edge_amounts.specs.Working.{amount_from}
 use Rattle.cell_steps.specs.Operands.{edge_amount, edge_operands}
 use Rattle.cell_steps.specs.Seen.{Seen}
 use Rattle.cell_laws.specs.Sizes.{sends_small}
 use Rattle.cell_laws.proofs.Senders.{moved_small}
 use Rattle.cell_laws.proofs.Sums.{whole_small}
-use Rattle.cell_walk.specs.Walks.{if_sent_small, CanStep}
-use Rattle.cell_walk.proofs.ShortAnswers.{edge_is_small}
+use Rattle.cell_layer.specs.Walks.{if_sent_small, CanStep}
+use Rattle.cell_layer.proofs.ShortAnswers.{edge_is_small}
 use Rattle.pack_forms.specs.Sizes.{HasSmallTop}
 
 nowhere : Ranged

@@ -9,10 +9,10 @@ use Rattle.cob_program.specs.declared.act.How.TheVariants as how
 use Rattle.cob_program.specs.Sum.{Sum}
 use Rattle.cob_program.specs.Values.{◌>>=◌}
 use Rattle.cob_edge_parts.specs.Parts.{Amount, moved, computed, remaining, augmented}
-use Rattle.decimal_interval.specs.declared.bounds.Interval.{Interval}
-use Rattle.linear_form.specs.declared.form.Lin.{Lin}
-use Rattle.linear_form.specs.Forms.{if_small}
-use Rattle.linear_form.specs.Results.{sum_of}
+use Rattle.interval_domain.specs.declared.bounds.Interval.{Interval}
+use Rattle.diff_bounds.specs.declared.form.Lin.{Lin}
+use Rattle.diff_bounds.specs.Forms.{if_small}
+use Rattle.diff_bounds.specs.Results.{sum_of}
 use Rattle.sum_ranges.specs.declared.ranged.Ranged.{Ranged}
 use Rattle.sum_ranges.specs.SumRanges.{product_range}
 use Rattle.sum_forms.specs.Constants.{constant_form, range_form, cell_form, item_form}
@@ -20,7 +20,7 @@ use Rattle.sum_forms.specs.SumForms.{sum_form}
 use Rattle.sum_forms.specs.Values.{IsForm, IsWithin}
 use Rattle.sum_forms.proofs.Shows.{if_there}
 use Rattle.sum_forms.proofs.Within.{constant_within, range_within, cell_within, sum_within, scaled_within, turned_within, item_within, sum_form_within}
-use Rattle.result_ranges.specs.declared.amounts.Taken.{Taken}
+use Rattle.transfer_ranges.specs.declared.amounts.Taken.{Taken}
 use Rattle.cell_steps.specs.Homes.{Home}
 use Rattle.diff_steps.specs.Packs.{cell_of}
 use Rattle.diff_steps.specs.Forms.{whole_sum, added_forms, turned_if}

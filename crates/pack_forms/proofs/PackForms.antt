@@ -2,12 +2,12 @@
 use Rattle.std.proofs.Common.{◌≡◌, ℕ, List, ℤ, pos, ◌+ℤ◌, ◌*ℤ◌, ◌≤ℤ◌, Option, Some, None, sym, ap, subst, ◌∙◌}
 use Rattle.std.specs.Prelude.{SomeIff, IfSome}
 use Rattle.std.proofs.Math.IntN.{zero-*ℤ}
-use Rattle.decimal_interval.specs.declared.bounds.Interval.{Interval}
-use Rattle.linear_form.specs.declared.form.Lin.{Lin}
-use Rattle.linear_form.specs.Forms.{coef, IsSmallForm}
-use Rattle.linear_form.specs.Results.{added_coefs, scaled_coefs, sum_of, multiple_of}
-use Rattle.linear_form.proofs.Coefs.{coef-coefs_of}
-use Rattle.linear_form.specs.Values.{IsOver}
+use Rattle.interval_domain.specs.declared.bounds.Interval.{Interval}
+use Rattle.diff_bounds.specs.declared.form.Lin.{Lin}
+use Rattle.diff_bounds.specs.Forms.{coef, IsSmallForm}
+use Rattle.diff_bounds.specs.Results.{added_coefs, scaled_coefs, sum_of, multiple_of}
+use Rattle.diff_bounds.proofs.Coefs.{coef-coefs_of}
+use Rattle.diff_bounds.specs.Values.{IsOver}
 use Rattle.sum_forms.specs.Constants.{constant_form}
 use Rattle.sum_forms.proofs.Working.{nones, none_coefs}
 use Rattle.pack_forms.specs.Forms.{IsFormOf}

@@ -13,10 +13,10 @@ use Rattle.sum_ranges.specs.Sizes.{IsSmallRange}
 use Rattle.sum_ranges.specs.Working.{CanMultiplyRanges}
 use Rattle.sum_forms.specs.Literals.{is_short}
 use Rattle.sum_forms.proofs.Loops.{short_atom}
-use Rattle.result_ranges.specs.declared.amounts.Taken.{Taken}
-use Rattle.result_ranges.specs.Operands.{is_whole}
-use Rattle.result_ranges.proofs.Working.{product_small}
-use Rattle.cell_amounts.specs.Working.{CanSettle, CanWork}
+use Rattle.transfer_ranges.specs.declared.amounts.Taken.{Taken}
+use Rattle.transfer_ranges.specs.Operands.{is_whole}
+use Rattle.transfer_ranges.proofs.Working.{product_small}
+use Rattle.edge_amounts.specs.Working.{CanSettle, CanWork}
 use Rattle.pack_forms.specs.Sizes.{is_short_whole}
 use Rattle.pack_forms.specs.Working.{settled_if}
 

@@ -4,9 +4,9 @@ use Rattle.std.specs.Prelude.{int_le, int_lt, neg_ℤ, IfSome}
 use Rattle.std.specs.Option.{option_map}
 use Rattle.std.proofs.lemmas.Int.{ints}
 use Rattle.dec_num.specs.declared.types.Mode.TheVariants.{Trunc}
-use Rattle.decimal_interval.specs.declared.bounds.Interval.{Interval}
-use Rattle.decimal_interval.specs.Corners.{either_of}
-use Rattle.decimal_interval.specs.Results.{IsQuotient}
+use Rattle.interval_domain.specs.declared.bounds.Interval.{Interval}
+use Rattle.interval_domain.specs.Corners.{either_of}
+use Rattle.interval_domain.specs.Results.{IsQuotient}
 use Rattle.sum_ranges.proofs.Operations.{LeastIfAny}
 use Rattle.cob_program.specs.Values.{quotient_scale}
 use Rattle.sum_ranges.specs.declared.ranged.Ranged.{Ranged}

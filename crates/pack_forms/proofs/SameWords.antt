@@ -5,14 +5,14 @@ use Rattle.std.proofs.lemmas.Int.{ints, clamps, by_lt_z}
 use Rattle.std.proofs.lemmas.Bool.{cases_eq, eq-eqb, ne_eqb}
 use Rattle.std.proofs.lemmas.Nat.{div-add-mod', mod_below, div_below}
 use Rattle.std.proofs.lemmas.List.FromFn.{fill_by_all}
-use Rattle.linear_form.specs.declared.form.Lin.{Lin}
+use Rattle.diff_bounds.specs.declared.form.Lin.{Lin}
 use Rattle.diff_bounds.specs.Matrix.{word, none, largest, IsBound, IsWord, IsMatrix}
 use Rattle.diff_bounds.proofs.Places.{place_fits}
-use Rattle.linear_form.specs.Numbers.{word_of}
-use Rattle.linear_form.specs.Upper.{coef_at}
-use Rattle.linear_form.specs.Assigned.{upper_less, less_upper, AreAssigned}
-use Rattle.linear_form.specs.Demanded.{AreDemanded, lowered}
-use Rattle.linear_form.specs.Forgotten.{AreForgotten}
+use Rattle.diff_bounds.specs.Numbers.{word_of}
+use Rattle.diff_bounds.specs.Upper.{coef_at}
+use Rattle.diff_bounds.specs.Assigned.{upper_less, less_upper, AreAssigned}
+use Rattle.diff_bounds.specs.Demanded.{AreDemanded, lowered}
+use Rattle.diff_bounds.specs.Forgotten.{AreForgotten}
 use Rattle.diff_steps.specs.Matrices.{with_words, forgotten, assigned, demanded, lesser}
 
 pub with_words_is : (size : ℕ) (m : List ℤ) (w : ℕ → ℕ → ℤ) → length m ≡ (size + 1) * (size + 1) → ((i j : ℕ) → i < size + 1 → j < size + 1 → word (size + 1) m i j ≡ w i j) → m ≡ with_words size w

@@ -1,16 +1,16 @@
 -- Bounds that a matrix shows of forms.
 use Rattle.std.proofs.Common.{◌≡◌, ℕ, List, ℤ, negsuc, ◌≤ℤ◌, Option, Some, None, refl, ap, subst, ◌∙◌, arith}
 use Rattle.std.proofs.lemmas.Int.{ints}
-use Rattle.linear_form.specs.declared.form.Lin.{Lin}
-use Rattle.linear_form.specs.Forms.{IsSmallForm, if_small}
-use Rattle.linear_form.specs.Results.{scaled_coefs, multiple_of}
-use Rattle.linear_form.proofs.Coefs.{length-coefs_of}
-use Rattle.linear_form.proofs.Computed.{computed}
+use Rattle.diff_bounds.specs.declared.form.Lin.{Lin}
+use Rattle.diff_bounds.specs.Forms.{IsSmallForm, if_small}
+use Rattle.diff_bounds.specs.Results.{scaled_coefs, multiple_of}
+use Rattle.diff_bounds.proofs.Coefs.{length-coefs_of}
+use Rattle.diff_bounds.proofs.Computed.{computed}
 use Rattle.diff_bounds.specs.Matrix.{none}
 use Rattle.cob_program.specs.Values.{◌>>=◌}
-use Rattle.linear_form.specs.Numbers.{word_of}
-use Rattle.linear_form.specs.Upper.{upper_of}
-use Rattle.linear_form.proofs.Bounded.{IsNumber}
+use Rattle.diff_bounds.specs.Numbers.{word_of}
+use Rattle.diff_bounds.specs.Upper.{upper_of}
+use Rattle.diff_bounds.proofs.Bounded.{IsNumber}
 use Rattle.diff_steps.specs.Stores.{upper_negated}
 
 -- a word that is no number

@@ -8,7 +8,7 @@ use Rattle.dec_num.specs.declared.types.Mode.{Mode}
 use Rattle.dec_num.specs.declared.types.Mode.TheVariants.{Trunc, Round}
 use Rattle.dec_num.specs.Exact.{rounded}
 use Rattle.dec_num.proofs.Powers.{ten_positive, ten_monotone, ten-add}
-use Rattle.result_ranges.specs.declared.amounts.Receiver.{Receiver}
+use Rattle.transfer_ranges.specs.declared.amounts.Receiver.{Receiver}
 use Rattle.diff_steps.specs.Clearing.{high_fits, low_fits}
 
 -- ---- the greatest quotient

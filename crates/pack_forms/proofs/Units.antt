@@ -3,8 +3,8 @@ use Rattle.std.proofs.Common.{◌≡◌, ◌∙◌, ap, refl}
 use Rattle.cob_tree.specs.declared.form.Form.{Form}
 use Rattle.cob_tree.specs.declared.form.Form.TheVariants as form
 use Rattle.cob_runs.specs.Contents.{scale_of}
-use Rattle.result_ranges.specs.declared.amounts.Receiver.{Receiver}
-use Rattle.result_ranges.specs.Receivers.{receiver_of}
+use Rattle.transfer_ranges.specs.declared.amounts.Receiver.{Receiver}
+use Rattle.transfer_ranges.specs.Receivers.{receiver_of}
 
 receiver_decimals : (f : Form) → (receiver_of f).scale ≡ scale_of f
 receiver_decimals form.Group = refl

@@ -1,8 +1,8 @@
 -- Forms over the cells of a pack.
 use Rattle.std.specs.Prelude.{ℕ, ◌≤ℤ◌}
-use Rattle.linear_form.specs.declared.form.Lin.{Lin}
-use Rattle.linear_form.specs.Forms.{IsSmallForm}
-use Rattle.linear_form.specs.Values.{IsOver}
+use Rattle.diff_bounds.specs.declared.form.Lin.{Lin}
+use Rattle.diff_bounds.specs.Forms.{IsSmallForm}
+use Rattle.diff_bounds.specs.Values.{IsOver}
 
 -- A form over the cells of a pack of so many whose numbers are small, and whose constant has a number.
 pub record IsFormOf (size : ℕ) (form : Lin) : Type 0 where

@@ -1,10 +1,10 @@
 -- What is known of a pack's cells, put into the words of its matrix.
 use Rattle.std.specs.Prelude.{◌≡◌, ◌≢◌, ℕ, zero, suc, ◌+◌, ◌<◌, ◌≤◌, List, length, map, slice_get, slice_index_or, ℤ, pos, ◌*ℤ◌, ◌≤ℤ◌, ◌⊎◌, unsigned_abs, Option, Some, None, IfSome}
 use Rattle.cob_data.specs.declared.layout.Layout.{Layout}
-use Rattle.decimal_interval.specs.declared.bounds.Interval.{Interval}
+use Rattle.interval_domain.specs.declared.bounds.Interval.{Interval}
 use Rattle.diff_bounds.specs.Matrix.{word}
 use Rattle.diff_bounds.specs.Closed.{closed}
-use Rattle.cell_rows.specs.Known.{Known}
+use Rattle.interval_domain.specs.Known.{Known}
 use Rattle.cell_steps.specs.Homes.{Home}
 use Rattle.cell_steps.specs.Storages.{known_of}
 use Rattle.diff_steps.specs.Packs.{Pack, unit_of}

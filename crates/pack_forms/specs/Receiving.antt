@@ -2,10 +2,10 @@
 use Rattle.std.specs.Prelude.{ℕ, ◌||◌, Bool, List, ℤ, Option, Some, None}
 use Rattle.dec_num.specs.declared.types.Mode.{Mode}
 use Rattle.cob_program.specs.Values.{◌>>=◌}
-use Rattle.linear_form.specs.declared.form.Lin.{Lin}
-use Rattle.linear_form.specs.Upper.{upper_of}
-use Rattle.result_ranges.specs.declared.amounts.AmountRange.{AmountRange}
-use Rattle.result_ranges.specs.declared.amounts.Receiver.{Receiver}
+use Rattle.diff_bounds.specs.declared.form.Lin.{Lin}
+use Rattle.diff_bounds.specs.Upper.{upper_of}
+use Rattle.transfer_ranges.specs.declared.amounts.AmountRange.{AmountRange}
+use Rattle.transfer_ranges.specs.declared.amounts.Receiver.{Receiver}
 use Rattle.diff_steps.specs.Matrices.{forgotten}
 use Rattle.diff_steps.specs.Stores.{known_of_amount, upper_negated, form_stored}
 use Rattle.diff_steps.specs.Clearing.{is_negative}

@@ -3,7 +3,7 @@ use Rattle.std.specs.Prelude.{Bool, true}
 use Rattle.cob_program.specs.Sum.{Sum, MkSum, no_parts, more_parts, MkPart, no_factors, more_factors, MkFactor}
 use Rattle.sum_ranges.specs.Sizes.{IsSmallRange}
 use Rattle.sum_forms.specs.Literals.{is_short}
-use Rattle.result_ranges.specs.declared.amounts.Taken.{Taken}
+use Rattle.transfer_ranges.specs.declared.amounts.Taken.{Taken}
 
 -- What was taken is small; of a quotient that stays exact what is divided.
 abbrev pub HasSmallTop : Taken → Type 0

@@ -3,12 +3,12 @@ use Rattle.std.specs.Prelude.{◌≡◌, ℕ, true, false, List, Option}
 use Rattle.cob_data.specs.declared.layout.Layout.{Layout}
 use Rattle.cob_program.specs.Act.{Program}
 use Rattle.cob_program.specs.ActView.{plain_program}
-use Rattle.result_ranges.specs.declared.amounts.Taken.{Taken}
-use Rattle.cell_rows.specs.Known.{Known}
-use Rattle.cell_rows.specs.Rows.{cells_of}
+use Rattle.transfer_ranges.specs.declared.amounts.Taken.{Taken}
+use Rattle.interval_domain.specs.Known.{Known}
+use Rattle.interval_domain.specs.Rows.{cells_of}
 use Rattle.cell_steps.specs.Homes.{of_item}
 use Rattle.cell_steps.specs.Seen.{Seen}
-use Rattle.cell_walk.specs.declared.items.KnownItems.{KnownItems}
+use Rattle.cell_layer.specs.declared.items.KnownItems.{KnownItems}
 use Rattle.diff_steps.specs.Packs.{Pack, cell_of, pack_decimals}
 use Rattle.pack_forms.specs.declared.pack.PackView.{PackView}
 use Rattle.pack_forms.specs.Cells.{plain_cells}

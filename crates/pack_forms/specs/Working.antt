@@ -8,12 +8,12 @@ use Rattle.cob_program.specs.declared.act.How.TheVariants as how
 use Rattle.cob_program.specs.Sum.{Sum}
 use Rattle.cob_program.specs.Values.{◌>>=◌, root_of}
 use Rattle.cob_edge_parts.specs.Parts.{Amount, moved, computed, remaining, augmented}
-use Rattle.linear_form.specs.declared.form.Lin.{Lin}
+use Rattle.diff_bounds.specs.declared.form.Lin.{Lin}
 use Rattle.sum_ranges.specs.declared.ranged.Ranged.{Ranged}
 use Rattle.sum_ranges.specs.SumRanges.{product_range}
 use Rattle.sum_forms.specs.Constants.{range_form, cell_form, item_form}
 use Rattle.sum_forms.specs.SumForms.{scaled_form, sum_form}
-use Rattle.result_ranges.specs.declared.amounts.Taken.{Taken}
+use Rattle.transfer_ranges.specs.declared.amounts.Taken.{Taken}
 use Rattle.cell_steps.specs.Operands.{settled}
 use Rattle.diff_steps.specs.Forms.{whole_sum, added_forms, turned_if}
 

@@ -1,17 +1,17 @@
 //! What a matrix shows of forms, and what is surely known of an amount.
 ghost use Rattle.std.specs.Prelude.{◌≡◌, ◌<◌, ◌≤◌, IfSome};
-ghost use Rattle.linear_form.specs.Forms.{IsSmallForm};
+ghost use Rattle.diff_bounds.specs.Forms.{IsSmallForm};
 ghost use Rattle.diff_bounds.specs.Matrix.{IsMatrix};
-ghost use Rattle.linear_form.specs.Upper.{upper_of};
+ghost use Rattle.diff_bounds.specs.Upper.{upper_of};
 ghost use Rattle.diff_steps.specs.Stores.{is_low as is_low_bound, upper_negated, known_of_range as range_known, known_of_amount as amount_known};
 ghost use Rattle.diff_steps.specs.Clearing.{is_negative as is_negative_bound};
 ghost use Rattle.pack_forms.specs.Ends.{IsNumber};
 ghost use Rattle.pack_forms.specs.Forms.{IsFormOf};
 ghost use Rattle.pack_forms.specs.Receiving.{upper_if, upper_negated_if, is_apart};
 
-use linear_form::{Known, Lin, negated, upper};
-use result_ranges::AmountRange;
+use diff_bounds::{Known, Lin, negated, upper};
 use sum_ranges::Ranged;
+use transfer_ranges::AmountRange;
 
 // the word of no bound
 const NONE: i128 = 100_000_000_000_000_000_000_000_000_000_000_000_000;

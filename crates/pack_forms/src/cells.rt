@@ -6,9 +6,9 @@ ghost use Rattle.diff_steps.specs.Packs as packs;
 ghost use Rattle.diff_steps.specs.Packs.{decimals_of};
 ghost use Rattle.pack_forms.specs.Cells.{plain_cell, plain_cells};
 
-use cell_amounts::receiver_at;
 use cob_data::Layout;
 use dec_num::pow10;
+use edge_amounts::receiver_at;
 
 /// What a cell of a pack is of.
 #[derive(Clone, Copy, PartialEq, Eq)]

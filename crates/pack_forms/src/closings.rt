@@ -4,7 +4,7 @@ ghost use Rattle.cob_data.specs.declared.layout.Layout.{Layout};
 ghost use Rattle.diff_bounds.specs.Matrix.{word, IsMatrix};
 ghost use Rattle.diff_bounds.specs.Closed.{closed};
 ghost use Rattle.diff_bounds.specs.Settled.{IsTightBut};
-ghost use Rattle.cell_rows.specs.Known.{Known};
+ghost use Rattle.interval_domain.specs.Known.{Known};
 ghost use Rattle.cell_steps.specs.Homes.{Home};
 ghost use Rattle.diff_steps.specs.Packs.{Pack};
 ghost use Rattle.diff_steps.specs.Matrices.{with_words, put_closed};
@@ -13,8 +13,8 @@ ghost use Rattle.pack_forms.specs.Ends.{IsNumber};
 ghost use Rattle.pack_forms.specs.Tight.{IsTightIfSettled};
 
 use super::changes::changed_place;
-use decimal_interval::Interval;
 use diff_bounds::{add_bound, close, close_row, settled};
+use interval_domain::Interval;
 
 /// What is known of a cell of a pack.
 #[derive(Clone, Copy, PartialEq, Eq)]

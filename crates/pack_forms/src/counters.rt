@@ -1,13 +1,13 @@
 //! Forms of counters.
 ghost use Rattle.std.specs.Prelude.{◌≡◌, length, ◌<◌, ◌^◌, pos, neg_ℤ, List, Option, IfSome};
-ghost use Rattle.decimal_interval.specs.Corners.{interval};
-ghost use Rattle.linear_form.specs.Forms.{if_small};
+ghost use Rattle.interval_domain.specs.Corners.{interval};
+ghost use Rattle.diff_bounds.specs.Forms.{if_small};
 ghost use Rattle.sum_ranges.specs.Ranged.{ranged};
 ghost use Rattle.sum_ranges.specs.Sizes.{IsSmallRange};
 ghost use Rattle.sum_forms.specs.Constants as constants;
 ghost use Rattle.sum_forms.specs.Values.{IsForm};
-ghost use Rattle.result_ranges.specs.declared.amounts.Taken as declared_taken;
-ghost use Rattle.cell_rows.specs.Elements.{CellsFit};
+ghost use Rattle.transfer_ranges.specs.declared.amounts.Taken as declared_taken;
+ghost use Rattle.interval_domain.specs.Elements.{CellsFit};
 ghost use Rattle.cell_steps.specs.Homes.{of_count, homes_of, owns};
 ghost use Rattle.cell_steps.specs.Cells.{units_of};
 ghost use Rattle.diff_steps.specs.Forms as forms;
@@ -19,8 +19,8 @@ ghost use Rattle.pack_forms.specs.Views.{plain_pack, HasUnit, program_of, known_
 use crate::cells::PackCell;
 use crate::form_sums::added;
 use crate::pack::{PackView, cell_in};
-use cell_walk::{KnownItems, count_units};
-use linear_form::Lin;
+use cell_layer::{KnownItems, count_units};
+use diff_bounds::Lin;
 use sum_forms::{cell_form, range_form};
 use sum_ranges::{Ranged, point};
 

@@ -1,12 +1,12 @@
 //! Sums of forms, where there are forms.
 ghost use Rattle.std.specs.Prelude.{◌≡◌, true, IfSome};
-ghost use Rattle.linear_form.specs.Forms.{if_small};
-ghost use Rattle.linear_form.specs.Results.{sum_of};
+ghost use Rattle.diff_bounds.specs.Forms.{if_small};
+ghost use Rattle.diff_bounds.specs.Results.{sum_of};
 ghost use Rattle.sum_forms.specs.SumForms.{scaled_form, scaled_if};
 ghost use Rattle.sum_forms.specs.Values.{IsForm};
 ghost use Rattle.diff_steps.specs.Forms.{added_forms, turned_if};
 
-use linear_form::{Lin, lin_add, lin_scale};
+use diff_bounds::{Lin, lin_add, lin_scale};
 
 fn sum_of_two(a: &Lin, b: &Lin) -> Option<Lin>
     requires a { IsForm a.now }

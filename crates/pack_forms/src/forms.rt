@@ -1,14 +1,14 @@
 //! Forms with another sign, and with an error.
 ghost use Rattle.std.specs.Prelude.{◌≡◌, ◌≤ℤ◌, ℕ, true, IfSome};
-ghost use Rattle.linear_form.specs.Values.{IsOver};
+ghost use Rattle.diff_bounds.specs.Values.{IsOver};
 ghost use Rattle.sum_forms.specs.Constants.{constant_form};
 ghost use Rattle.sum_forms.specs.SumForms.{turned_form, turned_if};
 ghost use Rattle.diff_steps.specs.Stores.{widened_form};
 ghost use Rattle.diff_steps.specs.Guards.{strictly, at_most};
 ghost use Rattle.pack_forms.specs.Forms.{IsFormOf};
 
-use decimal_interval::Interval;
-use linear_form::{Lin, lin_add, lin_scale};
+use diff_bounds::{Lin, lin_add, lin_scale};
+use interval_domain::Interval;
 
 // how many cells a pack has at most
 const CELLS: usize = 8;

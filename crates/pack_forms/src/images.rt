@@ -5,7 +5,7 @@ ghost use Rattle.diff_steps.specs.Matrices.{forgotten as forgotten_matrix, assig
 ghost use Rattle.diff_steps.specs.Stores.{assigned_or_forgotten};
 ghost use Rattle.pack_forms.specs.Forms.{IsFormOf};
 
-use linear_form::{Lin, assign, demand, forget};
+use diff_bounds::{Lin, assign, demand, forget};
 
 // leaves nothing that the matrix says of a cell
 pub(crate) fn forget_cell(size: usize, m: &mut [i128], cell: usize)

@@ -1,6 +1,6 @@
 //! Sums that are one whole number.
 ghost use Rattle.std.specs.Prelude.{◌≡◌, true, map};
-ghost use Rattle.decimal_interval.specs.Bounds.{IsSmall};
+ghost use Rattle.interval_domain.specs.Bounds.{IsSmall};
 ghost use Rattle.cob_program.specs.Sum.{MkSum, MkPart, parts_of, factors_of, more_parts, no_parts, more_factors, no_factors};
 ghost use Rattle.cob_program.specs.SumView.{plain_sum, plain_part, plain_factor};
 ghost use Rattle.diff_steps.specs.Forms as forms;

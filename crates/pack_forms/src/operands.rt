@@ -2,19 +2,19 @@
 ghost use Rattle.std.specs.Prelude.{◌≡◌, ◌||◌, ◌≤◌, true, false, is_some, Option, List, IfSome};
 ghost use Rattle.cob_program.specs.SumView.{plain_sum};
 ghost use Rattle.cob_calc.specs.Contents.{bound_at};
-ghost use Rattle.borrowed_parts.specs.PartView.{plain_amount};
+ghost use Rattle.edge_amounts.specs.PartView.{plain_amount};
 ghost use Rattle.sum_ranges.specs.SumRanges.{quotient_range, sum_range};
 ghost use Rattle.sum_ranges.specs.Taking.{is_small_taken};
 ghost use Rattle.sum_forms.specs.Values.{IsForm};
-ghost use Rattle.result_ranges.specs.Operands.{is_whole};
-ghost use Rattle.result_ranges.specs.Stores as stores;
-ghost use Rattle.cell_amounts.specs.Small.{is_small_amount};
-ghost use Rattle.cell_amounts.specs.Working.{CanSettle};
-ghost use Rattle.cell_rows.specs.Elements.{CellsFit};
+ghost use Rattle.transfer_ranges.specs.Operands.{is_whole};
+ghost use Rattle.transfer_ranges.specs.Stores as stores;
+ghost use Rattle.edge_amounts.specs.Small.{is_small_amount};
+ghost use Rattle.edge_amounts.specs.Working.{CanSettle};
+ghost use Rattle.interval_domain.specs.Elements.{CellsFit};
 ghost use Rattle.cell_steps.specs.Homes.{owns};
 ghost use Rattle.cell_steps.specs.Operands.{settled};
 ghost use Rattle.cell_steps.specs.Stores.{range_at};
-ghost use Rattle.result_ranges.specs.declared.amounts.Taken as declared_taken;
+ghost use Rattle.transfer_ranges.specs.declared.amounts.Taken as declared_taken;
 ghost use Rattle.diff_steps.specs.Forms as forms;
 ghost use Rattle.diff_steps.specs.Moments.{Bytes};
 ghost use Rattle.pack_forms.specs.Sizes.{HasSmallTop};
@@ -25,13 +25,12 @@ ghost use Rattle.pack_forms.specs.Writing.{amount_items, are_written};
 use crate::pack::PackView;
 use crate::sums::form_read;
 use crate::taken::{kept_form, settled_operands};
-use borrowed_parts::Amount;
-use cell_amounts::operands;
-use cell_walk::KnownItems;
+use cell_layer::KnownItems;
 use cob_program::{How, Sum};
-use linear_form::Lin;
-use result_ranges::Taken;
+use diff_bounds::Lin;
+use edge_amounts::{Amount, operands};
 use sum_ranges::Ranged;
+use transfer_ranges::Taken;
 
 // what operands were; a quotient that isn't stored as it is has been cut
 fn form_taken(decimals: u32, common: Option<Taken>, whole: bool) -> Option<Lin>

@@ -2,14 +2,14 @@
 ghost use Rattle.std.specs.Prelude.{◌≡◌, ◌<◌, ◌≤◌, true, false, IfSome};
 ghost use Rattle.diff_bounds.specs.Matrix.{IsMatrix};
 ghost use Rattle.cob_runs.specs.Deciding.{below as below_it, equal as equal_to_it, above as above_it, holds};
-ghost use Rattle.guard_ranges.specs.Sides.{is_wanted};
+ghost use Rattle.transfer_ranges.specs.Sides.{is_wanted};
 ghost use Rattle.diff_steps.specs.Guards.{demanded_if, ordered};
 ghost use Rattle.pack_forms.specs.Forms.{IsFormOf};
 
 use super::forms::{at_most, turned};
 use super::images::{demand_form, lower_to};
 use cob_tree::Rel;
-use linear_form::Lin;
+use diff_bounds::Lin;
 
 /// Lowers the words by the demand that the form is at most 0, if there is one.
 pub fn demand_if(size: usize, m: &mut [i128], form: Option<Lin>)

@@ -8,8 +8,8 @@ ghost use Rattle.pack_forms.specs.Receiving.{upper_if, upper_negated_if};
 
 use super::bounds::{bound_if, bound_of_negated_if};
 use dec_num::{Mode, pow10};
-use linear_form::Lin;
-use result_ranges::Receiver;
+use diff_bounds::Lin;
+use transfer_ranges::Receiver;
 
 // whether so many units, times a power of ten, are less than a number
 fn is_less(units: i128, power: u32, limit: i128) -> bool

@@ -13,11 +13,11 @@ ghost use Rattle.pack_forms.specs.Writing.{sender_items, are_written};
 use crate::cells::{PackCell, item_decimals};
 use crate::pack::{PackView, cell_in};
 use crate::taken::kept_form;
-use cell_walk::KnownItems;
+use cell_layer::KnownItems;
 use cob_data::{Layout, Sender};
-use linear_form::Lin;
-use result_ranges::Taken;
+use diff_bounds::Lin;
 use sum_forms::cell_form;
+use transfer_ranges::Taken;
 
 // the value of a cell of the pack, where the edge hasn't written to the item
 fn item_form(pack: &PackView, place: u32, common: Option<Taken>, written: bool) -> Option<Lin>

@@ -3,10 +3,10 @@ ghost use Rattle.std.specs.Prelude.{◌≡◌, length, true, IfSome};
 ghost use Rattle.cob_program.specs.Bounds.{is_small_sum, is_small_atom};
 ghost use Rattle.cob_program.specs.SumView.{plain_sum};
 ghost use Rattle.cob_calc.specs.Contents.{bound_at};
-ghost use Rattle.borrowed_parts.specs.PartView.{plain_divisor};
+ghost use Rattle.edge_amounts.specs.PartView.{plain_divisor};
 ghost use Rattle.sum_ranges.specs.SumRanges as ranges;
 ghost use Rattle.sum_forms.specs.SumForms.{atom_form};
-ghost use Rattle.cell_rows.specs.Elements.{CellsFit};
+ghost use Rattle.interval_domain.specs.Elements.{CellsFit};
 ghost use Rattle.cell_steps.specs.Homes.{owns};
 ghost use Rattle.cell_steps.specs.Stores.{range_at};
 ghost use Rattle.diff_steps.specs.Guards as guards;
@@ -18,10 +18,10 @@ ghost use Rattle.pack_forms.specs.Views.{plain_pack, item_cell, HasUnit, program
 use crate::form_sums::{added, turned};
 use crate::pack::PackView;
 use crate::sums::{form_of_divisor, form_of_sum};
-use borrowed_parts::Divisor;
-use cell_walk::KnownItems;
+use cell_layer::KnownItems;
 use cob_program::Sum;
-use linear_form::Lin;
+use diff_bounds::Lin;
+use edge_amounts::Divisor;
 use sum_ranges::{Ranged, sum_range};
 
 /// The form of a sum less another one, over the pack's cells and in its unit (Miné 2001). None where a sum has none, or

@@ -9,8 +9,8 @@ use super::bounds::known_of_amount;
 use super::forms::{turned, widened};
 use super::images::{assign_or_forget, forget_cell, lower_to};
 use dec_num::Mode;
-use linear_form::{Known, Lin, error_of};
-use result_ranges::{AmountRange, Receiver};
+use diff_bounds::{Known, Lin, error_of};
+use transfer_ranges::{AmountRange, Receiver};
 
 // stores a value that is 0: by the form or by the negated one, whichever says more
 fn store_either(size: usize, m: &mut [i128], to: usize, form: Option<Lin>)

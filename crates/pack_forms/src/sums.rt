@@ -8,18 +8,18 @@ ghost use Rattle.cob_calc.specs.Contents.{bound_at};
 ghost use Rattle.sum_ranges.specs.Taking.{is_small_taken};
 ghost use Rattle.sum_forms.specs.SumForms as sums;
 ghost use Rattle.sum_forms.specs.Values.{IsForm};
-ghost use Rattle.cell_rows.specs.Elements.{CellsFit};
+ghost use Rattle.interval_domain.specs.Elements.{CellsFit};
 ghost use Rattle.cell_steps.specs.Homes.{owns};
 ghost use Rattle.cell_steps.specs.Stores.{range_at};
-ghost use Rattle.borrowed_parts.specs.PartView.{plain_divisor};
+ghost use Rattle.edge_amounts.specs.PartView.{plain_divisor};
 ghost use Rattle.pack_forms.specs.Views.{item_cell, program_of, known_in};
 ghost use Rattle.pack_forms.specs.Working.{read_by};
 
 use crate::pack::PackView;
-use borrowed_parts::Divisor;
-use cell_walk::KnownItems;
+use cell_layer::KnownItems;
 use cob_program::{Atom, Factor, Part, Sum};
-use linear_form::Lin;
+use diff_bounds::Lin;
+use edge_amounts::Divisor;
 use sum_forms::{atom_form, sum_form};
 
 /// The form of a sum.

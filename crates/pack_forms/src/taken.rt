@@ -5,14 +5,14 @@ ghost use Rattle.sum_ranges.specs.Sizes.{IsSmallRange};
 ghost use Rattle.sum_ranges.specs.Working.{CanDivideRanges};
 ghost use Rattle.sum_forms.specs.Values.{IsForm};
 ghost use Rattle.cell_steps.specs.Operands.{settled};
-ghost use Rattle.cell_amounts.specs.Working.{CanSettle};
+ghost use Rattle.edge_amounts.specs.Working.{CanSettle};
 ghost use Rattle.pack_forms.specs.Sizes.{HasSmallTop};
 ghost use Rattle.pack_forms.specs.Working.{settled_if, kept_by};
 
-use linear_form::Lin;
-use result_ranges::Taken;
+use diff_bounds::Lin;
 use sum_forms::range_form;
 use sum_ranges::{Ranged, factor_range};
+use transfer_ranges::Taken;
 
 fn alone(top: Ranged) -> Taken
     ensures { result ≡ record { top = top; under = None } }

@@ -8,9 +8,9 @@ use Rattle.cob_program.specs.Act.{Act, Program}
 use Rattle.cob_runs.specs.Effects.{act_at}
 use Rattle.cob_graph.specs.declared.graph.Edge.{Edge}
 use Rattle.cob_graph.specs.declared.graph.Graph.{Graph}
-use Rattle.cell_rows.specs.Known.{Known}
-use Rattle.cell_rows.specs.Elements.{Element, CellsFit, ElementFits, CellsBelow, ElementBelow}
-use Rattle.cell_rows.specs.Rows.{element_of}
+use Rattle.interval_domain.specs.Known.{Known}
+use Rattle.interval_domain.specs.Elements.{Element, CellsFit, ElementFits, CellsBelow, ElementBelow}
+use Rattle.interval_domain.specs.Rows.{element_of}
 use Rattle.graph_runs.specs.Places.{edge_at, Leaves}
 use Rattle.cell_steps.specs.Homes.{owns}
 use Rattle.cell_laws.specs.Layer.{left}

@@ -9,7 +9,7 @@ use Rattle.cob_data.specs.declared.layout.Layout.{Layout}
 use Rattle.cob_program.specs.Act.{Program}
 use Rattle.dom_laws.specs.Meaning.{Storage}
 use Rattle.diff_bounds.specs.Matrix.{word, none, IsBound, IsWord, IsMatrix}
-use Rattle.cell_rows.specs.Known.{Known}
+use Rattle.interval_domain.specs.Known.{Known}
 use Rattle.cell_steps.specs.Storages.{StandsIn}
 use Rattle.diff_steps.specs.Packs.{Pack, size_of, PackStands, PacksStand}
 use Rattle.diff_steps.specs.Edges.{or_bottoms, no_bounds, entry_packs}

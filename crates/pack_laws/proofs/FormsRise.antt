@@ -3,7 +3,7 @@ use Rattle.std.proofs.Common.{◌≡◌, ℕ, ◌^◌, Bool, true, false, ◌&&�
 use Rattle.std.specs.Prelude.{IsSomeAnd, if◌then◌else◌, neg_ℤ}
 use Rattle.std.specs.List.{list_any}
 use Rattle.std.proofs.lemmas.Int.{ints}
-use Rattle.decimal_interval.specs.Corners.{interval}
+use Rattle.interval_domain.specs.Corners.{interval}
 use Rattle.cob_data.specs.declared.layout.Sender.{Sender}
 use Rattle.cob_data.specs.declared.layout.Sender.TheVariants as sender
 use Rattle.cob_program.specs.declared.act.How.{How}
@@ -15,9 +15,9 @@ use Rattle.cob_program.proofs.Steps.{some_bound}
 use Rattle.cob_runs.specs.declared.action.Action.{Action}
 use Rattle.cob_runs.specs.Computing.{items_in}
 use Rattle.cob_edge_parts.specs.Parts.{Amount, moved, computed, remaining, augmented}
-use Rattle.linear_form.specs.declared.form.Lin.{Lin}
-use Rattle.linear_form.specs.Forms.{if_small}
-use Rattle.linear_form.specs.Results.{sum_of}
+use Rattle.diff_bounds.specs.declared.form.Lin.{Lin}
+use Rattle.diff_bounds.specs.Forms.{if_small}
+use Rattle.diff_bounds.specs.Results.{sum_of}
 use Rattle.sum_ranges.specs.declared.ranged.Ranged.{Ranged}
 use Rattle.sum_ranges.specs.Ranged as range
 use Rattle.sum_ranges.specs.Ranged.{ranged}
@@ -26,12 +26,12 @@ use Rattle.sum_forms.specs.Constants.{constant_form, range_form}
 use Rattle.sum_forms.specs.SumForms.{turned_form, sum_form, atom_form}
 use Rattle.sum_forms.specs.Values.{IsNarrowerIfAny}
 use Rattle.sum_forms.proofs.Narrower.{range_narrower, item_narrower, sum_there, narrower_then, scaled_narrower, turns_narrower, either_narrower, sum_form_narrower, atom_form_narrower}
-use Rattle.result_ranges.specs.declared.amounts.Taken.{Taken}
-use Rattle.result_ranges.specs.declared.amounts.AmountRange.{AmountRange}
-use Rattle.result_ranges.specs.Amounts as amounts
-use Rattle.result_ranges.specs.Amounts.{IsNarrowerTaken, IsNarrowerTakenIfAny}
-use Rattle.result_ranges.specs.Stores.{amount_range}
-use Rattle.result_ranges.proofs.Narrower.{computed_narrower}
+use Rattle.transfer_ranges.specs.declared.amounts.Taken.{Taken}
+use Rattle.transfer_ranges.specs.declared.amounts.AmountRange.{AmountRange}
+use Rattle.transfer_ranges.specs.Amounts as amounts
+use Rattle.transfer_ranges.specs.Amounts.{IsNarrowerTaken, IsNarrowerTakenIfAny}
+use Rattle.transfer_ranges.specs.Stores.{amount_range}
+use Rattle.transfer_ranges.proofs.Narrower.{computed_narrower}
 use Rattle.cell_steps.specs.Homes.{of_item, of_count, homes_of}
 use Rattle.cell_steps.specs.Cells.{units_of}
 use Rattle.cell_steps.specs.Operands.{settled, stays_exact, taken_for, amount_of}

@@ -26,7 +26,7 @@ use Rattle.cob_edge_parts.specs.Parts.{Amount, moved, computed, remaining, augme
 use Rattle.cob_edge_parts.specs.Meaning as run
 use Rattle.cob_edge_parts.specs.Meaning.{Moment, with_own, amount, ReadsAt}
 use Rattle.cob_edge_parts.proofs.Divisors.{sum_counts, result_counts}
-use Rattle.linear_form.specs.declared.form.Lin.{Lin}
+use Rattle.diff_bounds.specs.declared.form.Lin.{Lin}
 use Rattle.sum_ranges.specs.declared.ranged.Ranged.{Ranged}
 use Rattle.sum_ranges.specs.Ranged.{decimal, point, IsIn}
 use Rattle.sum_ranges.specs.SumRanges.{product_range, sum_range}
@@ -36,10 +36,10 @@ use Rattle.sum_forms.specs.Literals.{whole_factor}
 use Rattle.sum_forms.specs.SumForms.{scaled_form, sum_form}
 use Rattle.sum_forms.proofs.Shows.{whole_factor_is}
 use Rattle.sum_forms.proofs.Sound.{one_product}
-use Rattle.result_ranges.specs.declared.amounts.Taken.{Taken}
-use Rattle.result_ranges.specs.Amounts.{IsAmount}
-use Rattle.result_ranges.specs.Operands.{whole_range}
-use Rattle.result_ranges.specs.Stores.{amount_range}
+use Rattle.transfer_ranges.specs.declared.amounts.Taken.{Taken}
+use Rattle.transfer_ranges.specs.Amounts.{IsAmount}
+use Rattle.transfer_ranges.specs.Operands.{whole_range}
+use Rattle.transfer_ranges.specs.Stores.{amount_range}
 use Rattle.graph_runs.specs.Counters.{PassesParts}
 use Rattle.cell_laws.specs.Places.{IsBehindOperands, EndsWithRead, IsStored}
 use Rattle.cell_steps.specs.Homes.{of_item}

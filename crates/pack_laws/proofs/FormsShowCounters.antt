@@ -5,13 +5,13 @@ use Rattle.std.specs.Int.{int_div_euclid}
 use Rattle.std.proofs.lemmas.Int.{ints}
 use Rattle.std.proofs.lemmas.Bool.Decides.{nat_tests}
 use Rattle.dec_num.specs.declared.types.Scaled.{Scaled}
-use Rattle.decimal_interval.specs.declared.bounds.Interval.{Interval}
-use Rattle.decimal_interval.specs.Bounds.{Holds}
-use Rattle.decimal_interval.specs.Corners.{interval}
+use Rattle.interval_domain.specs.declared.bounds.Interval.{Interval}
+use Rattle.interval_domain.specs.Bounds.{Holds}
+use Rattle.interval_domain.specs.Corners.{interval}
 use Rattle.cob_program.specs.Act.{Program}
 use Rattle.cob_program.specs.Values.{whole_number, plus}
 use Rattle.cob_edge_parts.specs.Meaning.{count_in}
-use Rattle.linear_form.specs.Forms.{if_small}
+use Rattle.diff_bounds.specs.Forms.{if_small}
 use Rattle.sum_ranges.specs.Ranged.{decimal, point}
 use Rattle.sum_ranges.proofs.Least.{point_in}
 use Rattle.sum_forms.specs.Constants.{floor_at, outward, constant_form}

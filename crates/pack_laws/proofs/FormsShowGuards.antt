@@ -17,16 +17,16 @@ use Rattle.cob_runs.specs.Faults as fault
 use Rattle.cob_runs.specs.Faults.{or_fault}
 use Rattle.cob_runs.specs.Computing.{items_in, are_numeric, worth}
 use Rattle.cob_runs.specs.Deciding.{below, equal, above, Order, holds, order_of, number_order, decided, compared_numbers, test_holds}
-use Rattle.linear_form.specs.declared.form.Lin.{Lin}
-use Rattle.linear_form.specs.Forms.{if_small}
-use Rattle.linear_form.specs.Results.{sum_of}
+use Rattle.diff_bounds.specs.declared.form.Lin.{Lin}
+use Rattle.diff_bounds.specs.Forms.{if_small}
+use Rattle.diff_bounds.specs.Results.{sum_of}
 use Rattle.sum_ranges.specs.declared.ranged.Ranged.{Ranged}
 use Rattle.sum_ranges.specs.Ranged.{IsIn}
 use Rattle.sum_ranges.specs.SumRanges.{sum_range}
 use Rattle.sum_forms.specs.SumForms.{turned_form, sum_form}
-use Rattle.guard_ranges.specs.Sides.{is_wanted}
-use Rattle.guard_ranges.proofs.InRanges.{ok_same, ok_bound, ok_there, wanted_is}
-use Rattle.cell_rows.specs.Known.{Known}
+use Rattle.transfer_ranges.specs.Sides.{is_wanted}
+use Rattle.transfer_ranges.proofs.InRanges.{ok_same, ok_bound, ok_there, wanted_is}
+use Rattle.interval_domain.specs.Known.{Known}
 use Rattle.cell_steps.specs.Homes.{of_item}
 use Rattle.cell_steps.specs.Storages.{storage, StandsIn}
 use Rattle.cell_steps.specs.Premises.{HasSoundItems}

@@ -6,8 +6,8 @@ use Rattle.std.proofs.lemmas.Int.{ints}
 use Rattle.std.proofs.Math.IntN.{zero-*ℤ}
 use Rattle.dec_num.specs.declared.types.Scaled.{Scaled}
 use Rattle.dec_num.proofs.Signed.{times_times}
-use Rattle.decimal_interval.specs.declared.bounds.Interval.{Interval}
-use Rattle.decimal_interval.specs.Bounds.{Holds}
+use Rattle.interval_domain.specs.declared.bounds.Interval.{Interval}
+use Rattle.interval_domain.specs.Bounds.{Holds}
 use Rattle.cob_tree.specs.declared.form.Form.{Form}
 use Rattle.cob_tree.specs.declared.form.Form.TheVariants as form
 use Rattle.num_bytes.specs.Reading.{contents_value}
@@ -19,7 +19,7 @@ use Rattle.cob_runs.specs.Contents.{form_at, bytes_at, scale_of, scaled_by, numb
 use Rattle.cob_runs.specs.Computing as computing
 use Rattle.cob_runs.specs.Computing.{items_in, items_in_atom, are_numeric}
 use Rattle.cob_edge_parts.specs.Meaning.{count_in}
-use Rattle.linear_form.specs.Values.{worth, worths}
+use Rattle.diff_bounds.specs.Values.{worth, worths}
 use Rattle.sum_ranges.specs.Ranged.{decimal, ranged, point, IsIn}
 use Rattle.sum_ranges.specs.SumRanges.{sum_range}
 use Rattle.sum_ranges.proofs.Least.{point_in}
@@ -29,8 +29,8 @@ use Rattle.sum_forms.specs.SumForms.{sum_form, atom_form}
 use Rattle.sum_forms.specs.Values.{Shows, AreHeld}
 use Rattle.sum_forms.proofs.Shows.{item_shows}
 use Rattle.sum_forms.proofs.Sound.{sum_shown}
-use Rattle.guard_ranges.proofs.Agreement.{numeric_sum}
-use Rattle.cell_rows.specs.Known.{Known}
+use Rattle.transfer_ranges.proofs.Agreement.{numeric_sum}
+use Rattle.interval_domain.specs.Known.{Known}
 use Rattle.cell_steps.specs.Homes.{Home, of_item, of_count, homes_of, picture_range, form_range, home_range}
 use Rattle.cell_steps.specs.Storages.{storage, known_of, value_at, KnownStands, StandsIn}
 use Rattle.cell_steps.specs.Premises.{HasSoundItems}

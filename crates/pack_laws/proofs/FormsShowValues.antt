@@ -6,11 +6,11 @@ use Rattle.dec_num.specs.Exact.{Fraction}
 use Rattle.dec_num.specs.Scaled.{value_of}
 use Rattle.cob_program.specs.Values.{negated, plus, product, ◌>>=◌}
 use Rattle.cob_program.proofs.Steps.{some_same}
-use Rattle.linear_form.specs.declared.form.Lin.{Lin}
-use Rattle.linear_form.specs.Forms.{if_small}
-use Rattle.linear_form.specs.Results.{sum_of, multiple_of}
-use Rattle.linear_form.specs.Upper.{coef_at}
-use Rattle.linear_form.specs.Values.{worth, worths, HasValue}
+use Rattle.diff_bounds.specs.declared.form.Lin.{Lin}
+use Rattle.diff_bounds.specs.Forms.{if_small}
+use Rattle.diff_bounds.specs.Results.{sum_of, multiple_of}
+use Rattle.diff_bounds.specs.Upper.{coef_at}
+use Rattle.diff_bounds.specs.Values.{worth, worths, HasValue}
 use Rattle.sum_ranges.specs.declared.ranged.Ranged.{Ranged}
 use Rattle.sum_ranges.specs.Ranged.{decimal, point, IsIn}
 use Rattle.sum_ranges.proofs.Least.{point_in}

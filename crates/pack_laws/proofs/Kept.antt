@@ -3,19 +3,19 @@ use Rattle.std.proofs.Common.{◌≡◌, ℕ, ◌+◌, ◌<◌, ◌≤◌, Bool,
 use Rattle.std.specs.Prelude.{nat_eq, ◌||◌, if◌then◌else◌}
 use Rattle.std.specs.Int.{int_min}
 use Rattle.std.proofs.lemmas.Bool.{eq-eqb, ne_eqb}
-use Rattle.decimal_interval.proofs.Ends.{min_is_one}
-use Rattle.linear_form.specs.declared.form.Lin.{Lin}
+use Rattle.interval_domain.proofs.IntervalEnds.{min_is_one}
+use Rattle.diff_bounds.specs.declared.form.Lin.{Lin}
 use Rattle.diff_bounds.specs.Matrix.{word, none, IsBound}
 use Rattle.diff_bounds.specs.Storages.{value_at, DifferBy, StandsIn}
-use Rattle.linear_form.specs.Numbers.{word_of}
-use Rattle.linear_form.specs.Upper.{coef_at}
-use Rattle.linear_form.specs.Values.{IsOver}
-use Rattle.linear_form.specs.Assigned.{upper_less, less_upper, AreAssigned, with_value, IsValue}
-use Rattle.linear_form.specs.Demanded.{lowered, AreDemanded, IsMet}
-use Rattle.linear_form.specs.Forgotten.{AreForgotten, AgreeBut}
-use Rattle.linear_form.proofs.Assigned.{stands_assigned}
-use Rattle.linear_form.proofs.Demanded.{stands_demanded}
-use Rattle.linear_form.proofs.Forgotten.{stands_forgotten}
+use Rattle.diff_bounds.specs.Numbers.{word_of}
+use Rattle.diff_bounds.specs.Upper.{coef_at}
+use Rattle.diff_bounds.specs.Values.{IsOver}
+use Rattle.diff_bounds.specs.Assigned.{upper_less, less_upper, AreAssigned, with_value, IsValue}
+use Rattle.diff_bounds.specs.Demanded.{lowered, AreDemanded, IsMet}
+use Rattle.diff_bounds.specs.Forgotten.{AreForgotten, AgreeBut}
+use Rattle.diff_bounds.proofs.Assigned.{stands_assigned}
+use Rattle.diff_bounds.proofs.Demanded.{stands_demanded}
+use Rattle.diff_bounds.proofs.Forgotten.{stands_forgotten}
 use Rattle.diff_steps.specs.Matrices.{forgotten, assigned, demanded, lesser}
 use Rattle.pack_laws.proofs.Words.{word_at}
 

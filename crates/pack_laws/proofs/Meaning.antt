@@ -4,9 +4,9 @@ use Rattle.cob_tree.specs.declared.fault.Kind.{Kind}
 use Rattle.cob_program.specs.Act.{Program}
 use Rattle.cob_graph.specs.declared.graph.Graph.{Graph}
 use Rattle.dom_laws.specs.Meaning.{Storage}
-use Rattle.cell_rows.specs.Known.{Known}
-use Rattle.cell_rows.specs.Elements.{Element}
-use Rattle.cell_rows.specs.Rows.{element_of}
+use Rattle.interval_domain.specs.Known.{Known}
+use Rattle.interval_domain.specs.Elements.{Element}
+use Rattle.interval_domain.specs.Rows.{element_of}
 use Rattle.graph_runs.specs.Places.{edge_at, DoesAt}
 use Rattle.graph_runs.specs.Doing.{Acts, MeetsAt}
 use Rattle.cell_steps.specs.Storages.{storage, StandsIn, ElementStands}

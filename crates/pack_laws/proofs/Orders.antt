@@ -6,20 +6,20 @@ use Rattle.std.proofs.lemmas.Bool.{false≢true}
 use Rattle.std.proofs.Math.IntN.{negsuc-*ℤ-pos}
 use Rattle.dec_num.specs.declared.types.Scaled.{Scaled}
 use Rattle.dec_num.proofs.Powers.{ten_positive, ten_monotone}
-use Rattle.decimal_interval.specs.Corners.{interval}
-use Rattle.decimal_interval.proofs.Ends.{times_grows}
+use Rattle.interval_domain.specs.Corners.{interval}
+use Rattle.interval_domain.proofs.IntervalEnds.{times_grows}
 use Rattle.cob_program.specs.Values.{negated, ◌>>=◌}
-use Rattle.linear_form.specs.declared.form.Lin.{Lin}
-use Rattle.linear_form.specs.Forms.{coef, dot}
-use Rattle.linear_form.specs.Results.{scaled_constant, sum_of, multiple_of}
-use Rattle.linear_form.proofs.Dots.{dot_of_multiples}
+use Rattle.diff_bounds.specs.declared.form.Lin.{Lin}
+use Rattle.diff_bounds.specs.Forms.{coef, dot}
+use Rattle.diff_bounds.specs.Results.{scaled_constant, sum_of, multiple_of}
+use Rattle.diff_bounds.proofs.Dots.{dot_of_multiples}
 use Rattle.diff_bounds.specs.Matrix.{word}
 use Rattle.diff_bounds.specs.Storages.{StandsIn}
-use Rattle.linear_form.specs.Values.{worths, IsOver}
-use Rattle.linear_form.specs.Demanded.{IsMet}
+use Rattle.diff_bounds.specs.Values.{worths, IsOver}
+use Rattle.diff_bounds.specs.Demanded.{IsMet}
 use Rattle.sum_ranges.specs.Ranged.{decimal}
-use Rattle.linear_form.specs.Scales.{Spans}
-use Rattle.linear_form.proofs.Scales.{times_cancel}
+use Rattle.diff_bounds.specs.Scales.{Spans}
+use Rattle.diff_bounds.proofs.Scales.{times_cancel}
 use Rattle.sum_forms.specs.Constants.{constant_form}
 use Rattle.sum_forms.specs.SumForms.{turned_form}
 use Rattle.sum_forms.proofs.Multiples.{spans_times}

@@ -16,8 +16,8 @@ use Rattle.cob_tree.specs.declared.fault.Kind.TheVariants as kind
 use Rattle.cob_tree.specs.declared.form.Form.{Form}
 use Rattle.cob_tree.specs.declared.form.Form.TheVariants as form
 use Rattle.cob_data.specs.declared.layout.Sender.{Sender}
-use Rattle.decimal_interval.specs.declared.bounds.Interval.{Interval}
-use Rattle.decimal_interval.specs.Bounds.{Holds}
+use Rattle.interval_domain.specs.declared.bounds.Interval.{Interval}
+use Rattle.interval_domain.specs.Bounds.{Holds}
 use Rattle.cob_program.specs.Sum.{Atom}
 use Rattle.cob_program.specs.Values.{whole_number, ◌>>=◌}
 use Rattle.cob_program.specs.Act.{Act, Program}
@@ -28,17 +28,17 @@ use Rattle.cob_runs.specs.Moves.{number_of}
 use Rattle.cob_edge_parts.specs.Parts.{Amount, Part, read, unread, divide, store, bytes_in, guard, read_count, set_count, count_down, guard_count, parts_of, has_phrase}
 use Rattle.cob_edge_parts.specs.Meaning.{Moment, divides_by, stored_bytes, amount, Faults}
 use Rattle.cob_edge_parts.specs.Edges.{fault_edge}
-use Rattle.linear_form.specs.declared.form.Lin.{Lin}
+use Rattle.diff_bounds.specs.declared.form.Lin.{Lin}
 use Rattle.sum_forms.specs.SumForms.{atom_form}
-use Rattle.result_ranges.specs.declared.amounts.Taken.{Taken}
-use Rattle.result_ranges.specs.declared.amounts.AmountRange.{AmountRange}
-use Rattle.result_ranges.specs.Receivers.{receiver_of, counter}
-use Rattle.result_ranges.specs.Amounts.{IsAmount}
-use Rattle.result_ranges.specs.ResultRanges.{amount_units, most, lowered}
-use Rattle.result_ranges.proofs.Fitting.{units_hold}
+use Rattle.transfer_ranges.specs.declared.amounts.Taken.{Taken}
+use Rattle.transfer_ranges.specs.declared.amounts.AmountRange.{AmountRange}
+use Rattle.transfer_ranges.specs.Receivers.{receiver_of, counter}
+use Rattle.transfer_ranges.specs.Amounts.{IsAmount}
+use Rattle.transfer_ranges.specs.ResultRanges.{amount_units, most, lowered}
+use Rattle.transfer_ranges.proofs.Fitting.{units_hold}
 use Rattle.graph_runs.specs.Counters.{IsCount, IsTooGreat}
 use Rattle.cell_laws.specs.Places.{IsStored}
-use Rattle.cell_rows.specs.Known.{Known}
+use Rattle.interval_domain.specs.Known.{Known}
 use Rattle.cell_steps.specs.Homes.{Home, of_count, is_home, homes_of, picture_range}
 use Rattle.cell_steps.specs.Storages.{storage, known_of}
 use Rattle.cell_steps.specs.Cells.{known_or, units_of}

@@ -8,30 +8,30 @@ use Rattle.dec_num.specs.Exact.{near}
 use Rattle.dec_num.specs.Scaled.{value_of}
 use Rattle.dec_num.proofs.Powers.{ten_positive}
 use Rattle.dec_num.proofs.Signed.{neg_ℤ_times}
-use Rattle.decimal_interval.specs.declared.bounds.Interval.{Interval}
-use Rattle.decimal_interval.specs.Bounds.{Holds}
-use Rattle.decimal_interval.proofs.Quotients.{near_le}
+use Rattle.interval_domain.specs.declared.bounds.Interval.{Interval}
+use Rattle.interval_domain.specs.Bounds.{Holds}
+use Rattle.interval_domain.proofs.Quotients.{near_le}
 use Rattle.cob_data.specs.declared.layout.Layout.{Layout}
 use Rattle.cob_program.specs.Values.{◌>>=◌}
 use Rattle.cob_program.specs.Act.{Program}
 use Rattle.dom_laws.specs.Meaning.{Storage}
-use Rattle.linear_form.specs.declared.form.Lin.{Lin}
-use Rattle.linear_form.specs.Forms.{coef, dot}
-use Rattle.linear_form.specs.Results.{multiple_of}
-use Rattle.linear_form.proofs.Dots.{dot_of_multiples}
+use Rattle.diff_bounds.specs.declared.form.Lin.{Lin}
+use Rattle.diff_bounds.specs.Forms.{coef, dot}
+use Rattle.diff_bounds.specs.Results.{multiple_of}
+use Rattle.diff_bounds.proofs.Dots.{dot_of_multiples}
 use Rattle.diff_bounds.specs.Matrix.{word}
 use Rattle.diff_bounds.specs.Storages.{StandsIn}
-use Rattle.linear_form.specs.Numbers.{IsAbove}
-use Rattle.linear_form.specs.Upper.{coef_at, upper_of}
-use Rattle.linear_form.specs.Values.{worths, total, IsOver}
-use Rattle.linear_form.proofs.Forms.{total_of_form}
-use Rattle.linear_form.proofs.Sound.{upper_above}
-use Rattle.linear_form.proofs.Scales.{times_monotone}
+use Rattle.diff_bounds.specs.Numbers.{IsAbove}
+use Rattle.diff_bounds.specs.Upper.{coef_at, upper_of}
+use Rattle.diff_bounds.specs.Values.{worths, total, IsOver}
+use Rattle.diff_bounds.proofs.Forms.{total_of_form}
+use Rattle.diff_bounds.proofs.Sound.{upper_above}
+use Rattle.diff_bounds.proofs.Scales.{times_monotone}
 use Rattle.sum_ranges.specs.Ranged.{decimal}
 use Rattle.sum_forms.specs.SumForms.{turned_form}
 use Rattle.sum_forms.proofs.Shows.{if_there}
-use Rattle.result_ranges.specs.declared.amounts.Receiver.{Receiver}
-use Rattle.result_ranges.specs.ResultRanges.{most}
+use Rattle.transfer_ranges.specs.declared.amounts.Receiver.{Receiver}
+use Rattle.transfer_ranges.specs.ResultRanges.{most}
 use Rattle.cell_laws.proofs.OperandsRise.{or_either}
 use Rattle.cell_laws.proofs.PartsDone.{both_true}
 use Rattle.diff_steps.specs.Packs.{Pack, size_of, pack_decimals, cells_in, PackStands, PacksStand}

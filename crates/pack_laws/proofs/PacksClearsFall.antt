@@ -6,7 +6,7 @@ use Rattle.std.proofs.lemmas.Int.{ints}
 use Rattle.std.proofs.lemmas.Bool.{and_parts, false≢true}
 use Rattle.dec_num.specs.declared.types.Mode.{Mode}
 use Rattle.dec_num.specs.declared.types.Mode.TheVariants.{Trunc}
-use Rattle.decimal_interval.specs.declared.bounds.Interval.{Interval}
+use Rattle.interval_domain.specs.declared.bounds.Interval.{Interval}
 use Rattle.cob_tree.specs.declared.fault.Kind.{Kind}
 use Rattle.cob_tree.specs.declared.fault.Kind.TheVariants as kind
 use Rattle.cob_data.specs.declared.layout.Sender.{Sender}
@@ -16,25 +16,25 @@ use Rattle.cob_program.specs.Act.{Act, Program}
 use Rattle.cob_runs.specs.declared.action.Action.{Action}
 use Rattle.cob_runs.specs.Contents.{form_at}
 use Rattle.cob_edge_parts.specs.Parts.{Amount, Part, read, unread, divide, store, bytes_in, guard, read_count, set_count, count_down, guard_count, has_phrase}
-use Rattle.linear_form.specs.declared.form.Lin.{Lin}
+use Rattle.diff_bounds.specs.declared.form.Lin.{Lin}
 use Rattle.diff_bounds.specs.Matrix.{word}
-use Rattle.linear_form.specs.Numbers.{IsUnder}
-use Rattle.linear_form.specs.Upper.{upper_of}
-use Rattle.linear_form.specs.Values.{AreLower}
+use Rattle.diff_bounds.specs.Numbers.{IsUnder}
+use Rattle.diff_bounds.specs.Upper.{upper_of}
+use Rattle.diff_bounds.specs.Values.{AreLower}
 use Rattle.sum_ranges.specs.declared.ranged.Ranged.{Ranged}
 use Rattle.sum_ranges.specs.SumRanges.{atom_range}
 use Rattle.sum_ranges.specs.Vanishing.{holds_zero}
 use Rattle.sum_forms.specs.SumForms.{atom_form}
 use Rattle.sum_forms.specs.Values.{IsNarrowerIfAny}
-use Rattle.result_ranges.specs.declared.amounts.Receiver.{Receiver}
-use Rattle.result_ranges.specs.declared.amounts.Taken.{Taken}
-use Rattle.result_ranges.specs.declared.amounts.AmountRange.{AmountRange}
-use Rattle.result_ranges.specs.Receivers.{receiver_of, counter}
-use Rattle.result_ranges.specs.Amounts.{IsNarrowerTaken, IsNarrowerTakenIfAny}
-use Rattle.result_ranges.specs.Results.{IsInside, IsInsideIfAny}
-use Rattle.result_ranges.specs.ResultRanges.{amount_units, most, lowered}
-use Rattle.result_ranges.proofs.Narrower.{units_inside}
-use Rattle.result_ranges.proofs.Rounding.{near_grows}
+use Rattle.transfer_ranges.specs.declared.amounts.Receiver.{Receiver}
+use Rattle.transfer_ranges.specs.declared.amounts.Taken.{Taken}
+use Rattle.transfer_ranges.specs.declared.amounts.AmountRange.{AmountRange}
+use Rattle.transfer_ranges.specs.Receivers.{receiver_of, counter}
+use Rattle.transfer_ranges.specs.Amounts.{IsNarrowerTaken, IsNarrowerTakenIfAny}
+use Rattle.transfer_ranges.specs.Results.{IsInside, IsInsideIfAny}
+use Rattle.transfer_ranges.specs.ResultRanges.{amount_units, most, lowered}
+use Rattle.transfer_ranges.proofs.Narrower.{units_inside}
+use Rattle.transfer_ranges.proofs.Rounding.{near_grows}
 use Rattle.cell_steps.specs.Homes.{of_count, homes_of}
 use Rattle.cell_steps.specs.Cells.{units_of}
 use Rattle.cell_steps.specs.Operands.{amount_of}

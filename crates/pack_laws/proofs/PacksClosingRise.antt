@@ -10,8 +10,8 @@ use Rattle.diff_bounds.specs.Paths.{cut_of}
 use Rattle.diff_bounds.specs.Sums.{no_path}
 use Rattle.diff_bounds.proofs.Steps.{cut_is_word}
 use Rattle.diff_bounds.specs.Closed.{opened, lesser, through, is_tame, if_tame, sums_further, sums_through, cut_sums, closed}
-use Rattle.linear_form.specs.Values.{AreLower}
-use Rattle.linear_form.proofs.Numbers.{cut_monotone, lt_true}
+use Rattle.diff_bounds.specs.Values.{AreLower}
+use Rattle.diff_bounds.proofs.Numbers.{cut_monotone, lt_true}
 use Rattle.diff_steps.specs.Matrices.{with_words}
 use Rattle.pack_laws.proofs.Words.{word_at}
 

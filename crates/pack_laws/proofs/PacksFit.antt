@@ -10,10 +10,10 @@ use Rattle.cob_program.specs.Act.{Act, Program}
 use Rattle.cob_runs.specs.declared.action.Action.{Action}
 use Rattle.cob_runs.specs.Contents.{form_at}
 use Rattle.cob_edge_parts.specs.Parts.{Amount, Part, read, unread, divide, store, bytes_in, guard, read_count, set_count, count_down, guard_count, parts_of}
-use Rattle.linear_form.specs.declared.form.Lin.{Lin}
+use Rattle.diff_bounds.specs.declared.form.Lin.{Lin}
 use Rattle.diff_bounds.specs.Matrix.{largest, IsWord, IsMatrix}
-use Rattle.result_ranges.specs.Receivers.{receiver_of}
-use Rattle.cell_rows.specs.Known.{Known}
+use Rattle.transfer_ranges.specs.Receivers.{receiver_of}
+use Rattle.interval_domain.specs.Known.{Known}
 use Rattle.cell_steps.specs.Homes.{of_item}
 use Rattle.cell_steps.specs.Seen.{Seen, beginning}
 use Rattle.cell_steps.specs.Stores.{handled, with_taken, amount_at, may_fail, may_fit}

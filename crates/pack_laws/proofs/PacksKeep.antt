@@ -23,11 +23,11 @@ use Rattle.cob_edge_parts.specs.Ranges.{ChangesWithin}
 use Rattle.cob_program.specs.Sum.{Atom}
 use Rattle.dom_laws.specs.Meaning.{Storage}
 use Rattle.dom_laws.specs.Walking.{IsSeen}
-use Rattle.linear_form.specs.declared.form.Lin.{Lin}
+use Rattle.diff_bounds.specs.declared.form.Lin.{Lin}
 use Rattle.diff_bounds.specs.Matrix.{word}
 use Rattle.graph_runs.specs.Counters.{PassesPart, PassesParts}
 use Rattle.diff_bounds.specs.Closed.{closed}
-use Rattle.cell_rows.specs.Known.{Known}
+use Rattle.interval_domain.specs.Known.{Known}
 use Rattle.cell_steps.specs.Homes.{Home, of_item, of_count, homes_of}
 use Rattle.cell_steps.specs.Storages.{storage, known_of, value_at, KnownStands}
 use Rattle.cell_steps.specs.Cells.{share_bytes, is_in_bytes, is_beside}

@@ -19,7 +19,7 @@ use Rattle.cob_runs.specs.Contents.{item_at, form_at}
 use Rattle.dom_laws.specs.Meaning.{Storage}
 use Rattle.diff_bounds.specs.Matrix.{word}
 use Rattle.diff_bounds.specs.Storages.{value_at, DifferBy, StandsIn}
-use Rattle.linear_form.specs.Assigned.{with_value}
+use Rattle.diff_bounds.specs.Assigned.{with_value}
 use Rattle.cell_steps.specs.Homes.{Home, of_item, of_count, is_home, home_of, if_named, item_homes, act_homes, count_homes, homes_of}
 use Rattle.cell_steps.specs.Storages as cells
 use Rattle.cell_laws.proofs.CellLists.{home_is}

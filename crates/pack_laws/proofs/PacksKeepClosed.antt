@@ -4,7 +4,7 @@ use Rattle.std.specs.Prelude.{IsSomeAnd, int_lt, int_le, if◌then◌else◌}
 use Rattle.std.specs.Int.{int_min}
 use Rattle.std.proofs.lemmas.Int.{ints}
 use Rattle.std.proofs.lemmas.Bool.{cases_eq}
-use Rattle.decimal_interval.proofs.Ends.{min_is_one}
+use Rattle.interval_domain.proofs.IntervalEnds.{min_is_one}
 use Rattle.diff_bounds.specs.Matrix.{word, none, largest, IsBound}
 use Rattle.diff_bounds.specs.Paths.{cut_of}
 use Rattle.diff_bounds.specs.Sums.{no_path, IsSum}
@@ -15,7 +15,7 @@ use Rattle.diff_bounds.specs.Closed.{opened, lesser, through, is_tame, sums_furt
 use Rattle.diff_steps.specs.Matrices.{with_words}
 use Rattle.pack_laws.proofs.Words.{word_at}
 use Rattle.pack_laws.proofs.PacksPutRise.{IsFlat}
-use Rattle.linear_form.proofs.Numbers.{cut_above}
+use Rattle.diff_bounds.proofs.Numbers.{cut_above}
 
 differ_sum : (c d : ℤ) (x y z : Option ℤ) → DifferBy c x y → DifferBy d y z → DifferBy (c +ℤ d) x z
 differ_sum c d (Some x) (Some y) (Some z) h k = omega (arith, ints, h, k)

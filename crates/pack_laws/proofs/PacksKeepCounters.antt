@@ -11,13 +11,13 @@ use Rattle.dec_num.specs.Scaled.{value_of}
 use Rattle.cob_program.specs.Act.{Act, Program}
 use Rattle.cob_runs.specs.declared.action.Action.{Action}
 use Rattle.cob_edge_parts.specs.Meaning.{Moment}
-use Rattle.linear_form.specs.declared.form.Lin.{Lin}
-use Rattle.linear_form.specs.Forms.{coef, dot}
+use Rattle.diff_bounds.specs.declared.form.Lin.{Lin}
+use Rattle.diff_bounds.specs.Forms.{coef, dot}
 use Rattle.diff_bounds.specs.Matrix.{word}
 use Rattle.diff_bounds.specs.Storages.{StandsIn}
-use Rattle.linear_form.specs.Values.{worths}
-use Rattle.linear_form.specs.Assigned.{with_value, IsValue}
-use Rattle.cell_rows.specs.Known.{Known}
+use Rattle.diff_bounds.specs.Values.{worths}
+use Rattle.diff_bounds.specs.Assigned.{with_value, IsValue}
+use Rattle.interval_domain.specs.Known.{Known}
 use Rattle.cell_steps.specs.Homes.{Home, of_item, of_count, is_home}
 use Rattle.cell_steps.specs.Storages as values
 use Rattle.cell_steps.specs.Storages.{storage}

@@ -9,25 +9,25 @@ use Rattle.dec_num.specs.Exact.{Fraction, near}
 use Rattle.dec_num.specs.Scaled.{value_of}
 use Rattle.cob_tree.specs.declared.form.Form.{Form}
 use Rattle.cob_tree.specs.declared.form.Form.TheVariants as form
-use Rattle.decimal_interval.specs.Bounds.{Holds}
+use Rattle.interval_domain.specs.Bounds.{Holds}
 use Rattle.cob_program.specs.Act.{Act, Program}
 use Rattle.cob_runs.specs.declared.action.Action.{Action}
 use Rattle.cob_runs.specs.Contents.{form_at, bytes_of, digits_of, scale_of, scaled_by, number_at, filled_at, if_held, stored as stored_units}
 use Rattle.cob_runs.specs.Moves.{takes_number}
 use Rattle.cob_edge_parts.specs.Parts.{Amount, Part}
 use Rattle.cob_edge_parts.specs.Meaning.{Moment, with_storage, is_left_alone, stored_bytes, stored_or_kept, amount, Stores}
-use Rattle.linear_form.specs.declared.form.Lin.{Lin}
-use Rattle.linear_form.specs.Forms.{coef, dot}
+use Rattle.diff_bounds.specs.declared.form.Lin.{Lin}
+use Rattle.diff_bounds.specs.Forms.{coef, dot}
 use Rattle.diff_bounds.specs.Matrix.{word}
 use Rattle.diff_bounds.specs.Storages.{StandsIn}
-use Rattle.linear_form.specs.Values.{worths}
-use Rattle.linear_form.specs.Assigned.{with_value}
-use Rattle.linear_form.specs.Errors.{AreSure}
-use Rattle.linear_form.specs.Scales.{Spans}
-use Rattle.result_ranges.specs.declared.amounts.AmountRange.{AmountRange}
-use Rattle.result_ranges.specs.declared.amounts.AmountRange.TheVariants as range
-use Rattle.result_ranges.specs.Receivers.{receiver_of, kept_units}
-use Rattle.result_ranges.specs.Amounts.{IsAmount}
+use Rattle.diff_bounds.specs.Values.{worths}
+use Rattle.diff_bounds.specs.Assigned.{with_value}
+use Rattle.diff_bounds.specs.Errors.{AreSure}
+use Rattle.diff_bounds.specs.Scales.{Spans}
+use Rattle.transfer_ranges.specs.declared.amounts.AmountRange.{AmountRange}
+use Rattle.transfer_ranges.specs.declared.amounts.AmountRange.TheVariants as range
+use Rattle.transfer_ranges.specs.Receivers.{receiver_of, kept_units}
+use Rattle.transfer_ranges.specs.Amounts.{IsAmount}
 use Rattle.cell_laws.specs.Places.{IsStored}
 use Rattle.cell_steps.specs.Homes.{Home, of_item, is_home}
 use Rattle.cell_steps.specs.Storages as values

@@ -4,14 +4,14 @@ use Rattle.std.specs.Prelude.{IfSome, slice_get}
 use Rattle.std.specs.Int.{int_min}
 use Rattle.std.proofs.lemmas.Int.{ints, clamps}
 use Rattle.std.proofs.lemmas.Bool.{cases_eq}
-use Rattle.decimal_interval.proofs.Ends.{times_grows}
+use Rattle.interval_domain.proofs.IntervalEnds.{times_grows}
 use Rattle.cob_data.specs.declared.layout.Layout.{Layout}
 use Rattle.cob_program.specs.Values.{◌>>=◌}
 use Rattle.cob_program.specs.Act.{Program}
 use Rattle.diff_bounds.specs.Matrix.{word, IsMatrix}
-use Rattle.linear_form.specs.Values.{AreLower}
-use Rattle.cell_rows.specs.Known.{Known, KnownBelow}
-use Rattle.cell_rows.specs.Elements.{CellsBelow}
+use Rattle.diff_bounds.specs.Values.{AreLower}
+use Rattle.interval_domain.specs.Known.{Known, KnownBelow}
+use Rattle.interval_domain.specs.Elements.{CellsBelow}
 use Rattle.cell_steps.specs.Homes.{Home, homes_of}
 use Rattle.cell_steps.specs.Storages.{known_of}
 use Rattle.diff_steps.specs.Packs.{Pack, size_of, unit_of}

@@ -10,21 +10,21 @@ use Rattle.cob_runs.specs.declared.action.Action.{Action}
 use Rattle.cob_runs.specs.Contents.{form_at}
 use Rattle.cob_runs.specs.Computing.{items_in}
 use Rattle.cob_edge_parts.specs.Parts.{Amount, moved, computed, remaining, augmented}
-use Rattle.linear_form.specs.declared.form.Lin.{Lin}
-use Rattle.linear_form.specs.Results.{IsNarrower}
+use Rattle.diff_bounds.specs.declared.form.Lin.{Lin}
+use Rattle.diff_bounds.specs.Results.{IsNarrower}
 use Rattle.diff_bounds.specs.Matrix.{word, none, IsMatrix}
-use Rattle.linear_form.specs.Values.{AreLower}
-use Rattle.linear_form.specs.Errors.{IsSurer}
+use Rattle.diff_bounds.specs.Values.{AreLower}
+use Rattle.diff_bounds.specs.Errors.{IsSurer}
 use Rattle.sum_ranges.specs.declared.ranged.Ranged.{Ranged}
 use Rattle.sum_ranges.specs.Ranged as range
 use Rattle.sum_ranges.specs.SumRanges.{sum_range}
 use Rattle.sum_ranges.proofs.Narrow.{sum_below}
 use Rattle.sum_forms.specs.Values.{IsNarrowerIfAny}
-use Rattle.result_ranges.specs.declared.amounts.AmountRange.{AmountRange}
-use Rattle.result_ranges.specs.declared.amounts.Taken.{Taken}
-use Rattle.result_ranges.specs.Amounts.{IsNarrowerTakenIfAny}
-use Rattle.result_ranges.specs.Receivers.{receiver_of}
-use Rattle.result_ranges.specs.ResultRanges as result
+use Rattle.transfer_ranges.specs.declared.amounts.AmountRange.{AmountRange}
+use Rattle.transfer_ranges.specs.declared.amounts.Taken.{Taken}
+use Rattle.transfer_ranges.specs.Amounts.{IsNarrowerTakenIfAny}
+use Rattle.transfer_ranges.specs.Receivers.{receiver_of}
+use Rattle.transfer_ranges.specs.ResultRanges as result
 use Rattle.cell_steps.specs.Homes.{Home, of_item, of_count, is_home, homes_of}
 use Rattle.cell_steps.specs.Cells.{is_beside}
 use Rattle.cell_steps.specs.Operands.{amount_of}

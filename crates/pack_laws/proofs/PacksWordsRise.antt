@@ -5,20 +5,20 @@ use Rattle.std.specs.Option.{option_map}
 use Rattle.std.specs.Int.{int_min}
 use Rattle.std.proofs.lemmas.Int.{ints, clamps}
 use Rattle.std.proofs.lemmas.Bool.{eq-eqb, ne_eqb, false≢true}
-use Rattle.decimal_interval.specs.Corners.{interval}
+use Rattle.interval_domain.specs.Corners.{interval}
 use Rattle.cob_program.specs.Values.{◌>>=◌}
-use Rattle.linear_form.specs.declared.form.Lin.{Lin}
-use Rattle.linear_form.specs.Forms.{is_small}
+use Rattle.diff_bounds.specs.declared.form.Lin.{Lin}
+use Rattle.diff_bounds.specs.Forms.{is_small}
 use Rattle.diff_bounds.specs.Matrix.{word, none, largest, IsWord, IsMatrix}
 use Rattle.diff_bounds.proofs.Ends.{words_of}
-use Rattle.linear_form.specs.Numbers.{word_of}
-use Rattle.linear_form.specs.Upper.{upper, coef_at}
-use Rattle.linear_form.specs.Values.{AreLower}
-use Rattle.linear_form.proofs.Bounded.{upper_is_word}
-use Rattle.linear_form.specs.Assigned.{less_place, negated, upper_less, less_upper}
-use Rattle.linear_form.specs.Demanded.{if_opposite, factor, demanded_by, lowered, AreDemanded}
-use Rattle.linear_form.proofs.Demanded.{demanded_lower}
-use Rattle.linear_form.proofs.Matrices.{none_is_word}
+use Rattle.diff_bounds.specs.Numbers.{word_of}
+use Rattle.diff_bounds.specs.Upper.{upper, coef_at}
+use Rattle.diff_bounds.specs.Values.{AreLower}
+use Rattle.diff_bounds.proofs.Bounded.{upper_is_word}
+use Rattle.diff_bounds.specs.Assigned.{less_place, negated, upper_less, less_upper}
+use Rattle.diff_bounds.specs.Demanded.{if_opposite, factor, demanded_by, lowered, AreDemanded}
+use Rattle.diff_bounds.proofs.Demanded.{demanded_lower}
+use Rattle.diff_bounds.proofs.Matrices.{none_is_word}
 use Rattle.sum_forms.specs.Constants.{constant_form}
 use Rattle.sum_forms.specs.SumForms.{turned_form}
 use Rattle.sum_forms.specs.Values.{IsNarrowerIfAny}
@@ -28,7 +28,7 @@ use Rattle.diff_steps.specs.Packs.{cell_of}
 use Rattle.diff_steps.specs.Matrices.{with_words, bottom, lesser, forgotten, assigned, demanded}
 use Rattle.diff_steps.specs.Stores.{assigned_or_forgotten, absolute_stored, value_stored, forgotten_cells}
 use Rattle.diff_steps.specs.Guards.{demanded_if, at_most, ordered}
-use Rattle.linear_form.specs.declared.known.Known as sure
+use Rattle.diff_bounds.specs.declared.known.Known as sure
 use Rattle.pack_laws.specs.Orders.{AreLowerOff}
 use Rattle.pack_laws.proofs.Words.{word_at, lesser_word, min_left, min_both}
 use Rattle.pack_laws.proofs.PacksClosingRise.{order_along}

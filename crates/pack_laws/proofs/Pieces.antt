@@ -10,7 +10,7 @@ use Rattle.diff_bounds.specs.Order.{IsAtMost}
 use Rattle.diff_bounds.specs.Lattice.{matrices}
 use Rattle.diff_bounds.proofs.MatrixLattice.{by_places}
 use Rattle.diff_bounds.proofs.Monotone.{stands_higher}
-use Rattle.linear_form.proofs.Forms.{lower_words}
+use Rattle.diff_bounds.proofs.Forms.{lower_words}
 use Rattle.diff_steps.specs.Packs.{Pack, size_of, cells_in, PacksStand}
 use Rattle.pack_laws.specs.Orders.{AreLowerOff}
 use Rattle.diff_bounds.specs.PackRows.{words_of, matrices_in, row_of, matrices_beside}

@@ -6,19 +6,19 @@ use Rattle.std.proofs.lemmas.Bool.{cases_eq, false≢true}
 use Rattle.dec_num.specs.declared.types.Mode.{Mode}
 use Rattle.dec_num.specs.declared.types.Mode.TheVariants.{Trunc, Round}
 use Rattle.cob_program.specs.Values.{◌>>=◌}
-use Rattle.linear_form.specs.declared.form.Lin.{Lin}
-use Rattle.linear_form.specs.Forms.{is_small}
-use Rattle.linear_form.specs.Results.{IsNarrower}
+use Rattle.diff_bounds.specs.declared.form.Lin.{Lin}
+use Rattle.diff_bounds.specs.Forms.{is_small}
+use Rattle.diff_bounds.specs.Results.{IsNarrower}
 use Rattle.diff_bounds.specs.Matrix.{word, none, IsWord}
-use Rattle.linear_form.specs.Numbers.{word_of}
-use Rattle.linear_form.specs.Upper.{upper, coef_at}
-use Rattle.linear_form.specs.Values.{AreLower}
-use Rattle.linear_form.proofs.Bounded.{upper_is_word}
-use Rattle.linear_form.specs.Assigned.{less_place, negated}
-use Rattle.linear_form.proofs.Assigned.{assigned_lower}
-use Rattle.linear_form.specs.declared.known.Known as sure
-use Rattle.linear_form.specs.Errors.{one_sided, error_in, IsSurer}
-use Rattle.linear_form.proofs.Surer.{surer_inside}
+use Rattle.diff_bounds.specs.Numbers.{word_of}
+use Rattle.diff_bounds.specs.Upper.{upper, coef_at}
+use Rattle.diff_bounds.specs.Values.{AreLower}
+use Rattle.diff_bounds.proofs.Bounded.{upper_is_word}
+use Rattle.diff_bounds.specs.Assigned.{less_place, negated}
+use Rattle.diff_bounds.proofs.Assigned.{assigned_lower}
+use Rattle.diff_bounds.specs.declared.known.Known as sure
+use Rattle.diff_bounds.specs.Errors.{one_sided, error_in, IsSurer}
+use Rattle.diff_bounds.proofs.Surer.{surer_inside}
 use Rattle.sum_forms.specs.Constants.{constant_form}
 use Rattle.sum_forms.specs.SumForms.{turned_form}
 use Rattle.sum_forms.specs.Values.{IsNarrowerIfAny}

@@ -6,22 +6,22 @@ use Rattle.std.proofs.lemmas.Bool.{or_cases, leb-true}
 use Rattle.dec_num.specs.declared.types.Scaled.{Scaled}
 use Rattle.dec_num.proofs.Powers.{ten_positive}
 use Rattle.cob_program.specs.Values.{◌>>=◌}
-use Rattle.linear_form.specs.declared.form.Lin.{Lin}
-use Rattle.linear_form.specs.Forms.{coef, dot}
-use Rattle.linear_form.specs.Results.{scaled_coefs, multiple_of}
-use Rattle.linear_form.proofs.Coefs.{coef-coefs_of}
-use Rattle.linear_form.proofs.Dots.{dot_of_multiples}
+use Rattle.diff_bounds.specs.declared.form.Lin.{Lin}
+use Rattle.diff_bounds.specs.Forms.{coef, dot}
+use Rattle.diff_bounds.specs.Results.{scaled_coefs, multiple_of}
+use Rattle.diff_bounds.proofs.Coefs.{coef-coefs_of}
+use Rattle.diff_bounds.proofs.Dots.{dot_of_multiples}
 use Rattle.diff_bounds.specs.Matrix.{word}
 use Rattle.diff_bounds.specs.Storages.{StandsIn}
-use Rattle.linear_form.specs.Numbers.{IsAbove}
-use Rattle.linear_form.specs.Upper.{upper_of}
-use Rattle.linear_form.specs.Values.{worths, values_in, IsOver}
-use Rattle.linear_form.proofs.Forms.{form_above}
+use Rattle.diff_bounds.specs.Numbers.{IsAbove}
+use Rattle.diff_bounds.specs.Upper.{upper_of}
+use Rattle.diff_bounds.specs.Values.{worths, values_in, IsOver}
+use Rattle.diff_bounds.proofs.Forms.{form_above}
 use Rattle.sum_ranges.specs.declared.ranged.Ranged.{Ranged}
 use Rattle.sum_ranges.specs.Ranged.{IsIn}
-use Rattle.linear_form.specs.Errors.{AreSure}
-use Rattle.linear_form.specs.Scales.{Spans}
-use Rattle.linear_form.proofs.Scales.{times_cancel}
+use Rattle.diff_bounds.specs.Errors.{AreSure}
+use Rattle.diff_bounds.specs.Scales.{Spans}
+use Rattle.diff_bounds.proofs.Scales.{times_cancel}
 use Rattle.sum_forms.specs.SumForms.{turned_form}
 use Rattle.sum_forms.proofs.Shows.{if_there}
 use Rattle.diff_steps.specs.Stores.{is_low, upper_negated, known_of_range}

@@ -2,22 +2,22 @@
 use Rattle.std.proofs.Common.{◌≡◌, ℕ, ◌+◌, true, false, List, ℤ, pos, ◌≤ℤ◌, Option, Some, None, sym, subst, arith}
 use Rattle.std.specs.Prelude.{nat_le, int_le}
 use Rattle.cob_program.specs.Values.{◌>>=◌}
-use Rattle.linear_form.specs.declared.form.Lin.{Lin}
-use Rattle.linear_form.specs.Results.{IsNarrower}
+use Rattle.diff_bounds.specs.declared.form.Lin.{Lin}
+use Rattle.diff_bounds.specs.Results.{IsNarrower}
 use Rattle.diff_bounds.specs.Matrix.{word}
-use Rattle.linear_form.specs.Numbers.{IsUnder}
-use Rattle.linear_form.specs.Upper.{upper, coef_at, upper_of}
-use Rattle.linear_form.specs.Values.{AreLower}
-use Rattle.linear_form.proofs.Mono.{upper_under}
-use Rattle.linear_form.specs.Errors.{IsSurer}
+use Rattle.diff_bounds.specs.Numbers.{IsUnder}
+use Rattle.diff_bounds.specs.Upper.{upper, coef_at, upper_of}
+use Rattle.diff_bounds.specs.Values.{AreLower}
+use Rattle.diff_bounds.proofs.Mono.{upper_under}
+use Rattle.diff_bounds.specs.Errors.{IsSurer}
 use Rattle.sum_ranges.specs.declared.ranged.Ranged.{Ranged}
 use Rattle.sum_ranges.specs.Ranged as range
 use Rattle.sum_forms.specs.SumForms.{turned_form}
 use Rattle.sum_forms.specs.Values.{IsNarrowerIfAny}
 use Rattle.sum_forms.proofs.Narrower.{turns_narrower}
-use Rattle.result_ranges.specs.declared.amounts.AmountRange.{AmountRange}
-use Rattle.result_ranges.specs.declared.amounts.AmountRange.TheVariants as amount
-use Rattle.result_ranges.specs.Amounts.{IsNarrowerAmount}
+use Rattle.transfer_ranges.specs.declared.amounts.AmountRange.{AmountRange}
+use Rattle.transfer_ranges.specs.declared.amounts.AmountRange.TheVariants as amount
+use Rattle.transfer_ranges.specs.Amounts.{IsNarrowerAmount}
 use Rattle.cell_laws.proofs.OperandsRise.{or_rises}
 use Rattle.diff_steps.specs.Stores.{is_low, upper_negated, known_of_range, known_of_amount}
 

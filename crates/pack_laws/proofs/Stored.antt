@@ -9,27 +9,27 @@ use Rattle.dec_num.specs.Exact.{rounded, with_sign_of}
 use Rattle.dec_num.proofs.Near.{rounded_whole}
 use Rattle.dec_num.proofs.Powers.{ten_positive}
 use Rattle.dec_num.proofs.Signed.{neg_ℤ_times}
-use Rattle.decimal_interval.specs.declared.bounds.Interval.{Interval}
+use Rattle.interval_domain.specs.declared.bounds.Interval.{Interval}
 use Rattle.cob_program.specs.Values.{◌>>=◌}
-use Rattle.linear_form.specs.declared.form.Lin.{Lin}
-use Rattle.linear_form.specs.Forms.{coef, dot}
-use Rattle.linear_form.specs.Results.{added_coefs, scaled_coefs, sum_of, multiple_of}
-use Rattle.linear_form.proofs.Coefs.{coef-coefs_of}
-use Rattle.linear_form.proofs.Dots.{dot_of_multiples}
+use Rattle.diff_bounds.specs.declared.form.Lin.{Lin}
+use Rattle.diff_bounds.specs.Forms.{coef, dot}
+use Rattle.diff_bounds.specs.Results.{added_coefs, scaled_coefs, sum_of, multiple_of}
+use Rattle.diff_bounds.proofs.Coefs.{coef-coefs_of}
+use Rattle.diff_bounds.proofs.Dots.{dot_of_multiples}
 use Rattle.diff_bounds.specs.Matrix.{word}
 use Rattle.diff_bounds.specs.Storages.{StandsIn}
-use Rattle.linear_form.specs.Values.{worths, IsOver}
-use Rattle.linear_form.specs.Assigned.{with_value, AreOperands, IsValue}
-use Rattle.linear_form.specs.declared.known.Known as sure
-use Rattle.linear_form.specs.Errors.{error_in, stored_units, AreSure}
-use Rattle.linear_form.specs.Scales.{Spans, IsBetween}
-use Rattle.linear_form.proofs.Rounds.{within}
-use Rattle.linear_form.proofs.Scales.{stored_between}
+use Rattle.diff_bounds.specs.Values.{worths, IsOver}
+use Rattle.diff_bounds.specs.Assigned.{with_value, AreOperands, IsValue}
+use Rattle.diff_bounds.specs.declared.known.Known as sure
+use Rattle.diff_bounds.specs.Errors.{error_in, stored_units, AreSure}
+use Rattle.diff_bounds.specs.Scales.{Spans, IsBetween}
+use Rattle.diff_bounds.proofs.Rounds.{within}
+use Rattle.diff_bounds.proofs.Scales.{stored_between}
 use Rattle.sum_forms.specs.Constants.{constant_form}
 use Rattle.sum_forms.specs.SumForms.{turned_form}
 use Rattle.sum_forms.proofs.Shows.{if_there}
 use Rattle.sum_forms.proofs.Sound.{if_then}
-use Rattle.result_ranges.specs.Receivers.{kept_units}
+use Rattle.transfer_ranges.specs.Receivers.{kept_units}
 use Rattle.diff_steps.specs.Matrices.{forgotten}
 use Rattle.diff_steps.specs.Stores.{widened_form, assigned_or_forgotten, absolute_stored, form_stored}
 use Rattle.pack_laws.proofs.Kept.{forgotten_stands, assigned_stands, lesser_stands}

@@ -8,8 +8,8 @@ use Rattle.cob_edge_parts.specs.Meaning as run
 use Rattle.cob_edge_parts.specs.Meaning.{Moment}
 use Rattle.cob_edge_parts.specs.Edges.{fault_edge}
 use Rattle.graph_runs.specs.Counters.{PassesParts, MeetsAmong}
-use Rattle.cell_rows.specs.Known.{Known}
-use Rattle.cell_rows.specs.Elements.{CellsFit, CellsBelow}
+use Rattle.interval_domain.specs.Known.{Known}
+use Rattle.interval_domain.specs.Elements.{CellsFit, CellsBelow}
 use Rattle.cell_steps.specs.Homes.{owns}
 use Rattle.cell_steps.specs.Storages.{storage, StandsIn}
 use Rattle.cell_steps.specs.Agreeing.{IsSoundEdge}

@@ -7,7 +7,7 @@ use Rattle.dom_laws.specs.Lattice.{IsElement}
 use Rattle.dom_laws.specs.Flow.{IsNode, IsEdge, IsFlow}
 use Rattle.dom_laws.specs.Meaning.{IsMeaning}
 use Rattle.graph_runs.specs.Sources.{IsSourceGraph}
-use Rattle.cell_rows.specs.Rows.{RowBelow, element_of}
+use Rattle.interval_domain.specs.Rows.{RowBelow, element_of}
 use Rattle.diff_bounds.specs.PackRows.{matrices_in}
 use Rattle.diff_steps.specs.Packs.{Pack}
 use Rattle.pack_laws.specs.Layer.{Facts, AreFacts, ArePacks, sizes_of, diff_lattice, clears_at2, diff_flow, diff_meaning}

@@ -14,9 +14,9 @@ use Rattle.dom_laws.specs.Meaning.{Meaning}
 use Rattle.graph_runs.specs.Places.{edge_at}
 use Rattle.graph_runs.specs.Flows.{flow_over}
 use Rattle.graph_runs.specs.Doing.{graph_runs}
-use Rattle.cell_rows.specs.Known.{Known}
-use Rattle.cell_rows.specs.Elements.{Element}
-use Rattle.cell_rows.specs.Rows.{element_of, IsRow}
+use Rattle.interval_domain.specs.Known.{Known}
+use Rattle.interval_domain.specs.Elements.{Element}
+use Rattle.interval_domain.specs.Rows.{element_of, IsRow}
 use Rattle.cell_steps.specs.Homes.{owns}
 use Rattle.cell_steps.specs.Storages.{ElementStands}
 use Rattle.cell_laws.specs.Entry.{entry_cells}

@@ -1,12 +1,12 @@
 -- What a form shows of a value, and the orders that a relation leaves.
 use Rattle.std.specs.Prelude.{◌≡◌, ◌≢◌, ℕ, suc, ◌+◌, ◌≤◌, Bool, true, List, ℤ, pos, ◌<ℤ◌, ◌≤ℤ◌, Option}
 use Rattle.dec_num.specs.declared.types.Scaled.{Scaled}
-use Rattle.linear_form.specs.declared.form.Lin.{Lin}
-use Rattle.linear_form.specs.Forms.{coef, dot}
+use Rattle.diff_bounds.specs.declared.form.Lin.{Lin}
+use Rattle.diff_bounds.specs.Forms.{coef, dot}
 use Rattle.diff_bounds.specs.Matrix.{word}
-use Rattle.linear_form.specs.Values.{worths, IsOver}
-use Rattle.linear_form.specs.Assigned.{AreOperands}
-use Rattle.linear_form.specs.Scales.{Spans}
+use Rattle.diff_bounds.specs.Values.{worths, IsOver}
+use Rattle.diff_bounds.specs.Assigned.{AreOperands}
+use Rattle.diff_bounds.specs.Scales.{Spans}
 
 -- the decimal is one of the numbers that a form over the pack's cells can be, in units of so many decimals
 pub record IsShown (size : ℕ) (cells : ℕ → Option ℤ) (form : Lin) (d : Scaled) (f : ℕ) : Type 0 where

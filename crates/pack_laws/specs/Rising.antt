@@ -5,18 +5,18 @@ use Rattle.cob_program.specs.Sum.{Sum, Atom}
 use Rattle.cob_program.specs.Act.{Act, Program}
 use Rattle.cob_runs.specs.declared.action.Action.{Action}
 use Rattle.cob_edge_parts.specs.Parts.{Amount}
-use Rattle.linear_form.specs.declared.form.Lin.{Lin}
-use Rattle.linear_form.specs.Results.{IsNarrower}
-use Rattle.linear_form.specs.Values.{AreLower}
+use Rattle.diff_bounds.specs.declared.form.Lin.{Lin}
+use Rattle.diff_bounds.specs.Results.{IsNarrower}
+use Rattle.diff_bounds.specs.Values.{AreLower}
 use Rattle.diff_bounds.specs.Matrix.{word}
-use Rattle.linear_form.specs.Errors.{IsSurer}
+use Rattle.diff_bounds.specs.Errors.{IsSurer}
 use Rattle.sum_ranges.specs.declared.ranged.Ranged.{Ranged}
 use Rattle.sum_ranges.specs.SumRanges.{sum_range, atom_range}
 use Rattle.sum_forms.specs.SumForms.{atom_form}
 use Rattle.sum_forms.specs.Values.{IsNarrowerIfAny}
-use Rattle.result_ranges.specs.declared.amounts.AmountRange.{AmountRange}
-use Rattle.result_ranges.specs.declared.amounts.Taken.{Taken}
-use Rattle.result_ranges.specs.Amounts.{IsNarrowerAmount}
+use Rattle.transfer_ranges.specs.declared.amounts.AmountRange.{AmountRange}
+use Rattle.transfer_ranges.specs.declared.amounts.Taken.{Taken}
+use Rattle.transfer_ranges.specs.Amounts.{IsNarrowerAmount}
 use Rattle.cell_steps.specs.Seen.{Seen}
 use Rattle.cell_steps.specs.Stores.{range_at, amount_at}
 use Rattle.cell_steps.specs.Order.{SeenBelow}

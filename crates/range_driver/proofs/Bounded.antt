@@ -5,8 +5,8 @@ use Rattle.std.proofs.lemmas.Int.{ints}
 use Rattle.std.proofs.lemmas.Bool.Decides.{nat_tests}
 use Rattle.std.proofs.lemmas.Bool.{cases_lt}
 use Rattle.std.proofs.Math.Nat.{min-le_left, pow-le-pow_right}
-use Rattle.decimal_interval.specs.declared.bounds.Interval.{Interval}
-use Rattle.decimal_interval.specs.Corners.{interval}
+use Rattle.interval_domain.specs.declared.bounds.Interval.{Interval}
+use Rattle.interval_domain.specs.Corners.{interval}
 use Rattle.cob_tree.specs.declared.token.Num.{Num}
 use Rattle.cob_program.specs.Bounds.{Bound, literal_bound}
 use Rattle.cob_program.proofs.Steps.{both}
@@ -14,8 +14,8 @@ use Rattle.cob_typed_exprs.specs.Sizes.{capped}
 use Rattle.sum_ranges.specs.Ranged.{ranged}
 use Rattle.sum_ranges.specs.Sizes.{IsRangeWithin}
 use Rattle.sum_ranges.specs.Working.{AreBounded}
-use Rattle.guard_ranges.specs.Small.{is_short}
-use Rattle.guard_ranges.proofs.Least.{test_le}
+use Rattle.transfer_ranges.specs.Small.{is_short}
+use Rattle.transfer_ranges.proofs.Least.{test_le}
 use Rattle.range_driver.specs.Known.{fits, range_within, known_range}
 
 at_most : (a b : ℕ) → nat_le a b ≡ true → a ≤ b

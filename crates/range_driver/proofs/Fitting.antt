@@ -8,9 +8,9 @@ use Rattle.sum_ranges.specs.declared.ranged.Ranged.{Ranged}
 use Rattle.sum_ranges.specs.SumRanges.{plus_range, product_range}
 use Rattle.sum_ranges.specs.Sizes.{IsSmallRange, IsRangeWithin}
 use Rattle.sum_ranges.specs.Working.{CanAddRanges, CanMultiplyRanges}
-use Rattle.result_ranges.specs.Sizes.{IsSmallRemainder}
-use Rattle.result_ranges.specs.Bounded.{cut_bound, is_small_rest_at}
-use Rattle.result_ranges.proofs.Bounding.{small_sum, small_product, small_remainder}
+use Rattle.transfer_ranges.specs.Sizes.{IsSmallRemainder}
+use Rattle.transfer_ranges.specs.Bounded.{cut_bound, is_small_rest_at}
+use Rattle.transfer_ranges.proofs.Bounding.{small_sum, small_product, small_remainder}
 
 -- there is a size where the bound is small
 pub sized : (small : Bool) (b : Bound) (s : Option Size) → option_map plain_size s ≡ bound_if small b → is_some s ≡ small

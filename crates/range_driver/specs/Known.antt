@@ -1,7 +1,7 @@
 -- What is known of the items of a case.
 use Rattle.std.specs.Prelude.{ℕ, ◌&&◌, nat_le, if◌then◌else◌, Bool, pos, unsigned_abs, int_le, List, slice_get, Option, Some, None}
-use Rattle.decimal_interval.specs.declared.bounds.Interval.{Interval}
-use Rattle.decimal_interval.specs.Corners.{interval}
+use Rattle.interval_domain.specs.declared.bounds.Interval.{Interval}
+use Rattle.interval_domain.specs.Corners.{interval}
 use Rattle.cob_program.specs.Bounds.{Bound}
 use Rattle.cob_typed_exprs.specs.Sizes.{capped}
 use Rattle.sum_ranges.specs.declared.ranged.Ranged.{Ranged}

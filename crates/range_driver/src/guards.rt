@@ -5,8 +5,8 @@ use case_words::{literal_of, place_of, relation_of, sum_of, wanted_of};
 use cob_data::{Layout, Pair, Sender};
 use cob_program::Test;
 use cob_tree::Many;
-use guard_ranges::guarded;
 use std::alloc::{AllocError, Global};
+use transfer_ranges::guarded;
 
 // ---- relations
 

@@ -1,25 +1,24 @@
 //! What is known of the items of a case: their forms, and the numbers that each can have.
 ghost use Rattle.std.specs.Prelude.{◌≡◌, true, false, ◌≤◌, length, slice_get, map, []};
-ghost use Rattle.cob_names.specs.Search.{HasFewPlaces};
+ghost use Rattle.cob_typed_exprs.specs.Search.{HasFewPlaces};
 ghost use Rattle.cob_program.specs.SumView.{plain_sum};
 ghost use Rattle.std.specs.List.{list_all};
 ghost use Rattle.cob_program.specs.LogicView.{plain_test};
 ghost use Rattle.cob_program.specs.Bounds.{is_small_sum, is_small_stored, literal_bound};
-ghost use Rattle.guard_ranges.specs.Small.{is_short, end_bound, is_short_pair, is_small_test};
+ghost use Rattle.transfer_ranges.specs.Small.{is_short, end_bound, is_short_pair, is_small_test};
 ghost use Rattle.cob_typed_exprs.specs.Sizes.{bound_at, plain_size};
 ghost use Rattle.range_driver.specs.Known.{fits, range_within, known_range};
 
 use crate::words::described_of;
 use cob_data::{Item, Layout, Pair, Sender};
-use cob_names::Names;
 use cob_program::{Sum, Test};
 use cob_tree::{Form, Many, Num, Usage};
-use cob_typed_exprs::{Scope, Size};
-use decimal_interval::Interval;
-use guard_ranges::Items;
+use cob_typed_exprs::{Names, Scope, Size};
 use indexmap::IndexMap;
+use interval_domain::Interval;
 use std::alloc::{AllocError, Global};
 use sum_ranges::{Ranged, Ranges};
+use transfer_ranges::Items;
 
 /// The items of a case.
 #[derive(Drop)]

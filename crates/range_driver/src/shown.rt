@@ -1,9 +1,8 @@
 //! Answers in words.
-use decimal_interval::Interval;
-use guard_ranges::{Cut, Cuts};
-use result_ranges::Stored;
+use interval_domain::Interval;
 use std::alloc::{AllocError, Global};
 use sum_ranges::Ranged;
+use transfer_ranges::{Cut, Cuts, Stored};
 
 fn shown_interval(alloc: Global, units: Option<Interval>) -> Result<String, AllocError> {
     match units {

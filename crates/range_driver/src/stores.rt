@@ -6,9 +6,9 @@ ghost use Rattle.cob_program.specs.Bounds.{is_small, sum_bound, product_bound};
 ghost use Rattle.sum_ranges.specs.SumRanges.{plus_range, product_range};
 ghost use Rattle.sum_ranges.specs.Sizes.{IsSmallRange, IsRangeWithin};
 ghost use Rattle.sum_ranges.specs.Working.{CanAddRanges, CanMultiplyRanges};
-ghost use Rattle.result_ranges.specs.Operands.{computed_range};
-ghost use Rattle.result_ranges.specs.Sizes.{IsReceiver, IsSmallAmount, IsSmallRemainder, CanCompute};
-ghost use Rattle.result_ranges.specs.Bounded.{cut_bound, is_small_rest_at};
+ghost use Rattle.transfer_ranges.specs.Operands.{computed_range};
+ghost use Rattle.transfer_ranges.specs.Sizes.{IsReceiver, IsSmallAmount, IsSmallRemainder, CanCompute};
+ghost use Rattle.transfer_ranges.specs.Bounded.{cut_bound, is_small_rest_at};
 
 use crate::known::{Known, table_of};
 use crate::shown::shown_stored;
@@ -17,9 +17,9 @@ use case_words::{how_of, mode_of, sum_of};
 use cob_program::{How, Sum};
 use cob_typed_exprs::{Size, quotient_size};
 use dec_num::Mode;
-use result_ranges::{AmountRange, Receiver, Taken, computed_range, result_range};
 use std::alloc::{AllocError, Global};
 use sum_ranges::{Ranged, taken_sum, turned};
+use transfer_ranges::{AmountRange, Receiver, Taken, computed_range, result_range};
 
 const HUGE: u128 = 10_000_000_000_000_000_000_000_000_000_000_000_000;
 

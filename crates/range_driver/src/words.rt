@@ -1,9 +1,9 @@
 //! Words that describe ranges, receivers and items.
 use case_words::interval_of;
-use decimal_interval::Interval;
-use result_ranges::Receiver;
+use interval_domain::Interval;
 use std::alloc::{AllocError, Global};
 use sum_ranges::Ranged;
+use transfer_ranges::Receiver;
 
 /// What stands between the commas of a word.
 fn fields_of<'a>(alloc: Global, word: &'a str) -> Result<Vec<&'a str>, AllocError> {

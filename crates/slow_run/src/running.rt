@@ -1,6 +1,6 @@
 //! A run on real files, step by step.
 ghost use Rattle.cob_program.specs.ActView.{plain_program};
-ghost use Rattle.cob_items.specs.WellFormed.{HasWellFormedItems};
+ghost use Rattle.cob_store.specs.WellFormed.{HasWellFormedItems};
 ghost use Rattle.cob_world.specs.Doing.{CanDoProgram};
 
 use cob_data::FileDecl;

@@ -8,8 +8,8 @@ use borrow.Author.Differences.{up, down}
 use Rattle.dec_num.specs.declared.types.Scaled.{Scaled}
 use Rattle.dec_num.proofs.Powers.{ten_positive, ten_split}
 use Rattle.dec_num.proofs.Signed.{times_times, neg_ℤ_times}
-use Rattle.decimal_interval.proofs.Ends.{times_grows}
-use Rattle.linear_form.proofs.Scales.{times_cancel}
+use Rattle.interval_domain.proofs.IntervalEnds.{times_grows}
+use Rattle.diff_bounds.proofs.Scales.{times_cancel}
 use Rattle.sum_ranges.specs.Ranged.{decimal}
 use Rattle.sum_forms.specs.Constants.{floor_at, ceiling_at}
 

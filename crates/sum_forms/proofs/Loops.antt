@@ -3,9 +3,9 @@ use Rattle.std.proofs.Common.{◌≡◌, ℕ, pos, Bool, true, false, Option, So
 use Rattle.cob_program.specs.Sum.{Parts, more_parts, Part, MkPart, Factors, more_factors, Factor, MkFactor, Atom, item, number, group}
 use Rattle.cob_program.specs.Values.{whole_number, ◌>>=◌}
 use Rattle.cob_program.specs.Bounds.{Bound, is_small_atom}
-use Rattle.linear_form.specs.declared.form.Lin.{Lin}
-use Rattle.linear_form.specs.Forms.{if_small}
-use Rattle.linear_form.specs.Results.{sum_of}
+use Rattle.diff_bounds.specs.declared.form.Lin.{Lin}
+use Rattle.diff_bounds.specs.Forms.{if_small}
+use Rattle.diff_bounds.specs.Results.{sum_of}
 use Rattle.sum_ranges.specs.declared.ranged.Ranged.{Ranged}
 use Rattle.sum_ranges.specs.Ranged.{point}
 use Rattle.sum_ranges.specs.SumRanges.{turned, factor_range, atom_range}

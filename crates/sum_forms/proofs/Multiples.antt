@@ -4,11 +4,11 @@ use Rattle.std.proofs.lemmas.Int.{ints, clamps}
 use Rattle.std.proofs.Math.IntN.{*ℤ_comm}
 use borrow.Author.Differences.{up, down, product_is}
 use Rattle.dec_num.proofs.Signed.{times_times}
-use Rattle.decimal_interval.specs.declared.bounds.Interval.{Interval}
-use Rattle.decimal_interval.proofs.Ends.{times_grows, times_falls}
-use Rattle.linear_form.specs.Results.{scaled_constant}
-use Rattle.linear_form.proofs.Dots.{sum_times}
-use Rattle.linear_form.specs.Scales.{Spans}
+use Rattle.interval_domain.specs.declared.bounds.Interval.{Interval}
+use Rattle.interval_domain.proofs.IntervalEnds.{times_grows, times_falls}
+use Rattle.diff_bounds.specs.Results.{scaled_constant}
+use Rattle.diff_bounds.proofs.Dots.{sum_times}
+use Rattle.diff_bounds.specs.Scales.{Spans}
 
 -- the factors in another order
 pub exchanged : (x y v : ℤ) → (x *ℤ y) *ℤ v ≡ (x *ℤ v) *ℤ y

@@ -5,18 +5,18 @@ use Rattle.std.specs.List.{list_all}
 use Rattle.std.proofs.lemmas.Int.{ints}
 use Rattle.std.proofs.lemmas.Bool.{and_parts, ltb-true}
 use Rattle.std.proofs.lemmas.List.Sums.{AllPass-from_list_all}
-use Rattle.decimal_interval.specs.Bounds.{IsSmall}
-use Rattle.decimal_interval.specs.Corners.{interval}
-use Rattle.linear_form.proofs.SmallNumbers.{small_between}
+use Rattle.interval_domain.specs.Bounds.{IsSmall}
+use Rattle.interval_domain.specs.Corners.{interval}
+use Rattle.diff_bounds.proofs.SmallNumbers.{small_between}
 use Rattle.cob_program.specs.Sum.{Sum, MkSum, Parts, no_parts, more_parts, Part, MkPart, Factors, no_factors, more_factors, MkFactor, Atom, item, number, group}
 use Rattle.cob_program.specs.Values.{whole_number, literal, with_factor, ◌>>=◌}
 use Rattle.cob_program.proofs.Steps.{some_bound, some_same}
-use Rattle.linear_form.specs.declared.form.Lin.{Lin}
-use Rattle.linear_form.specs.Forms.{coef, is_small, if_small, IsSmallForm}
-use Rattle.linear_form.specs.Results.{sum_of, multiple_of, scaled_coefs, added_coefs, IsNarrower}
-use Rattle.linear_form.proofs.Coefs.{length-coefs_of}
-use Rattle.linear_form.proofs.Computed.{computed}
-use Rattle.linear_form.proofs.Narrower.{sum_narrower, multiple_narrower}
+use Rattle.diff_bounds.specs.declared.form.Lin.{Lin}
+use Rattle.diff_bounds.specs.Forms.{coef, is_small, if_small, IsSmallForm}
+use Rattle.diff_bounds.specs.Results.{sum_of, multiple_of, scaled_coefs, added_coefs, IsNarrower}
+use Rattle.diff_bounds.proofs.Coefs.{length-coefs_of}
+use Rattle.diff_bounds.proofs.Computed.{computed}
+use Rattle.diff_bounds.proofs.Narrower.{sum_narrower, multiple_narrower}
 use Rattle.sum_ranges.specs.declared.ranged.Ranged.{Ranged}
 use Rattle.sum_ranges.specs.Ranged as range
 use Rattle.sum_ranges.specs.Ranged.{decimal, ranged, point, IsBelow}

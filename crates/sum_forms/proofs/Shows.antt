@@ -6,17 +6,17 @@ use Rattle.std.proofs.lemmas.Bool.{cases_eq, eq-eqb, ne_eqb}
 use Rattle.std.proofs.Math.IntN.{zero-*ℤ}
 use Rattle.dec_num.specs.declared.types.Scaled.{Scaled}
 use Rattle.dec_num.proofs.Powers.{ten_positive}
-use Rattle.decimal_interval.specs.declared.bounds.Interval.{Interval}
+use Rattle.interval_domain.specs.declared.bounds.Interval.{Interval}
 use Rattle.cob_program.specs.Sum.{Atom, item, number, group}
 use Rattle.cob_program.specs.Values.{whole_number, negated, literal, atom_value}
 use Rattle.cob_program.proofs.Steps.{some_same}
-use Rattle.linear_form.specs.declared.form.Lin.{Lin}
-use Rattle.linear_form.specs.Forms.{coef, dot, if_small}
-use Rattle.linear_form.proofs.Coefs.{coef-coefs_of}
+use Rattle.diff_bounds.specs.declared.form.Lin.{Lin}
+use Rattle.diff_bounds.specs.Forms.{coef, dot, if_small}
+use Rattle.diff_bounds.proofs.Coefs.{coef-coefs_of}
 use Rattle.sum_ranges.specs.declared.ranged.Ranged.{Ranged}
 use Rattle.sum_ranges.specs.Ranged.{decimal, IsIn}
-use Rattle.linear_form.specs.Scales.{Spans}
-use Rattle.decimal_interval.proofs.Ends.{times_grows}
+use Rattle.diff_bounds.specs.Scales.{Spans}
+use Rattle.interval_domain.proofs.IntervalEnds.{times_grows}
 use Rattle.sum_forms.specs.Constants.{outward, constant_form, range_form, cell_form, item_form}
 use Rattle.sum_forms.specs.Literals.{whole_part, whole_of, whole_factor}
 use Rattle.sum_forms.specs.Values.{Shows, AreHeld}

@@ -5,15 +5,15 @@ use Rattle.std.proofs.lemmas.Int.{ints}
 use Rattle.std.proofs.Math.IntN.{*ℤ_comm}
 use Rattle.dec_num.specs.declared.types.Scaled.{Scaled}
 use Rattle.dec_num.specs.Scaled.{units_at, joint_scale}
-use Rattle.decimal_interval.specs.Corners.{interval}
+use Rattle.interval_domain.specs.Corners.{interval}
 use Rattle.cob_program.specs.Sum.{Sum, MkSum, Parts, no_parts, more_parts, Part, MkPart, Factors, no_factors, more_factors, MkFactor, Atom, item, number, group}
 use Rattle.cob_program.specs.Values.{whole_number, negated, plus, product, literal, with_factor, ◌>>=◌, sum_value, sum_from, part_value, product_from, atom_value}
 use Rattle.cob_program.proofs.Steps.{some_bound, some_same}
-use Rattle.linear_form.specs.declared.form.Lin.{Lin}
-use Rattle.linear_form.specs.Forms.{coef, dot, if_small}
-use Rattle.linear_form.specs.Results.{added_coefs, scaled_coefs, scaled_constant, sum_of, multiple_of}
-use Rattle.linear_form.proofs.Coefs.{coef-coefs_of}
-use Rattle.linear_form.proofs.Dots.{dot_of_sums, dot_of_multiples}
+use Rattle.diff_bounds.specs.declared.form.Lin.{Lin}
+use Rattle.diff_bounds.specs.Forms.{coef, dot, if_small}
+use Rattle.diff_bounds.specs.Results.{added_coefs, scaled_coefs, scaled_constant, sum_of, multiple_of}
+use Rattle.diff_bounds.proofs.Coefs.{coef-coefs_of}
+use Rattle.diff_bounds.proofs.Dots.{dot_of_sums, dot_of_multiples}
 use Rattle.sum_ranges.specs.declared.ranged.Ranged.{Ranged}
 use Rattle.sum_ranges.specs.Ranged.{decimal, point, IsIn}
 use Rattle.sum_ranges.specs.SumRanges.{turned, factor_range, product_range_from, atom_range}
@@ -21,8 +21,8 @@ use Rattle.sum_ranges.specs.Results.{IsResult}
 use Rattle.sum_ranges.proofs.Operations.{factors_least}
 use Rattle.sum_ranges.proofs.Least.{ordered_of, point_in, result_in}
 use Rattle.sum_ranges.proofs.Sound.{turned_in, atom_in, whole_product_in}
-use Rattle.linear_form.specs.Scales.{Spans}
-use Rattle.linear_form.proofs.Scales.{spans_raised, spans_added}
+use Rattle.diff_bounds.specs.Scales.{Spans}
+use Rattle.diff_bounds.proofs.Scales.{spans_raised, spans_added}
 use Rattle.sum_forms.specs.declared.front.Front.{Front}
 use Rattle.sum_forms.specs.declared.front.Front.TheVariants.{Empty, Literal, Product}
 use Rattle.sum_forms.specs.Constants.{constant_form, range_form}

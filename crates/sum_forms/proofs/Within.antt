@@ -3,14 +3,14 @@ use Rattle.std.proofs.Common.{◌≡◌, ℕ, ◌<◌, Bool, true, false, ℤ, p
 use Rattle.std.specs.Prelude.{IfSome, nat_eq, if◌then◌else◌}
 use Rattle.std.proofs.lemmas.Bool.{ne_eqb}
 use Rattle.std.proofs.Math.IntN.{zero-*ℤ}
-use Rattle.decimal_interval.specs.declared.bounds.Interval.{Interval}
-use Rattle.decimal_interval.specs.Corners.{interval}
+use Rattle.interval_domain.specs.declared.bounds.Interval.{Interval}
+use Rattle.interval_domain.specs.Corners.{interval}
 use Rattle.cob_program.specs.Sum.{Sum, MkSum, Parts, no_parts, more_parts, Part, MkPart, Factors, no_factors, more_factors, MkFactor, Atom, item, number, group}
 use Rattle.cob_program.specs.Values.{whole_number, literal, ◌>>=◌}
-use Rattle.linear_form.specs.declared.form.Lin.{Lin}
-use Rattle.linear_form.specs.Forms.{coef, if_small}
-use Rattle.linear_form.specs.Results.{added_coefs, scaled_coefs, sum_of, multiple_of}
-use Rattle.linear_form.proofs.Coefs.{coef-coefs_of}
+use Rattle.diff_bounds.specs.declared.form.Lin.{Lin}
+use Rattle.diff_bounds.specs.Forms.{coef, if_small}
+use Rattle.diff_bounds.specs.Results.{added_coefs, scaled_coefs, sum_of, multiple_of}
+use Rattle.diff_bounds.proofs.Coefs.{coef-coefs_of}
 use Rattle.sum_ranges.specs.declared.ranged.Ranged.{Ranged}
 use Rattle.sum_ranges.specs.Ranged.{point}
 use Rattle.sum_ranges.specs.SumRanges.{turned, factor_range, product_range_from, atom_range}

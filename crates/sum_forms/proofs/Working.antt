@@ -4,17 +4,17 @@ use Rattle.std.specs.Prelude.{is_some, nat_eq, int_le, if◌then◌else◌, unsi
 use Rattle.std.specs.Int.{int_div_euclid}
 use Rattle.std.proofs.lemmas.Int.{ints}
 use Rattle.dec_num.proofs.Powers.{ten_positive, ten_monotone}
-use Rattle.decimal_interval.specs.declared.bounds.Interval.{Interval}
-use Rattle.decimal_interval.specs.Bounds.{IsSmall}
-use Rattle.decimal_interval.specs.Corners.{interval}
+use Rattle.interval_domain.specs.declared.bounds.Interval.{Interval}
+use Rattle.interval_domain.specs.Bounds.{IsSmall}
+use Rattle.interval_domain.specs.Corners.{interval}
 use Rattle.cob_program.specs.declared.sum.Factor as declared_factor
 use Rattle.cob_program.specs.declared.sum.Factor.{out-Factor}
 use Rattle.cob_program.specs.Sum.{more_factors}
 use Rattle.cob_program.specs.SumView.{plain_atom}
-use Rattle.linear_form.specs.declared.form.Lin.{Lin}
-use Rattle.linear_form.specs.Forms.{coefs_of, coef, AreSmallCoefs, IsSmallConstant, IsSmallForm}
-use Rattle.linear_form.proofs.Coefs.{coef-coefs_of, length-coefs_of}
-use Rattle.linear_form.proofs.Computed.{computed}
+use Rattle.diff_bounds.specs.declared.form.Lin.{Lin}
+use Rattle.diff_bounds.specs.Forms.{coefs_of, coef, AreSmallCoefs, IsSmallConstant, IsSmallForm}
+use Rattle.diff_bounds.proofs.Coefs.{coef-coefs_of, length-coefs_of}
+use Rattle.diff_bounds.proofs.Computed.{computed}
 use Rattle.sum_ranges.specs.declared.ranged.Ranged.{Ranged}
 use Rattle.sum_ranges.specs.Ranged.{decimal}
 use Rattle.sum_ranges.specs.Sizes.{IsSmallRange}

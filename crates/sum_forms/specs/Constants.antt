@@ -2,11 +2,11 @@
 use Rattle.std.specs.Prelude.{ℕ, ◌-◌, ◌^◌, nat_eq, nat_le, if◌then◌else◌, true, ℤ, pos, neg_ℤ, ◌*ℤ◌, Option, Some, None}
 use Rattle.std.specs.Int.{int_div_euclid}
 use Rattle.dec_num.specs.declared.types.Scaled.{Scaled}
-use Rattle.decimal_interval.specs.declared.bounds.Interval.{Interval}
-use Rattle.decimal_interval.specs.Corners.{interval}
+use Rattle.interval_domain.specs.declared.bounds.Interval.{Interval}
+use Rattle.interval_domain.specs.Corners.{interval}
 use Rattle.cob_program.specs.Values.{negated}
-use Rattle.linear_form.specs.declared.form.Lin.{Lin}
-use Rattle.linear_form.specs.Forms.{form_of, if_small}
+use Rattle.diff_bounds.specs.declared.form.Lin.{Lin}
+use Rattle.diff_bounds.specs.Forms.{form_of, if_small}
 use Rattle.sum_ranges.specs.declared.ranged.Ranged.{Ranged}
 use Rattle.sum_ranges.specs.Ranged.{decimal}
 

@@ -1,12 +1,12 @@
 -- Sums as linear forms over the cells of a pack. An item that has a cell in the pack counts with a coefficient, a whole
 -- literal scales a form, and all else counts as a constant that lies in its range.
 use Rattle.std.specs.Prelude.{ℕ, Bool, true, false, if◌then◌else◌, ℤ, pos, negsuc, Option, Some, None}
-use Rattle.decimal_interval.specs.Corners.{interval}
+use Rattle.interval_domain.specs.Corners.{interval}
 use Rattle.cob_program.specs.Sum.{Sum, MkSum, Parts, no_parts, more_parts, Part, MkPart, Factors, no_factors, more_factors, MkFactor, Atom, item, number, group}
 use Rattle.cob_program.specs.Values.{whole_number, literal, ◌>>=◌}
-use Rattle.linear_form.specs.declared.form.Lin.{Lin}
-use Rattle.linear_form.specs.Forms.{if_small}
-use Rattle.linear_form.specs.Results.{sum_of, multiple_of}
+use Rattle.diff_bounds.specs.declared.form.Lin.{Lin}
+use Rattle.diff_bounds.specs.Forms.{if_small}
+use Rattle.diff_bounds.specs.Results.{sum_of, multiple_of}
 use Rattle.sum_ranges.specs.declared.ranged.Ranged.{Ranged}
 use Rattle.sum_ranges.specs.Ranged.{point}
 use Rattle.sum_ranges.specs.SumRanges.{turned, factor_range, product_range_from, atom_range}

@@ -1,12 +1,12 @@
 -- What forms of sums say of the sums' values.
 use Rattle.std.specs.Prelude.{◌≡◌, ◌<◌, ◌≤◌, ℕ, ◌^◌, ℤ, pos, ◌*ℤ◌, ◌≤ℤ◌, Option, Some, IfSome, IsSomeAnd}
 use Rattle.dec_num.specs.declared.types.Scaled.{Scaled}
-use Rattle.linear_form.specs.declared.form.Lin.{Lin}
-use Rattle.linear_form.specs.Forms.{coef, dot, IsSmallForm}
-use Rattle.linear_form.specs.Results.{IsNarrower}
+use Rattle.diff_bounds.specs.declared.form.Lin.{Lin}
+use Rattle.diff_bounds.specs.Forms.{coef, dot, IsSmallForm}
+use Rattle.diff_bounds.specs.Results.{IsNarrower}
 use Rattle.sum_ranges.specs.declared.ranged.Ranged.{Ranged}
 use Rattle.sum_ranges.specs.Ranged.{IsIn}
-use Rattle.linear_form.specs.Scales.{Spans}
+use Rattle.diff_bounds.specs.Scales.{Spans}
 
 -- The decimal is one of the numbers that the form can be where the cells have these values, in units of so many decimals.
 abbrev pub Shows : ℕ → (ℕ → ℤ) → Lin → Scaled → Type 0

@@ -1,17 +1,17 @@
 //! Forms that are constants, and those of single cells.
 ghost use Rattle.std.specs.Prelude.{◌≡◌, ◌<◌, ◌≤◌, ◌^◌, ℕ, pos, neg_ℤ, ◌*ℤ◌, ◌≤ℤ◌, SomeIff, IfSome};
 ghost use Rattle.std.specs.Int.{int_div_euclid};
-ghost use Rattle.decimal_interval.specs.Bounds.{IsSmall};
-ghost use Rattle.decimal_interval.specs.Corners.{interval};
-ghost use Rattle.linear_form.specs.Forms.{IsSmallConstant};
+ghost use Rattle.interval_domain.specs.Bounds.{IsSmall};
+ghost use Rattle.interval_domain.specs.Corners.{interval};
+ghost use Rattle.diff_bounds.specs.Forms.{IsSmallConstant};
 ghost use Rattle.sum_ranges.specs.Ranged.{decimal};
 ghost use Rattle.sum_ranges.specs.Sizes.{IsSmallRange};
 ghost use Rattle.sum_forms.specs.Constants.{floor_at, outward, constant_form, range_form, cell_form};
 ghost use Rattle.sum_forms.specs.Values.{IsForm};
 
 use dec_num::pow10;
-use decimal_interval::Interval;
-use linear_form::Lin;
+use diff_bounds::Lin;
+use interval_domain::Interval;
 use sum_ranges::Ranged;
 
 // small numbers are below it

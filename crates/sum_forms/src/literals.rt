@@ -1,6 +1,6 @@
 //! Literals among the factors of a product.
 ghost use Rattle.std.specs.Prelude.{◌≡◌, ◌<◌, ◌≤◌, ◌^◌, true, pos, ◌*ℤ◌, unsigned_abs, is_some, map, IfSome};
-ghost use Rattle.decimal_interval.specs.Bounds.{IsSmall};
+ghost use Rattle.interval_domain.specs.Bounds.{IsSmall};
 ghost use Rattle.cob_program.specs.Sum.{factors_of};
 ghost use Rattle.cob_program.specs.SumView.{plain_factor, plain_atom};
 ghost use Rattle.sum_ranges.specs.Ranged.{decimal};

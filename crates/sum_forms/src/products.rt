@@ -1,14 +1,14 @@
 //! Forms of products, one factor after the other.
 ghost use Rattle.std.specs.Prelude.{◌≡◌, ◌≤◌, IfSome};
-ghost use Rattle.linear_form.specs.Forms.{if_small};
-ghost use Rattle.linear_form.specs.Results.{sum_of};
+ghost use Rattle.diff_bounds.specs.Forms.{if_small};
+ghost use Rattle.diff_bounds.specs.Results.{sum_of};
 ghost use Rattle.sum_ranges.specs.Sizes.{IsSmallRange};
 ghost use Rattle.sum_forms.specs.SumForms.{scaled_form, scaled_if, turned_if, next_front, next_form};
 ghost use Rattle.sum_forms.specs.Values.{IsForm};
 
 use super::constants::range_form;
 use super::front::Front;
-use linear_form::{Lin, lin_add, lin_scale};
+use diff_bounds::{Lin, lin_add, lin_scale};
 use sum_ranges::Ranged;
 
 // a multiple of a form

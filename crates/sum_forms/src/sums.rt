@@ -4,7 +4,7 @@ ghost use Rattle.cob_program.specs.Sum.{no_factors, more_factors, parts_of, fact
 ghost use Rattle.cob_program.specs.SumView.{plain_sum, plain_part, plain_factor, plain_atom};
 ghost use Rattle.cob_program.specs.Values.{whole_number, literal};
 ghost use Rattle.cob_program.specs.Bounds.{exactly, literal_bound, is_small, is_small_sum, is_small_sum_from, is_small_part, is_small_product, is_small_atom};
-ghost use Rattle.decimal_interval.specs.Corners.{interval};
+ghost use Rattle.interval_domain.specs.Corners.{interval};
 ghost use Rattle.sum_ranges.specs.Ranged.{point};
 ghost use Rattle.sum_ranges.specs.Sizes.{IsSmallRange};
 ghost use Rattle.sum_ranges.specs.Working.{AreBounded, one_factor_range, HasRoom};
@@ -21,7 +21,7 @@ use super::literals::{are_literals, whole_factor};
 use super::products::{Step, next_form, next_front, sum_of_two, turned};
 use cob_program::{Atom, Factor, Part, Sum};
 use cob_tree::Num;
-use linear_form::Lin;
+use diff_bounds::Lin;
 use sum_ranges::{
     Ranged, Ranges, atom_range, factor_range, literal_range, point, product_range,
     turned as turned_range,

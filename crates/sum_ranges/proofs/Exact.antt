@@ -7,12 +7,12 @@ use Rattle.std.proofs.Math.IntN.{neg_ℤ-neg_ℤ}
 use Rattle.dec_num.specs.declared.types.Mode.{Mode}
 use Rattle.dec_num.specs.Exact.{near, ratio_of}
 use Rattle.dec_num.proofs.Near.{near_monotone}
-use Rattle.decimal_interval.specs.declared.bounds.Interval.{Interval}
-use Rattle.decimal_interval.specs.Bounds.{Holds, IsLeast}
-use Rattle.decimal_interval.specs.Results.{IsQuotient}
-use Rattle.decimal_interval.specs.Corners.{span, joined, corners, negated, above_zero, quotient}
-use Rattle.decimal_interval.proofs.Ends.{IsBetweenEnds, corners_hold, corners_are_ones, in_order, in_other_order, parts_of_product, min_is_one, max_is_one}
-use Rattle.decimal_interval.proofs.Quotients.{near_le}
+use Rattle.interval_domain.specs.declared.bounds.Interval.{Interval}
+use Rattle.interval_domain.specs.Bounds.{Holds, IsLeast}
+use Rattle.interval_domain.specs.Results.{IsQuotient}
+use Rattle.interval_domain.specs.Corners.{span, joined, corners, negated, above_zero, quotient}
+use Rattle.interval_domain.proofs.IntervalEnds.{IsBetweenEnds, corners_hold, corners_are_ones, in_order, in_other_order, parts_of_product, min_is_one, max_is_one}
+use Rattle.interval_domain.proofs.Quotients.{near_le}
 
 -- ---- along a line of numerators, and along a line of divisors
 along_numerators : (up : ℤ) (mode : Mode) (l x h y : ℤ) → pos 1 ≤ℤ y → l ≤ℤ x → x ≤ℤ h → Holds (span (quotient up mode l y) (quotient up mode h y)) (quotient up mode x y)

@@ -1,7 +1,7 @@
 -- Ranges of sums, worked by hand.
 use Rattle.std.proofs.Common.{◌≡◌, ℕ, zero, suc, ℤ, pos, true, false, List, [], ◌∷◌, Some, None, refl}
 use Rattle.std.specs.Prelude.{neg_ℤ}
-use Rattle.decimal_interval.specs.Corners.{interval}
+use Rattle.interval_domain.specs.Corners.{interval}
 use Rattle.cob_program.specs.Sum.{Sum, MkSum, parts_of, Part, MkPart, factors_of, Factor, MkFactor, Atom, item, number, group}
 use Rattle.sum_ranges.specs.declared.ranged.Ranged.{Ranged}
 use Rattle.sum_ranges.specs.Ranged.{ranged}

@@ -8,11 +8,11 @@ use Rattle.dec_num.specs.declared.types.Mode.TheVariants.{Trunc}
 use Rattle.dec_num.specs.declared.types.Scaled.{Scaled}
 use Rattle.dec_num.specs.Exact.{ratio_of, near}
 use Rattle.dec_num.specs.Scaled.{units_at, joint_scale}
-use Rattle.decimal_interval.specs.declared.bounds.Interval.{Interval}
-use Rattle.decimal_interval.specs.Bounds.{Holds, IsLeast}
-use Rattle.decimal_interval.specs.Results.{IsProduct, IsQuotient}
-use Rattle.decimal_interval.specs.Corners as corner
-use Rattle.decimal_interval.proofs.Ends.{low_held, high_held, times_grows, products_are_least}
+use Rattle.interval_domain.specs.declared.bounds.Interval.{Interval}
+use Rattle.interval_domain.specs.Bounds.{Holds, IsLeast}
+use Rattle.interval_domain.specs.Results.{IsProduct, IsQuotient}
+use Rattle.interval_domain.specs.Corners as corner
+use Rattle.interval_domain.proofs.IntervalEnds.{low_held, high_held, times_grows, products_are_least}
 use Rattle.cob_program.specs.Values.{plus, product, quotient_scale, with_factor}
 use Rattle.cob_program.proofs.Steps.{some_same}
 use Rattle.sum_ranges.proofs.Exact.{positive_least, above_and_below, above_alone, below_alone}

@@ -10,9 +10,9 @@ use Rattle.dec_num.specs.declared.types.Mode.TheVariants.{Trunc}
 use Rattle.dec_num.specs.Exact.{ratio_of, near}
 use Rattle.dec_num.proofs.Powers.{ten_monotone}
 use Rattle.dec_num.proofs.Bounds.{size_of_sum, size_of_product, size_of_units_at}
-use Rattle.decimal_interval.specs.Bounds.{Holds, IsSmall, IsInterval}
-use Rattle.decimal_interval.specs.Results.{IsSum, AreSmall}
-use Rattle.decimal_interval.proofs.Ends.{times_grows}
+use Rattle.interval_domain.specs.Bounds.{Holds, IsSmall, IsInterval}
+use Rattle.interval_domain.specs.Results.{IsSum, AreSmall}
+use Rattle.interval_domain.proofs.IntervalEnds.{times_grows}
 use Rattle.cob_program.specs.Sum.{MkSum, Parts, no_parts, more_parts, Part, MkPart, Factors, no_factors, more_factors, Factor, MkFactor, Atom, item, number, group}
 use Rattle.cob_program.specs.Values.{whole_number, quotient_scale, ◌>>=◌}
 use Rattle.cob_program.specs.Bounds.{Bound, exactly, joint, raised, sum_bound, product_bound, quotient_bound, factor_bound, is_small, sum_most_from, part_most, product_most_from, atom_most, is_small_sum_from, is_small_part, is_small_product, is_small_atom}

@@ -4,12 +4,12 @@ use Rattle.std.specs.Prelude.{◌≢◌, ◌↔◌, IfSome}
 use Rattle.std.proofs.lemmas.Int.{ints, clamps}
 use Rattle.dec_num.specs.declared.types.Mode.TheVariants.{Trunc}
 use Rattle.dec_num.specs.Exact.{ratio_of, near}
-use Rattle.decimal_interval.specs.declared.bounds.Interval.{Interval}
-use Rattle.decimal_interval.specs.Bounds.{Holds, IsSmall, IsLeast}
-use Rattle.decimal_interval.specs.Results.{IsSum, IsProduct, IsQuotient, AreSmall, IsLeastCapped, capped}
-use Rattle.decimal_interval.specs.Corners as corner
+use Rattle.interval_domain.specs.declared.bounds.Interval.{Interval}
+use Rattle.interval_domain.specs.Bounds.{Holds, IsSmall, IsLeast}
+use Rattle.interval_domain.specs.Results.{IsSum, IsProduct, IsQuotient, AreSmall, IsLeastCapped, capped}
+use Rattle.interval_domain.specs.Corners as corner
 use Rattle.std.proofs.Math.Nat.{zero-div}
-use Rattle.decimal_interval.proofs.Ends.{low_held, high_held, sums_are_least, products_are_least}
+use Rattle.interval_domain.proofs.IntervalEnds.{low_held, high_held, sums_are_least, products_are_least}
 use Rattle.sum_ranges.specs.declared.ranged.Ranged.{Ranged}
 use Rattle.sum_ranges.specs.Ranged.{ranged}
 use Rattle.sum_ranges.specs.SumRanges.{raised, joint, added, shift, quotients, plus_range, product_range}

@@ -1,9 +1,9 @@
 -- Decimals of one scale between two of them.
 use Rattle.std.specs.Prelude.{◌≡◌, ℕ, ℤ, ◌≤ℤ◌, Option, Some, None}
 use Rattle.dec_num.specs.declared.types.Scaled.{Scaled}
-use Rattle.decimal_interval.specs.declared.bounds.Interval.{Interval}
-use Rattle.decimal_interval.specs.Bounds.{Holds}
-use Rattle.decimal_interval.specs.Corners.{interval}
+use Rattle.interval_domain.specs.declared.bounds.Interval.{Interval}
+use Rattle.interval_domain.specs.Bounds.{Holds}
+use Rattle.interval_domain.specs.Corners.{interval}
 use Rattle.sum_ranges.specs.declared.ranged.Ranged.{Ranged}
 
 abbrev pub decimal : ℤ → ℕ → Scaled

@@ -1,7 +1,7 @@
 -- Least ranges of results of operations on decimals.
 use Rattle.std.specs.Prelude.{◌≡◌, Bool, Option, Some, None}
 use Rattle.dec_num.specs.declared.types.Scaled.{Scaled}
-use Rattle.decimal_interval.specs.Bounds.{IsLeast}
+use Rattle.interval_domain.specs.Bounds.{IsLeast}
 use Rattle.cob_program.specs.Values.{negated}
 use Rattle.sum_ranges.specs.declared.ranged.Ranged.{Ranged}
 use Rattle.sum_ranges.specs.Ranged.{decimal, IsIn}

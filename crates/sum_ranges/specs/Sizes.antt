@@ -3,7 +3,7 @@ use Rattle.std.specs.Prelude.{◌≡◌, ◌≤◌, ℕ, pos, unsigned_abs, IfSo
 use Rattle.cob_program.specs.Sum.{Sum, MkSum, Parts, no_parts, more_parts, Part, MkPart, Factors, no_factors, more_factors, MkFactor, Atom, item, number, group}
 use Rattle.cob_program.specs.Values.{whole_number, literal}
 use Rattle.cob_program.specs.Bounds.{Bound}
-use Rattle.decimal_interval.specs.Bounds.{IsInterval}
+use Rattle.interval_domain.specs.Bounds.{IsInterval}
 use Rattle.sum_ranges.specs.declared.ranged.Ranged.{Ranged}
 use Rattle.sum_ranges.specs.Ranged.{point, IsOrdered}
 use Rattle.sum_ranges.specs.SumRanges.{turned, plus_range, factor_range, part_range, atom_range}

@@ -1,8 +1,8 @@
 -- What the working of ranges needs.
 use Rattle.std.specs.Prelude.{◌≡◌, ◌≢◌, ◌⊎◌, ℕ, ◌+◌, ◌≤◌, ◌&&◌, ◌||◌, pos, Bool, true, false, Option}
 use Rattle.dec_num.specs.declared.types.Mode.TheVariants.{Trunc}
-use Rattle.decimal_interval.specs.Bounds.{IsInterval}
-use Rattle.decimal_interval.specs.Results.{IsSum, IsProduct, IsQuotient, AreSmall}
+use Rattle.interval_domain.specs.Bounds.{IsInterval}
+use Rattle.interval_domain.specs.Results.{IsSum, IsProduct, IsQuotient, AreSmall}
 use Rattle.cob_program.specs.Sum.{Parts, Factors, Factor, MkFactor, Atom}
 use Rattle.cob_program.specs.Values.{quotient_scale, ◌>>=◌}
 use Rattle.cob_program.specs.Bounds.{Bound, is_small, is_small_sum_from, is_small_product}

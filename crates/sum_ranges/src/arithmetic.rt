@@ -1,8 +1,8 @@
 //! Ranges of what operations give.
 ghost use Rattle.std.specs.Prelude.{◌≡◌, ◌⊎◌, ◌<◌, ◌≤◌, ◌+◌, ◌-◌, ◌^◌, ◌≢◌, true, false, pos, ◌*ℤ◌, Some, None, ◌↔◌};
-ghost use Rattle.decimal_interval.specs.Bounds.{IsSmall, IsInterval};
+ghost use Rattle.interval_domain.specs.Bounds.{IsSmall, IsInterval};
 ghost use Rattle.cob_program.specs.Values.{quotient_scale};
-ghost use Rattle.decimal_interval.specs.Corners.{negated};
+ghost use Rattle.interval_domain.specs.Corners.{negated};
 ghost use Rattle.sum_ranges.specs.Ranged.{decimal, ranged, point};
 ghost use Rattle.sum_ranges.specs.SumRanges.{turned, raised, joint, shift, quotients, plus_range, product_range, quotient_range, factor_range};
 ghost use Rattle.sum_ranges.specs.Sizes.{IsSmallRange};
@@ -10,7 +10,7 @@ ghost use Rattle.sum_ranges.specs.Working.{CanAddRanges, CanMultiplyRanges, CanD
 
 use crate::ranged::Ranged;
 use dec_num::{Mode, pow10};
-use decimal_interval::{Interval, add_i, mul_i, quot_i};
+use interval_domain::{Interval, add_i, mul_i, quot_i};
 
 /// So many units of a scale alone.
 pub fn point(units: i128, scale: u32) -> Ranged

@@ -3,7 +3,7 @@ ghost use Rattle.std.specs.Prelude.{◌≡◌, ℕ};
 ghost use Rattle.cob_program.specs.Bounds.{Bound};
 ghost use Rattle.sum_ranges.specs.declared.ranged.Ranged.{Ranged};
 
-use decimal_interval::Interval;
+use interval_domain::Interval;
 
 /// The decimals of one scale whose units lie in an interval.
 #[derive(Clone, Copy, PartialEq, Eq)]

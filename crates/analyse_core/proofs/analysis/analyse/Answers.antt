@@ -5,7 +5,7 @@ use Rattle.cert_text.specs.View.{view}
 use Rattle.cert_text.specs.Allowed.{IsAllowed}
 use Rattle.cert_check.specs.Claims.{open_pairs}
 use Rattle.cert_check.specs.Checking.{Accepts}
-use Rattle.pack_choice.specs.Choice.{packs_of}
+use Rattle.analyse_core.specs.Choice.{packs_of}
 use Rattle.analyse_core.specs.Assignments.{MissesNothing, MissesNothingTogether}
 use Rattle.analyse_core.specs.Found.{IsFound}
 use Rattle.analyse_core.proofs.CellSizes.{cells_are}

@@ -3,11 +3,11 @@ use Rattle.std.specs.List.{AllByRecursion}
 use Rattle.std.proofs.lemmas.List.{length-map}
 use Rattle.cob_program.specs.ActView.{plain_program}
 use Rattle.cob_graph.specs.Graphs.{cells_of}
-use Rattle.cell_rows.specs.Elements.{AreThresholds}
-use Rattle.cell_rows.specs.Rows.{lists_of}
+use Rattle.interval_domain.specs.Elements.{AreThresholds}
+use Rattle.interval_domain.specs.Rows.{lists_of}
 use Rattle.cell_steps.specs.Homes.{owns}
-use Rattle.pack_choice.specs.Choice.{numbers_of}
-use Rattle.pack_choice.specs.PackThresholds.{HasFewCells, HasFewDecimals, thresholds_of_pack}
+use Rattle.analyse_core.specs.Choice.{numbers_of}
+use Rattle.analyse_core.specs.PackThresholds.{HasFewCells, HasFewDecimals, thresholds_of_pack}
 use Rattle.analyse_core.specs.Literals.{program_literals}
 use Rattle.analyse_core.specs.Thresholds.{thresholds_of}
 use Rattle.analyse_core.specs.Packs.{ArePacksGiven}

@@ -1,5 +1,5 @@
 use Rattle.std.proofs.Common.{◌∙◌, sym, ap}
-use Rattle.claimed_rows.specs.MatrixClaims.{cells_in}
+use Rattle.cert_text.specs.MatrixClaims.{cells_in}
 use Rattle.analyse_core.proofs.PacksGiven.{none_there, some_there}
 use Rattle.analyse_core.proofs.analysis.found.Goals as goal
 

@@ -3,10 +3,10 @@ use Rattle.std.specs.Prelude.{◌≤◌, []}
 use Rattle.std.specs.List.{AllByRecursion}
 use Rattle.std.proofs.lemmas.Result.{IfOk-weaker}
 use Rattle.cob_program.specs.ActView.{plain_program}
-use Rattle.cell_rows.specs.Rows.{element_of}
+use Rattle.interval_domain.specs.Rows.{element_of}
 use Rattle.cert_text.specs.View.{view}
 use Rattle.diff_bounds.specs.PackRows.{width_of}
-use Rattle.claimed_rows.specs.MatrixClaims.{cells_in, sizes_of}
+use Rattle.cert_text.specs.MatrixClaims.{cells_in, sizes_of}
 use Rattle.widen_solver.specs.Stored.{row_at}
 use Rattle.analyse_core.specs.Certificates.{certificate_for}
 use Rattle.analyse_core.specs.Found.{IsFound}

@@ -2,9 +2,9 @@ use Rattle.std.proofs.Common.{◌≡◌, ◌∙◌, ℕ, length, ap, sym, subst,
 use Rattle.std.specs.Prelude.{◌≤◌}
 use Rattle.std.proofs.lemmas.Result.{IfOk-weaker}
 use Rattle.cob_program.specs.ActView.{plain_program}
-use Rattle.cell_rows.specs.Rows.{element_of}
+use Rattle.interval_domain.specs.Rows.{element_of}
 use Rattle.cert_text.specs.View.{view}
-use Rattle.claimed_rows.specs.MatrixClaims.{cells_in}
+use Rattle.cert_text.specs.MatrixClaims.{cells_in}
 use Rattle.widen_solver.specs.Stored.{row_at}
 use Rattle.analyse_core.specs.Certificates.{certificate_for}
 use Rattle.analyse_core.specs.Packs.{ArePacksGiven}

@@ -1,8 +1,8 @@
 use Rattle.std.proofs.Common.{◌+◌, suc, drop, sym, subst, arith}
 use Rattle.std.specs.Prelude.{IfSome}
-use Rattle.cell_rows.specs.Rows.{cells_of}
-use Rattle.claimed_rows.specs.Gaps.{IsSmall}
-use Rattle.claimed_rows.proofs.Seeking.{small_at}
+use Rattle.interval_domain.specs.Rows.{cells_of}
+use Rattle.cert_text.specs.Gaps.{IsSmall}
+use Rattle.cert_text.proofs.Seeking.{small_at}
 use Rattle.analyse_core.specs.Certificates.{claims_from, known_claims}
 use Rattle.analyse_core.proofs.Claiming.{claims_cut, all_claimed}
 use Rattle.cob_program.proofs.Loops.{added}

@@ -1,5 +1,5 @@
 use Rattle.std.proofs.Common.{◌≡◌, ◌++◌, suc, drop}
-use Rattle.cell_rows.specs.Rows.{cells_of}
+use Rattle.interval_domain.specs.Rows.{cells_of}
 use Rattle.analyse_core.specs.Certificates.{claims_from}
 use Rattle.analyse_core.proofs.certificate.claims_of.Given as goal
 

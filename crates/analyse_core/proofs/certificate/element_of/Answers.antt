@@ -1,6 +1,6 @@
 use Rattle.std.proofs.Common.{◌∙◌, sym, arith}
-use Rattle.cell_rows.proofs.Flags.{said_reached}
-use Rattle.cell_rows.proofs.Places.{reached_length}
+use Rattle.interval_domain.proofs.Flags.{said_reached}
+use Rattle.interval_domain.proofs.Places.{reached_length}
 use Rattle.analyse_core.proofs.certificate.element_of.Goals as goal
 
 pub claims_of-requires-clause-cells : goal.claims_of-requires-clause-cells

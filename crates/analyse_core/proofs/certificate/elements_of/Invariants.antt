@@ -1,7 +1,7 @@
 use Rattle.std.proofs.Common.{◌≡◌, map}
 use Rattle.cert_text.specs.View.{place_of}
-use Rattle.cell_rows.specs.Rows.{element_of}
-use Rattle.claimed_rows.specs.MatrixClaims.{cells_in, sizes_of}
+use Rattle.interval_domain.specs.Rows.{element_of}
+use Rattle.cert_text.specs.MatrixClaims.{cells_in, sizes_of}
 use Rattle.analyse_core.specs.Certificates.{places_for}
 use Rattle.analyse_core.proofs.certificate.elements_of.Given as goal
 

@@ -1,6 +1,6 @@
 use Rattle.std.proofs.Common.{◌≡◌}
 use Rattle.std.specs.Prelude.{take}
-use Rattle.cell_rows.specs.Rows.{lists_of}
+use Rattle.interval_domain.specs.Rows.{lists_of}
 use Rattle.analyse_core.specs.Literals.{numbers_of}
 use Rattle.analyse_core.specs.Thresholds.{thresholds_for}
 use Rattle.analyse_core.proofs.listing.all_thresholds.Given as goal

@@ -3,7 +3,7 @@ use Rattle.std.specs.Prelude.{IfOk}
 use Rattle.std.specs.List.{All, AllByRecursion}
 use Rattle.std.proofs.lemmas.Result.{IfOk-weaker}
 use Rattle.cob_program.specs.ActView.{plain_program}
-use Rattle.cell_rows.specs.Rows.{lists_of}
+use Rattle.interval_domain.specs.Rows.{lists_of}
 use Rattle.cert_check.specs.Ranges.{IsShort}
 use Rattle.cert_check.proofs.Sources.{graph_cells_short}
 use Rattle.analyse_core.specs.Literals.{numbers_of, program_literals}

@@ -1,5 +1,5 @@
 use Rattle.cob_program.specs.ActView.{plain_program}
-use Rattle.cell_rows.specs.Rows.{lists_of}
+use Rattle.interval_domain.specs.Rows.{lists_of}
 use Rattle.widen_solver.specs.Stored.{row_at}
 use Rattle.analyse_core.proofs.SolvedRows.{cells_found, cell_steps_fit}
 use Rattle.analyse_core.proofs.solving.solve_cells.Goals as goal

@@ -1,7 +1,7 @@
 use Rattle.std.proofs.Common.{List, String, Global, subst}
 use Rattle.command_words.specs.Words.{texts}
-use Rattle.command_answers.specs.Call.{call}
-use Rattle.command_answers.proofs.OneCheck.{TextsAreApart}
+use Rattle.commands.specs.Call.{call}
+use Rattle.commands.proofs.OneCheck.{TextsAreApart}
 use Rattle.analyse_top.specs.Conclusion.{Concludes, IsExact}
 use Rattle.analyse_top.proofs.Analysed.{analyses_are_accepted, finds_clean, long_texts_are_of_large_programs, trials_are_accepted}
 use Rattle.analyse_top.proofs.Clean.{accepts_exactly, checking_is_sound, clean_is_safe, reports_are_complete}

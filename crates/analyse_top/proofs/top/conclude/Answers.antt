@@ -1,9 +1,9 @@
 use Rattle.std.proofs.Common.{Err, inl, refl}
 use Rattle.command_words.specs.Words.{texts}
 use Rattle.command_words.specs.Commands.{Command, IsCommand}
-use Rattle.command_answers.specs.Answer.{Usage}
-use Rattle.command_answers.specs.declared.answer.Stop.TheVariants.{Memory}
-use Rattle.command_answers.specs.Call.{call}
+use Rattle.commands.specs.Answer.{Usage}
+use Rattle.commands.specs.declared.answer.Stop.TheVariants.{Memory}
+use Rattle.commands.specs.Call.{call}
 use Rattle.analyse_top.specs.Answers.{first_word}
 use Rattle.analyse_top.proofs.Endings.{ends_by_answer, ends_found, reads_nothing}
 use Rattle.analyse_top.proofs.top.conclude.Goals as goal

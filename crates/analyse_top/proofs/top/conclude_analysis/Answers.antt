@@ -1,9 +1,9 @@
 use Rattle.std.proofs.Common.{◌≡◌, false, inl, inr}
 use Rattle.batch_io.specs.FilesState.{known_bytes}
 use Rattle.command_words.specs.Commands.{analyse}
-use Rattle.command_answers.specs.Answer.{Answer, AnswersSource, is_usage}
-use Rattle.command_answers.specs.Call.{call}
-use Rattle.analyse_command.proofs.Telling.{ends_by_analysis}
+use Rattle.commands.specs.Answer.{Answer, AnswersSource, is_usage}
+use Rattle.commands.specs.Call.{call}
+use Rattle.commands.proofs.Telling.{ends_by_analysis}
 use Rattle.analyse_top.proofs.Endings.{answers_command, ends_found, found_or_not}
 use Rattle.analyse_top.proofs.top.conclude_analysis.Goals as goal
 

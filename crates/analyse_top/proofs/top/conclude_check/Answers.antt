@@ -1,9 +1,9 @@
 use Rattle.std.proofs.Common.{◌≡◌, false, inl}
 use Rattle.batch_io.specs.FilesState.{known_bytes}
 use Rattle.command_words.specs.Commands.{check}
-use Rattle.command_answers.specs.CheckAnswers.{AnswersCheck}
-use Rattle.command_answers.specs.Answer.{Answer, is_usage}
-use Rattle.command_answers.specs.Call.{call}
+use Rattle.commands.specs.CheckAnswers.{AnswersCheck}
+use Rattle.commands.specs.Answer.{Answer, is_usage}
+use Rattle.commands.specs.Call.{call}
 use Rattle.analyse_top.proofs.Endings.{answers_command, ends_found, found_or_not}
 use Rattle.analyse_top.proofs.top.conclude_check.Goals as goal
 

@@ -2,10 +2,10 @@ use Rattle.std.proofs.Common.{inl, inr}
 use Rattle.batch_io.specs.FilesState.{known_bytes}
 use Rattle.cob_interp.specs.Runs.{outside}
 use Rattle.command_words.specs.Commands.{plain_run, run}
-use Rattle.command_answers.specs.Call.{call}
-use Rattle.run_command.specs.Runs.{AnswersRun, BlamesIfUsage}
-use Rattle.run_command.specs.View.{plain_task}
-use Rattle.run_command.proofs.RunEnds.{asks_for, runs_behind}
+use Rattle.commands.specs.Call.{call}
+use Rattle.commands.specs.Runs.{AnswersRun, BlamesIfUsage}
+use Rattle.commands.specs.RunView.{plain_task}
+use Rattle.commands.proofs.RunEnds.{asks_for, runs_behind}
 use Rattle.analyse_top.proofs.Endings.{answers_command, ends_found, found_or_not}
 use Rattle.analyse_top.proofs.top.conclude_run.Goals as goal
 

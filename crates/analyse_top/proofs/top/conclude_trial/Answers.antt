@@ -1,8 +1,8 @@
 use Rattle.std.proofs.Common.{inl, inr}
 use Rattle.batch_io.specs.FilesState.{known_bytes}
 use Rattle.command_words.specs.Commands.{trial}
-use Rattle.command_answers.specs.Call.{call}
-use Rattle.analyse_command.proofs.Trials.{ends_by_trial}
+use Rattle.commands.specs.Call.{call}
+use Rattle.commands.proofs.Trials.{ends_by_trial}
 use Rattle.analyse_top.proofs.Endings.{answered_trial, answers_command, ends_found, trial_reads_nothing}
 use Rattle.analyse_top.proofs.top.conclude_trial.Goals as goal
 

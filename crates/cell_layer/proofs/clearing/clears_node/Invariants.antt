@@ -1,6 +1,6 @@
 use Rattle.std.proofs.Common.{◌≤◌, ◌<◌, ℕ}
 use Rattle.cob_program.specs.ActView.{plain_program}
-use Rattle.cell_rows.specs.Rows.{cells_of}
+use Rattle.interval_domain.specs.Rows.{cells_of}
 use Rattle.cell_laws.specs.Layer.{edge_clears}
 use Rattle.cell_layer.proofs.OwnEdges.{IsClear}
 use Rattle.cell_layer.proofs.clearing.clears_node.Given as goal

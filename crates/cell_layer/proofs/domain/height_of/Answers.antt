@@ -1,8 +1,8 @@
 use Rattle.std.proofs.Common.{◌≡◌, ◌≤◌, ◌+◌, ◌*◌, ◌∙◌, ◌++◌, ◌∷◌, [], length, take, List, ℤ, Vec, sym, ap, subst, arith}
 use Rattle.std.specs.declared.alloc.Global.{Global}
 use Rattle.std.proofs.lemmas.List.{take_more}
-use Rattle.cell_rows.specs.Elements.{cells_height}
-use Rattle.cell_rows.specs.Rows.{lists_of}
+use Rattle.interval_domain.specs.Elements.{cells_height}
+use Rattle.interval_domain.specs.Rows.{lists_of}
 use Rattle.cell_layer.proofs.Heights.{lists_more}
 use Rattle.cell_layer.proofs.domain.height_of.Goals as goal
 

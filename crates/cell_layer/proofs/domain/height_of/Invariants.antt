@@ -1,6 +1,6 @@
 use Rattle.std.proofs.Common.{◌≡◌, ◌≤◌, ◌+◌, ◌*◌, take}
-use Rattle.cell_rows.specs.Elements.{cells_height}
-use Rattle.cell_rows.specs.Rows.{lists_of}
+use Rattle.interval_domain.specs.Elements.{cells_height}
+use Rattle.interval_domain.specs.Rows.{lists_of}
 use Rattle.cell_layer.proofs.domain.height_of.Given as goal
 
 abbrev pub invariant-loop-list : goal.invariant-loop-list

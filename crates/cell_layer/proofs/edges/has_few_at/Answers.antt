@@ -1,7 +1,7 @@
 use Rattle.std.proofs.Common.{◌<◌, ◌-◌, ◌^◌, length, arith}
 use Rattle.std.proofs.lemmas.Bool.{ltb-true}
 use Rattle.cob_program.specs.ActView.{plain_stmt, plain_program}
-use Rattle.borrowed_parts.specs.PartView.{edge_parts}
+use Rattle.edge_amounts.specs.PartView.{edge_parts}
 use Rattle.cell_layer.proofs.Finding.{few_some, few_none}
 use Rattle.cell_layer.proofs.edges.has_few_at.Goals as goal
 

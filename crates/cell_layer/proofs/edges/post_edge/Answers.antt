@@ -1,6 +1,6 @@
 use Rattle.std.proofs.Common.{◌∙◌}
 use Rattle.cob_program.specs.ActView.{plain_program}
-use Rattle.cell_rows.specs.Rows.{cells_of}
+use Rattle.interval_domain.specs.Rows.{cells_of}
 use Rattle.cell_layer.proofs.Leaving.{can_walk, posts_by, posts_none}
 use Rattle.cell_layer.proofs.edges.post_edge.Goals as goal
 

@@ -1,10 +1,10 @@
 use Rattle.std.proofs.Common.{◌≡◌, ◌≤◌, ◌<◌, ◌+◌, suc, true, false, drop, length, sym, ap, ◌∙◌, arith, rules}
 use Rattle.cob_program.specs.ActView.{plain_stmt, plain_program}
-use Rattle.borrowed_parts.specs.PartView.{edge_parts}
-use Rattle.cell_rows.specs.Rows.{cells_of}
-use Rattle.cell_walk.specs.Statements.{act_in}
-use Rattle.cell_walk.specs.Walks.{clears_all_small}
-use Rattle.cell_walk.specs.Kept.{seen}
+use Rattle.edge_amounts.specs.PartView.{edge_parts}
+use Rattle.interval_domain.specs.Rows.{cells_of}
+use Rattle.cell_layer.specs.NumberedStatements.{act_in}
+use Rattle.cell_layer.specs.Walks.{clears_all_small}
+use Rattle.cell_layer.specs.Kept.{seen}
 use Rattle.cell_layer.proofs.Walked.{clears_of, cleared_passed, cleared_stopped, not_cleared, all_cleared}
 use Rattle.cell_layer.proofs.Walking.{can_begin, clears_is}
 use Rattle.cell_layer.proofs.edges.walk_clears.Goals as goal

@@ -1,12 +1,12 @@
 use Rattle.std.proofs.Common.{◌≡◌, ◌≤◌, ◌<◌, ◌+◌, suc, drop, length, Some, None, sym, ap, ◌∙◌, arith, rules}
 use Rattle.cob_program.specs.ActView.{plain_stmt, plain_program}
-use Rattle.borrowed_parts.specs.PartView.{edge_parts}
-use Rattle.cell_rows.specs.Rows.{cells_of, row_from, width_of}
+use Rattle.edge_amounts.specs.PartView.{edge_parts}
+use Rattle.interval_domain.specs.Rows.{cells_of, row_from, width_of}
 use Rattle.cell_steps.specs.Homes.{owns}
 use Rattle.cell_steps.specs.Edges.{finished}
-use Rattle.cell_walk.specs.Statements.{act_in}
-use Rattle.cell_walk.specs.Walks.{steps_small}
-use Rattle.cell_walk.specs.Kept.{seen}
+use Rattle.cell_layer.specs.NumberedStatements.{act_in}
+use Rattle.cell_layer.specs.Walks.{steps_small}
+use Rattle.cell_layer.specs.Kept.{seen}
 use Rattle.cell_layer.proofs.Walked.{passed, stopped, none_left}
 use Rattle.cell_layer.proofs.Walking.{can_begin, width_is, post_is}
 use Rattle.cell_layer.proofs.edges.walk_edge.Goals as goal

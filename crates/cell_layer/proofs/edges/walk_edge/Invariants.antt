@@ -1,12 +1,12 @@
 use Rattle.std.proofs.Common.{◌≡◌, drop}
 use Rattle.cob_program.specs.ActView.{plain_stmt, plain_program}
-use Rattle.borrowed_parts.specs.PartView.{edge_parts}
-use Rattle.cell_rows.specs.Rows.{cells_of}
+use Rattle.edge_amounts.specs.PartView.{edge_parts}
+use Rattle.interval_domain.specs.Rows.{cells_of}
 use Rattle.cell_steps.specs.Seen.{beginning}
-use Rattle.cell_walk.specs.ProgramRows.{IsRowOf}
-use Rattle.cell_walk.specs.Statements.{act_in}
-use Rattle.cell_walk.specs.Walks.{steps_small, CanStep}
-use Rattle.cell_walk.specs.Kept.{seen}
+use Rattle.cell_layer.specs.ProgramRows.{IsRowOf}
+use Rattle.cell_layer.specs.NumberedStatements.{act_in}
+use Rattle.cell_layer.specs.Walks.{steps_small, CanStep}
+use Rattle.cell_layer.specs.Kept.{seen}
 use Rattle.cell_layer.proofs.edges.walk_edge.Given as goal
 
 -- the parts that are left make of what is seen what all make of the beginning

@@ -1,7 +1,7 @@
 use Rattle.std.proofs.Common.{◌≡◌, take}
 use Rattle.std.specs.List.{All}
 use Rattle.cob_program.specs.ActView.{plain_stmt}
-use Rattle.cell_walk.specs.Statements.{number_in}
+use Rattle.cell_layer.specs.NumberedStatements.{number_in}
 use Rattle.cell_layer.proofs.statements.among.Given as goal
 
 abbrev pub invariant-loop-statement : goal.invariant-loop-statement

@@ -1,6 +1,6 @@
 use Rattle.std.proofs.Common.{◌≡◌, map}
 use Rattle.std.specs.Prelude.{take}
-use Rattle.cell_rows.specs.Rows.{lists_of}
+use Rattle.interval_domain.specs.Rows.{lists_of}
 use Rattle.cell_ranges.specs.Ranges.{ends_of}
 use Rattle.cell_ranges.proofs.ranges.all_ends.Given as goal
 

@@ -2,7 +2,7 @@ use Rattle.std.proofs.Common.{◌≡◌, map}
 use Rattle.std.specs.Prelude.{take}
 use Rattle.std.specs.List.{All}
 use Rattle.cell_steps.specs.Homes.{own_range}
-use Rattle.claimed_rows.specs.Gaps.{IsSmall}
+use Rattle.cert_text.specs.Gaps.{IsSmall}
 use Rattle.cell_ranges.proofs.ranges.own_ranges.Given as goal
 
 abbrev pub invariant-loop-cell : goal.invariant-loop-cell

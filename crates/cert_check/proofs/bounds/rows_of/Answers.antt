@@ -2,7 +2,7 @@ use Rattle.std.proofs.Common.{ap, ◌∙◌}
 use Rattle.std.specs.List.{flat_map}
 use Rattle.std.proofs.lemmas.List.{take_all}
 use Rattle.cert_text.specs.View.{place_of}
-use Rattle.claimed_rows.specs.MatrixClaims.{cells_in, claimed_row, sizes_of}
+use Rattle.cert_text.specs.MatrixClaims.{cells_in, claimed_row, sizes_of}
 use Rattle.cert_check.proofs.Taking.{joined_more}
 use Rattle.cert_check.proofs.bounds.rows_of.Goals as goal
 

@@ -3,7 +3,7 @@ use Rattle.std.specs.Prelude.{take}
 use Rattle.std.specs.List.{flat_map}
 use Rattle.cert_text.specs.View.{place_of}
 use Rattle.diff_bounds.specs.PackRows.{width_of}
-use Rattle.claimed_rows.specs.MatrixClaims.{cells_in, claimed_row, sizes_of}
+use Rattle.cert_text.specs.MatrixClaims.{cells_in, claimed_row, sizes_of}
 use Rattle.cert_check.proofs.bounds.rows_of.Given as goal
 
 abbrev pub invariant-loop-place : goal.invariant-loop-place

@@ -1,5 +1,5 @@
 use Rattle.cob_program.specs.ActView.{plain_program}
-use Rattle.cell_rows.specs.Rows.{lists_of}
+use Rattle.interval_domain.specs.Rows.{lists_of}
 use Rattle.cell_ranges.proofs.Sources.{lists_are_short, thresholds_of}
 use Rattle.cert_check.proofs.certificate.check_rows.Goals as goal
 

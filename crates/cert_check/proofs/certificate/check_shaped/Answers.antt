@@ -3,7 +3,7 @@ use Rattle.std.specs.List.{All}
 use Rattle.std.proofs.lemmas.List.{length-map}
 use Rattle.cob_program.specs.ActView.{plain_program}
 use Rattle.cell_steps.specs.Homes.{own_range}
-use Rattle.claimed_rows.specs.Gaps.{IsSmall}
+use Rattle.cert_text.specs.Gaps.{IsSmall}
 use Rattle.cell_ranges.specs.Ranges.{IsShort}
 use Rattle.cell_ranges.proofs.Sources.{graph_cells_short, graph_ranges}
 use Rattle.cert_check.proofs.certificate.check_shaped.Goals as goal

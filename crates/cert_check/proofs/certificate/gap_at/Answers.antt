@@ -2,9 +2,9 @@ use Rattle.std.proofs.Common.{◌≡◌, ap, ◌∙◌, subst, length, arith}
 use Rattle.std.specs.List.{All}
 use Rattle.cob_program.specs.ActView.{plain_program}
 use Rattle.cert_text.specs.View.{view, place_of}
-use Rattle.cell_rows.specs.Rows.{lists_of}
-use Rattle.claimed_rows.specs.Claims.{place_at}
-use Rattle.claimed_rows.specs.Gaps.{IsSmall}
+use Rattle.interval_domain.specs.Rows.{lists_of}
+use Rattle.cert_text.specs.Claims.{place_at}
+use Rattle.cert_text.specs.Gaps.{IsSmall}
 use Rattle.cell_steps.specs.Homes.{owns}
 use Rattle.cert_check.proofs.Asking.{is_said, is_small, place_there, claims_there}
 use Rattle.cert_check.proofs.LayerLaws.{layer_laws}

@@ -1,6 +1,6 @@
 use Rattle.cob_program.specs.ActView.{plain_program}
 use Rattle.cert_text.specs.View.{view}
-use Rattle.cell_rows.specs.Rows.{lists_of}
+use Rattle.interval_domain.specs.Rows.{lists_of}
 use Rattle.cert_check.proofs.Answering.{accepts, have_elements}
 use Rattle.cert_check.proofs.certificate.left_open.Goals as goal
 

@@ -1,7 +1,7 @@
 use Rattle.std.proofs.Common.{ap, subst, sym, ◌∙◌}
 use Rattle.cert_text.specs.View.{view}
 use Rattle.cert_text.specs.Allowed.{IsAllowed}
-use Rattle.claimed_rows.specs.MatrixClaims as matrices
+use Rattle.cert_text.specs.MatrixClaims as matrices
 use Rattle.cert_check.proofs.Beside.{listed_in, its_width, width_moved}
 use Rattle.cert_check.proofs.packs.check_layer.Goals as goal
 

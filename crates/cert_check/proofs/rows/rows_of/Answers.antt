@@ -1,7 +1,7 @@
 use Rattle.std.proofs.Common.{map, ap, ◌∙◌}
 use Rattle.std.proofs.lemmas.List.{take_all}
 use Rattle.cert_text.specs.View.{place_of}
-use Rattle.claimed_rows.specs.Claims.{claimed_row}
+use Rattle.cert_text.specs.Claims.{claimed_row}
 use Rattle.cert_check.proofs.Taking.{row_pushed}
 use Rattle.cert_check.proofs.rows.rows_of.Goals as goal
 

@@ -1,7 +1,7 @@
 use Rattle.std.proofs.Common.{◌≡◌, map}
 use Rattle.std.specs.Prelude.{take}
 use Rattle.cert_text.specs.View.{place_of}
-use Rattle.claimed_rows.specs.Claims.{claimed_row}
+use Rattle.cert_text.specs.Claims.{claimed_row}
 use Rattle.cert_check.specs.Rows.{words_of}
 use Rattle.cert_check.proofs.rows.rows_of.Given as goal
 

@@ -1,8 +1,8 @@
 use Rattle.std.proofs.Common.{List, map, sym, subst, arith}
 use Rattle.cob_tree.specs.declared.front.Clause.{Clause}
-use Rattle.cob_lexemes.specs.Steps.{signs, Leads, Lacks}
+use Rattle.cob_parse_expr.specs.Steps.{signs, Leads, Lacks}
 use Rattle.reading.specs.Readers.{fresh}
-use Rattle.cob_lexemes.specs.Classes.{of}
+use Rattle.cob_parse_expr.specs.LexemeClasses.{of}
 use Rattle.cob_parse_data.specs.Heads.{same_kind, clause_symbol, clause_kind_of, clause_head_of}
 use Rattle.cob_parse_data.specs.Reading.{clause_body}
 use Rattle.cob_parse_data.proofs.ClauseLoop.{Kept, kept_start, kept_on, kept_end, kept_fail}

@@ -1,5 +1,5 @@
 use Rattle.std.proofs.Common.{◌≤◌, length}
-use Rattle.cob_lexemes.specs.Classes.{of}
+use Rattle.cob_parse_expr.specs.LexemeClasses.{of}
 use Rattle.cob_parse_data.specs.Heads.{same_kind, clause_symbol, clause_kind_of, clause_head_of}
 use Rattle.cob_parse_data.specs.Reading.{clause_body}
 use Rattle.cob_parse_data.proofs.ClauseLoop.{Kept}

@@ -1,7 +1,7 @@
 use Rattle.std.proofs.Common.{List, Ok, sym, ap, ◌∙◌}
 use Rattle.cob_tree.specs.declared.front.Clause.TheVariants as made
 use Rattle.cob_tree.specs.declared.front.Range.{Range}
-use Rattle.cob_lexemes.specs.Steps.{signs}
+use Rattle.cob_parse_expr.specs.Steps.{signs}
 use Rattle.cob_parse_data.specs.Reading.{first_and}
 use Rattle.cob_parse_data.specs.Reading as reading
 use Rattle.cob_parse_data.proofs.ListLoop.{seen_read, seen_fails}

@@ -1,5 +1,5 @@
 use Rattle.std.proofs.Common.{◌≤◌, length}
-use Rattle.cob_lexemes.specs.Classes.{of}
+use Rattle.cob_parse_expr.specs.LexemeClasses.{of}
 use Rattle.cob_parse_data.specs.Heads.{same_kind, fd_symbol, fd_kind_of, fd_head_of}
 use Rattle.cob_parse_data.specs.Reading.{fd_body}
 use Rattle.cob_parse_data.proofs.ClauseLoop.{Kept}

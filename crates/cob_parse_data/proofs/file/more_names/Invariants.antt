@@ -1,5 +1,5 @@
 use Rattle.std.proofs.Common.{◌≤◌, length}
-use Rattle.cob_lexemes.specs.Classes.{name_symbol}
+use Rattle.cob_parse_expr.specs.LexemeClasses.{name_symbol}
 use Rattle.cob_parse_data.specs.Reading.{name}
 use Rattle.cob_parse_data.proofs.ListLoop.{Kept}
 use Rattle.cob_parse_data.proofs.file.more_names.Given as goal

@@ -1,8 +1,8 @@
 use Rattle.std.proofs.Common.{List, map, sym, subst, arith}
 use Rattle.cob_tree.specs.declared.front.SelClause.{SelClause}
-use Rattle.cob_lexemes.specs.Steps.{signs, Leads, Lacks}
+use Rattle.cob_parse_expr.specs.Steps.{signs, Leads, Lacks}
 use Rattle.reading.specs.Readers.{fresh}
-use Rattle.cob_lexemes.specs.Classes.{of}
+use Rattle.cob_parse_expr.specs.LexemeClasses.{of}
 use Rattle.cob_parse_data.specs.Heads.{same_kind, select_symbol, select_kind, select_head_of}
 use Rattle.cob_parse_data.specs.Reading.{select_body}
 use Rattle.cob_parse_data.proofs.ClauseLoop.{Kept, kept_start, kept_on, kept_end, kept_fail}

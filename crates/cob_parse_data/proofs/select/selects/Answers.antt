@@ -1,7 +1,7 @@
 use Rattle.std.proofs.Common.{List, sym, subst, ◌∙◌, arith}
 use Rattle.cob_tree.specs.declared.front.Select.{Select}
 use Rattle.cob_tree.specs.declared.keyword.Keyword.TheVariants as key
-use Rattle.cob_lexemes.specs.Classes.{the}
+use Rattle.cob_parse_expr.specs.LexemeClasses.{the}
 use Rattle.cob_parse_data.specs.Reading.{select}
 use Rattle.cob_parse_data.proofs.ListLoop.{Kept, kept_start, kept_on, kept_end, kept_fail}
 use Rattle.cob_parse_data.proofs.select.selects.Goals as goal

@@ -1,6 +1,6 @@
 use Rattle.std.proofs.Common.{◌≤◌, length}
 use Rattle.cob_tree.specs.declared.keyword.Keyword.TheVariants as key
-use Rattle.cob_lexemes.specs.Classes.{the}
+use Rattle.cob_parse_expr.specs.LexemeClasses.{the}
 use Rattle.cob_parse_data.specs.Reading.{select}
 use Rattle.cob_parse_data.proofs.ListLoop.{Kept}
 use Rattle.cob_parse_data.proofs.select.selects.Given as goal

@@ -1,6 +1,6 @@
 use Rattle.std.proofs.Common.{true, false, refl}
 use Rattle.reading.specs.Readers.{branch, stands}
-use Rattle.cob_lexemes.specs.Steps.{signs}
+use Rattle.cob_parse_expr.specs.Steps.{signs}
 use Rattle.cob_parse_expr.specs.Classes.{not_of}
 use Rattle.cob_parse_expr.specs.Reading.{group_at}
 use Rattle.cob_parse_expr.specs.CondReading.{asked_with, make_test}

@@ -10,11 +10,11 @@ use Rattle.cob_parse_expr.specs.Classes.{not_of, and_of, or_of, relation_of}
 use Rattle.cob_parse_expr.specs.Reading.{group_at}
 use Rattle.cob_parse_expr.specs.CondReading.{paren_at, cond_at, cond_goes, compared_with, subject_with, make_further, further_with, make_neg, neg_with, negs_with, make_conj, conj_with, conjs_with, make_cond}
 use Rattle.cob_parse_expr.specs.CondSteps.{last_neg, last_conj}
-use Rattle.cob_lexemes.specs.Steps.{signs, behind_word}
+use Rattle.cob_parse_expr.specs.Steps.{signs, behind_word}
 use Rattle.cob_parse_expr.proofs.ClassLaws.{and_told, or_told}
 use Rattle.cob_parse_expr.proofs.Loop.{goes_on, goes_end, goes_fails}
 use Rattle.cob_parse_expr.proofs.CondLemmas.{no_not, opened_is, opened_fails, bare_is, bare_fails, further_is, behind_not_is, no_not_is, conj_is, cond_is, last_neg_push, last_conj_push, conj_takes, cond_takes}
-use Rattle.cob_lexemes.proofs.StepLemmas.{gives_as, signs_length}
+use Rattle.cob_parse_expr.proofs.LexemeSteps.{gives_as, signs_length}
 use Rattle.cob_parse_expr.proofs.StepLemmas.{seq_first, seq_second, left_fails, left_read, right_fails, right_read, branch_fails, branch_read, not_unclosed, paren_none, paren_some, paren_lacks, nested_full, nested_wrong, nested_open, nested_closed}
 use Rattle.cob_parse_expr.proofs.cond.+cond.Goals as goal
 

@@ -5,7 +5,7 @@ use Rattle.cob_parse_expr.specs.Classes.{and_of, or_of}
 use Rattle.cob_parse_expr.specs.Reading.{group_at}
 use Rattle.cob_parse_expr.specs.CondReading.{paren_at, neg_with, conj_with}
 use Rattle.cob_parse_expr.specs.CondSteps.{last_neg, last_conj}
-use Rattle.cob_lexemes.specs.Steps.{signs, behind_word}
+use Rattle.cob_parse_expr.specs.Steps.{signs, behind_word}
 use Rattle.cob_parse_expr.proofs.Loop.{Goes}
 use Rattle.cob_parse_expr.proofs.cond.+cond.Given as goal
 

@@ -5,8 +5,8 @@ use Rattle.cob_tree.specs.Cond.{Simple, parenthesised}
 use Rattle.cob_tree.specs.CondView.{plain_cond, plain_simple}
 use Rattle.cob_tree.specs.PrintExpr.{one_alone}
 use Rattle.reading.proofs.Results.{done, ok_is}
-use Rattle.cob_lexemes.specs.Steps.{signs}
-use Rattle.cob_lexemes.proofs.StepLemmas.{gives_as}
+use Rattle.cob_parse_expr.specs.Steps.{signs}
+use Rattle.cob_parse_expr.proofs.LexemeSteps.{gives_as}
 use Rattle.cob_parse_expr.specs.Reading.{group_at}
 use Rattle.cob_parse_expr.specs.CondSteps.{subject_after, subject_behind}
 use Rattle.cob_parse_expr.proofs.StepLemmas.{memory_alone}

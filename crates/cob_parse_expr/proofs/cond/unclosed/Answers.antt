@@ -1,6 +1,6 @@
 use Rattle.std.proofs.Common.{sym, ◌∙◌}
-use Rattle.cob_lexemes.specs.Steps.{signs}
-use Rattle.cob_lexemes.proofs.StepLemmas.{signs_length}
+use Rattle.cob_parse_expr.specs.Steps.{signs}
+use Rattle.cob_parse_expr.proofs.LexemeSteps.{signs_length}
 use Rattle.cob_parse_expr.proofs.StepLemmas.{unclosed_on, unclosed_off, unclosed_lacks}
 use Rattle.cob_parse_expr.proofs.cond.unclosed.Goals as goal
 

@@ -5,10 +5,10 @@ use Rattle.cob_tree.specs.ExprView.{plain_expr, plain_term, plain_fact, plain_pr
 use Rattle.reading.specs.Readers.{branch, stands}
 use Rattle.cob_parse_expr.specs.Classes.{scaling_of, sign_of}
 use Rattle.cob_parse_expr.specs.Reading.{group_at, primary_with, make_fact, fact_with, factors_with, make_term, term_with, summands_with, make_expr, expr_at, expr_goes}
-use Rattle.cob_lexemes.specs.Steps.{signs}
+use Rattle.cob_parse_expr.specs.Steps.{signs}
 use Rattle.cob_parse_expr.proofs.ClassLaws.{scaling_told, sign_told}
 use Rattle.cob_parse_expr.proofs.Loop.{goes_on, goes_end, goes_fails}
-use Rattle.cob_lexemes.proofs.StepLemmas.{signs_length}
+use Rattle.cob_parse_expr.proofs.LexemeSteps.{signs_length}
 use Rattle.cob_parse_expr.proofs.StepLemmas.{seq_first, seq_second, seq_read, left_fails, left_read, right_fails, branch_fails, branch_read, stays_open, group_none, group_some, group_lacks, nested_full, nested_wrong, nested_open, nested_closed}
 use Rattle.cob_parse_expr.proofs.expr.+expr.Goals as goal
 

@@ -3,7 +3,7 @@ use Rattle.cob_tree.specs.Cues.{Scales, Signs}
 use Rattle.cob_tree.specs.ExprView.{added, multiplied}
 use Rattle.cob_parse_expr.specs.Classes.{scaling_of, sign_of}
 use Rattle.cob_parse_expr.specs.Reading.{group_at, fact_with, term_with}
-use Rattle.cob_lexemes.specs.Steps.{signs}
+use Rattle.cob_parse_expr.specs.Steps.{signs}
 use Rattle.cob_parse_expr.proofs.Loop.{Goes}
 use Rattle.cob_parse_expr.proofs.expr.+expr.Given as goal
 

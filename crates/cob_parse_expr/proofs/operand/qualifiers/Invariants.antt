@@ -2,7 +2,7 @@ use Rattle.std.proofs.Common.{◌≤◌, length, map}
 use Rattle.reading.specs.Readers.{lead}
 use Rattle.cob_tree.specs.Cues.{Qualifies}
 use Rattle.cob_parse_expr.specs.Classes.{name_of, of_of}
-use Rattle.cob_lexemes.specs.Steps.{signs, behind_word}
+use Rattle.cob_parse_expr.specs.Steps.{signs, behind_word}
 use Rattle.cob_parse_expr.proofs.Loop.{Goes}
 use Rattle.cob_parse_expr.proofs.operand.qualifiers.Given as goal
 

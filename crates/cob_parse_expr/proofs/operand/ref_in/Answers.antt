@@ -1,6 +1,6 @@
 use Rattle.std.proofs.Common.{◌≡◌, List, ℕ, Ok, refl, ap, sym, ◌∙◌}
 use Rattle.cob_tree.specs.declared.operand.Ref.{Ref}
-use Rattle.cob_lexemes.specs.Steps.{signs}
+use Rattle.cob_parse_expr.specs.Steps.{signs}
 use Rattle.cob_parse_expr.proofs.StepLemmas.{bare}
 use Rattle.cob_parse_expr.proofs.operand.ref_in.Goals as goal
 

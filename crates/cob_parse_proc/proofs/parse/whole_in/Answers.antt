@@ -1,7 +1,7 @@
 use Rattle.std.proofs.Common.{sym, ◌∙◌}
 use Rattle.std.proofs.lemmas.Bool.{eqb-true, eqb-false}
 use Rattle.cob_tree.specs.StmtView.{plain_tree}
-use Rattle.cob_lexemes.specs.Steps.{signs}
+use Rattle.cob_parse_expr.specs.Steps.{signs}
 use Rattle.cob_parse_proc.proofs.ParseLemmas.{whole_wrong, whole_read, whole_left}
 use Rattle.cob_parse_proc.proofs.parse.whole_in.Goals as goal
 

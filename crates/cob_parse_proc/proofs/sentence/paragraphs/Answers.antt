@@ -3,7 +3,7 @@ use Rattle.std.proofs.lemmas.List.{map_push}
 use Rattle.cob_tree.specs.Stmt.{Paragraph}
 use Rattle.cob_tree.specs.StmtView.{plain_paragraph}
 use Rattle.cob_parse_data.proofs.ListLoop.{Kept, kept_start, kept_on, kept_end, kept_fail}
-use Rattle.cob_lexemes.specs.Classes.{name_symbol}
+use Rattle.cob_parse_expr.specs.LexemeClasses.{name_symbol}
 use Rattle.cob_parse_proc.specs.Program.{limit, paragraph_at}
 use Rattle.cob_parse_proc.proofs.sentence.paragraphs.Goals as goal
 

@@ -1,7 +1,7 @@
 use Rattle.std.proofs.Common.{◌≤◌, length, map}
 use Rattle.cob_tree.specs.StmtView.{plain_paragraph}
 use Rattle.cob_parse_data.proofs.ListLoop.{Kept}
-use Rattle.cob_lexemes.specs.Classes.{name_symbol}
+use Rattle.cob_parse_expr.specs.LexemeClasses.{name_symbol}
 use Rattle.cob_parse_proc.specs.Program.{limit, paragraph_at}
 use Rattle.cob_parse_proc.proofs.sentence.paragraphs.Given as goal
 

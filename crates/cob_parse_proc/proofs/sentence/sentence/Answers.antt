@@ -1,7 +1,7 @@
 use Rattle.std.proofs.Common.{ℕ, Ok, Err, sym, ap, ◌∙◌}
 use Rattle.reading.specs.Readers.{Stop}
 use Rattle.cob_tree.specs.Stmt.{Stmts}
-use Rattle.cob_lexemes.specs.Steps.{signs}
+use Rattle.cob_parse_expr.specs.Steps.{signs}
 use Rattle.cob_parse_proc.specs.StmtSteps.{plain_list}
 use Rattle.cob_parse_proc.proofs.SentenceSteps.{sentence_read, sentence_open, sentence_wrong}
 use Rattle.cob_parse_proc.proofs.sentence.sentence.Goals as goal

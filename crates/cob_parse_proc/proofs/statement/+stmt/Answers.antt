@@ -6,8 +6,8 @@ use Rattle.cob_tree.specs.declared.keyword.Keyword.{Keyword}
 use Rattle.cob_tree.specs.Stmt.{stmts_of, whens_of, Stmt, When}
 use Rattle.cob_tree.specs.StmtView.{plain_sel, plain_stmt, plain_tail, plain_verb, plain_when}
 use Rattle.cob_tree.specs.Takes.{takes_stmts, takes_whens, takes_when, takes_stmt}
-use Rattle.cob_lexemes.specs.Steps.{signs}
-use Rattle.cob_lexemes.proofs.StepLemmas.{gives_as, signs_length}
+use Rattle.cob_parse_expr.specs.Steps.{signs}
+use Rattle.cob_parse_expr.proofs.LexemeSteps.{gives_as, signs_length}
 use Rattle.cob_parse_verb.specs.declared.head.Head.{Head}
 use Rattle.cob_parse_verb.specs.Heads.{end_word}
 use Rattle.cob_parse_verb.specs.VerbSteps.{plain_arithmetic, plain_head}

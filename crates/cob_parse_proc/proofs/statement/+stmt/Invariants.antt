@@ -2,7 +2,7 @@ use Rattle.std.proofs.Common.{◌≡◌, ◌+◌, ◌*◌, ◌-◌, ◌≤◌, �
 use Rattle.cob_tree.specs.Stmt.{stmts_of, whens_of}
 use Rattle.cob_tree.specs.StmtView.{plain_stmt, plain_when}
 use Rattle.cob_tree.specs.Takes.{takes_stmts, takes_whens}
-use Rattle.cob_lexemes.specs.Steps.{signs}
+use Rattle.cob_parse_expr.specs.Steps.{signs}
 use Rattle.cob_parse_proc.specs.Reading.{stmt_with, stmts_at}
 use Rattle.cob_parse_proc.specs.StmtSteps.{may}
 use Rattle.cob_parse_proc.proofs.StmtLoops.{Listed, Chosen}

@@ -1,5 +1,5 @@
 use Rattle.std.proofs.Common.{◌∙◌}
-use Rattle.cob_lexemes.specs.Steps.{signs}
+use Rattle.cob_parse_expr.specs.Steps.{signs}
 use Rattle.cob_parse_proc.specs.Reading.{one_word}
 use Rattle.cob_parse_proc.proofs.StmtAnswers.{both_some, both_none}
 use Rattle.cob_parse_proc.proofs.token.both_behind.Goals as goal

@@ -1,5 +1,5 @@
-use Rattle.cob_lexemes.specs.Steps.{signs}
-use Rattle.cob_lexemes.proofs.StepLemmas.{gives_as}
+use Rattle.cob_parse_expr.specs.Steps.{signs}
+use Rattle.cob_parse_expr.proofs.LexemeSteps.{gives_as}
 use Rattle.cob_parse_verb.proofs.VerbLemmas.{division_into, division_by}
 use Rattle.cob_parse_verb.proofs.arithmetic.divide_in.Goals as goal
 

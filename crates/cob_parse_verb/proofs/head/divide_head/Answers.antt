@@ -1,5 +1,5 @@
 use Rattle.std.proofs.Common.{sym}
-use Rattle.cob_lexemes.specs.Steps.{signs}
+use Rattle.cob_parse_expr.specs.Steps.{signs}
 use Rattle.cob_parse_verb.specs.Sums.{divide_at}
 use Rattle.cob_parse_verb.specs.VerbSteps.{plain_arithmetic}
 use Rattle.cob_parse_verb.proofs.VerbLemmas.{arithmetic_never, sum_fails, sum_read}

@@ -1,7 +1,7 @@
 use Rattle.std.proofs.Common.{sym, ◌∙◌, arith}
 use Rattle.std.proofs.lemmas.List.{length-map}
 use Rattle.cob_tree.specs.Cues.{is, Modes}
-use Rattle.cob_lexemes.specs.Steps.{signs}
+use Rattle.cob_parse_expr.specs.Steps.{signs}
 use Rattle.cob_parse_verb.specs.Lists.{opens_at}
 use Rattle.cob_parse_verb.proofs.ListSteps.{list_first, list_on, list_fails, list_end}
 use Rattle.cob_parse_verb.proofs.list.files_in.Goals as goal

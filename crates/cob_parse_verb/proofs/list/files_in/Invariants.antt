@@ -1,6 +1,6 @@
 use Rattle.std.proofs.Common.{◌≤◌, length}
 use Rattle.cob_tree.specs.Cues.{is, Modes}
-use Rattle.cob_lexemes.specs.Steps.{signs}
+use Rattle.cob_parse_expr.specs.Steps.{signs}
 use Rattle.cob_parse_verb.specs.Lists.{opens_at}
 use Rattle.cob_parse_verb.proofs.ListSteps.{Listing}
 use Rattle.cob_parse_verb.proofs.list.files_in.Given as goal

@@ -2,7 +2,7 @@ use Rattle.std.proofs.Common.{◌≤◌, length}
 use Rattle.cob_tree.specs.Cues.{is, Names}
 use Rattle.reading.specs.Readers.{lead}
 use Rattle.cob_parse_expr.specs.Classes.{name_of}
-use Rattle.cob_lexemes.specs.Steps.{signs}
+use Rattle.cob_parse_expr.specs.Steps.{signs}
 use Rattle.cob_parse_verb.proofs.ListSteps.{Listing}
 use Rattle.cob_parse_verb.proofs.list.names_in.Given as goal
 

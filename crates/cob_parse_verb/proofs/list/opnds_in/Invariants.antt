@@ -1,7 +1,7 @@
 use Rattle.std.proofs.Common.{◌≤◌, length}
 use Rattle.cob_tree.specs.Takes.{begins_opnd}
 use Rattle.cob_parse_expr.specs.Reading.{opnd_at}
-use Rattle.cob_lexemes.specs.Steps.{signs}
+use Rattle.cob_parse_expr.specs.Steps.{signs}
 use Rattle.cob_parse_verb.proofs.ListSteps.{Listing}
 use Rattle.cob_parse_verb.proofs.list.opnds_in.Given as goal
 

@@ -1,4 +1,4 @@
-use Rattle.cob_lexemes.specs.Steps.{signs}
+use Rattle.cob_parse_expr.specs.Steps.{signs}
 use Rattle.cob_parse_verb.proofs.VerbLemmas.{rounded_on, rounded_off}
 use Rattle.cob_parse_verb.proofs.list.recv_in.Goals as goal
 

@@ -1,6 +1,6 @@
 use Rattle.std.proofs.Common.{◌≤◌, length}
 use Rattle.cob_tree.specs.Cues.{is, Names}
-use Rattle.cob_lexemes.specs.Steps.{signs}
+use Rattle.cob_parse_expr.specs.Steps.{signs}
 use Rattle.cob_parse_verb.specs.Lists.{recv_at}
 use Rattle.cob_parse_verb.proofs.ListSteps.{Listing}
 use Rattle.cob_parse_verb.proofs.list.recvs_in.Given as goal

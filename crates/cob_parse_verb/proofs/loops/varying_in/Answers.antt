@@ -1,4 +1,4 @@
-use Rattle.cob_lexemes.specs.Steps.{signs}
+use Rattle.cob_parse_expr.specs.Steps.{signs}
 use Rattle.cob_parse_verb.proofs.VerbLemmas.{varying_read}
 use Rattle.cob_parse_verb.proofs.loops.varying_in.Goals as goal
 

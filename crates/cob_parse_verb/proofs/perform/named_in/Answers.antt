@@ -1,6 +1,6 @@
 use Rattle.std.proofs.Common.{sym, ◌∙◌}
-use Rattle.cob_lexemes.specs.Steps.{signs}
-use Rattle.cob_lexemes.proofs.StepLemmas.{gives_as}
+use Rattle.cob_parse_expr.specs.Steps.{signs}
+use Rattle.cob_parse_expr.proofs.LexemeSteps.{gives_as}
 use Rattle.cob_parse_verb.proofs.VerbLemmas.{named_counted, named_ranged}
 use Rattle.cob_parse_verb.proofs.perform.named_in.Goals as goal
 

@@ -1,6 +1,6 @@
 use Rattle.std.proofs.Common.{sym, ◌∙◌}
-use Rattle.cob_lexemes.specs.Steps.{signs}
-use Rattle.cob_lexemes.proofs.StepLemmas.{gives_as}
+use Rattle.cob_parse_expr.specs.Steps.{signs}
+use Rattle.cob_parse_expr.proofs.LexemeSteps.{gives_as}
 use Rattle.cob_parse_verb.proofs.VerbLemmas.{performed_named, performed_unnamed}
 use Rattle.cob_parse_verb.proofs.perform.perform_in.Goals as goal
 

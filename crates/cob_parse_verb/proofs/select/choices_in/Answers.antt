@@ -4,7 +4,7 @@ use Rattle.cob_tree.specs.Cues.{is, NotRelates, Whens}
 use Rattle.cob_tree.specs.Stmt.{Sel}
 use Rattle.cob_tree.specs.StmtView.{plain_sel}
 use Rattle.cob_tree.specs.Takes.{takes_sel}
-use Rattle.cob_lexemes.specs.Steps.{signs}
+use Rattle.cob_parse_expr.specs.Steps.{signs}
 use Rattle.cob_parse_verb.specs.Listed.{takes_listed}
 use Rattle.cob_parse_verb.specs.Turning.{choice_at}
 use Rattle.cob_parse_verb.proofs.ListSteps.{list_first, list_on, list_fails, list_end}

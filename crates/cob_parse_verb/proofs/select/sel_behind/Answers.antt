@@ -4,7 +4,7 @@ use Rattle.cob_tree.specs.Cues.{NotRelates}
 use Rattle.cob_tree.specs.ExprView.{plain_expr}
 use Rattle.cob_tree.specs.Stmt.{Sel}
 use Rattle.cob_tree.specs.Takes.{takes_sel}
-use Rattle.cob_lexemes.specs.Steps.{signs}
+use Rattle.cob_parse_expr.specs.Steps.{signs}
 use Rattle.cob_parse_expr.proofs.CondLemmas.{no_not}
 use Rattle.cob_parse_verb.proofs.VerbLemmas.{sel_high, sel_high_fails}
 use Rattle.cob_parse_verb.proofs.select.sel_behind.Goals as goal

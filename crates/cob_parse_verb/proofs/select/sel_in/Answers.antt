@@ -1,6 +1,6 @@
 use Rattle.cob_tree.specs.CondView.{plain_cond}
-use Rattle.cob_lexemes.specs.Steps.{signs}
-use Rattle.cob_lexemes.proofs.StepLemmas.{gives_as}
+use Rattle.cob_parse_expr.specs.Steps.{signs}
+use Rattle.cob_parse_expr.proofs.LexemeSteps.{gives_as}
 use Rattle.cob_parse_verb.proofs.VerbLemmas.{sel_on_cond}
 use Rattle.cob_parse_verb.proofs.select.sel_in.Goals as goal
 

@@ -1,5 +1,5 @@
 use Rattle.std.proofs.Common.{Ok, ap, ◌∙◌}
-use Rattle.cob_lexemes.specs.Steps.{signs}
+use Rattle.cob_parse_expr.specs.Steps.{signs}
 use Rattle.cob_parse_verb.specs.declared.target.Aim.{Aim}
 use Rattle.cob_parse_verb.specs.Lists.{recvs_at}
 use Rattle.cob_parse_verb.specs.VerbSteps.{plain_aim}

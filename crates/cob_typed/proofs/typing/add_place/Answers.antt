@@ -1,6 +1,6 @@
 use Rattle.std.proofs.Common.{◌∙◌, ap, Some}
 use Rattle.std.proofs.lemmas.Map.Text.{hash_map_updates_str}
-use Rattle.cob_names.specs.Search.{found_and}
+use Rattle.cob_typed_exprs.specs.Search.{found_and}
 use Rattle.cob_typed.proofs.ParaLemmas.{place_added}
 use Rattle.cob_typed.proofs.typing.add_place.Goals as goal
 

@@ -1,5 +1,5 @@
 use Rattle.std.proofs.Common.{◌∙◌, ◌+◌, sym, ap, map, take, bytes_eq, if◌then◌else◌}
-use Rattle.cob_names.specs.Search.{found_and}
+use Rattle.cob_typed_exprs.specs.Search.{found_and}
 use Rattle.cob_typed_exprs.specs.Scope.{found_in, paras_from}
 use Rattle.cob_typed_exprs.specs.Paras.{para_in}
 use Rattle.cob_typed.proofs.ParaLemmas.{paras_step}

@@ -1,8 +1,8 @@
 use Rattle.std.proofs.Common.{take, drop, ap, subst, ◌∙◌, arith}
 use Rattle.std.specs.List.{AllByRecursion}
 use Rattle.cob_program.specs.ActView.{plain_program}
-use Rattle.borrowed_parts.specs.PartView.{plain_divisor}
-use Rattle.cell_rows.specs.Rows.{cells_of}
+use Rattle.edge_amounts.specs.PartView.{plain_divisor}
+use Rattle.interval_domain.specs.Rows.{cells_of}
 use Rattle.diff_layer.specs.Clears.{divisor_apart}
 use Rattle.diff_layer.specs.Plans.{IsPlanOf}
 use Rattle.diff_layer.proofs.PackRows.{named, its_matrix, other_rows, shown_first, shown_later}

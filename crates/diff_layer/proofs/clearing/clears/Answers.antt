@@ -1,10 +1,10 @@
 use Rattle.std.proofs.Common.{sym, ap, ◌∙◌}
 use Rattle.std.specs.Option.{option_map}
 use Rattle.cob_program.specs.ActView.{plain_program, plain_stmt}
-use Rattle.borrowed_parts.specs.PartView.{plain_part, edge_parts}
-use Rattle.cell_walk.specs.Kept.{seen}
-use Rattle.cell_walk.specs.Statements.{act_in}
-use Rattle.cell_walk.proofs.Stepping.{small_part, held_at}
+use Rattle.edge_amounts.specs.PartView.{plain_part, edge_parts}
+use Rattle.cell_layer.specs.Kept.{seen}
+use Rattle.cell_layer.specs.NumberedStatements.{act_in}
+use Rattle.cell_layer.proofs.Stepping.{small_part, held_at}
 use Rattle.diff_layer.specs.Clears.{part_cleared}
 use Rattle.diff_layer.specs.Parts.{IsOfEdge}
 use Rattle.diff_layer.specs.Plans.{plain_plans, matrices_for}

@@ -1,8 +1,8 @@
 use Rattle.std.proofs.Common.{◌∙◌}
 use Rattle.dec_num.specs.declared.types.Mode.TheVariants.{Trunc}
 use Rattle.cob_program.specs.ActView.{plain_program}
-use Rattle.borrowed_parts.specs.PartView.{plain_part}
-use Rattle.cell_rows.specs.Rows.{cells_of}
+use Rattle.edge_amounts.specs.PartView.{plain_part}
+use Rattle.interval_domain.specs.Rows.{cells_of}
 use Rattle.diff_layer.specs.Clears.{both_shown}
 use Rattle.diff_layer.specs.Plans.{plain_plans, matrices_for}
 use Rattle.diff_layer.proofs.clearing.counter_fits.Goals as goal

@@ -1,6 +1,6 @@
 use Rattle.cob_program.specs.ActView.{plain_program}
-use Rattle.cell_rows.specs.Rows.{cells_of}
-use Rattle.cell_walk.proofs.CounterRanges.{count_is_small}
+use Rattle.interval_domain.specs.Rows.{cells_of}
+use Rattle.cell_layer.proofs.CounterRanges.{count_is_small}
 use Rattle.diff_layer.proofs.clearing.down_clears.Goals as goal
 
 pub lowered-units-requires-clause-low : goal.lowered-units-requires-clause-low

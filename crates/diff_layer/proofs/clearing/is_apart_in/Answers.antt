@@ -4,8 +4,8 @@ use Rattle.diff_bounds.specs.Matrix.{IsMatrix}
 use Rattle.diff_steps.specs.Packs.{size_of}
 use Rattle.pack_forms.specs.Cells.{plain_cell}
 use Rattle.cob_program.specs.ActView.{plain_program}
-use Rattle.borrowed_parts.specs.PartView.{plain_divisor}
-use Rattle.cell_rows.specs.Rows.{cells_of}
+use Rattle.edge_amounts.specs.PartView.{plain_divisor}
+use Rattle.interval_domain.specs.Rows.{cells_of}
 use Rattle.diff_layer.specs.Plans.{plain_plan}
 use Rattle.diff_layer.proofs.Divisors.{apart_is}
 use Rattle.diff_layer.proofs.KnownEnds.{few_decimals}

@@ -1,7 +1,7 @@
 use Rattle.std.proofs.Common.{◌∙◌, sym, ap}
 use Rattle.cob_program.specs.ActView.{plain_act, plain_program}
-use Rattle.borrowed_parts.specs.PartView.{plain_part}
-use Rattle.cell_walk.specs.Kept.{seen}
+use Rattle.edge_amounts.specs.PartView.{plain_part}
+use Rattle.cell_layer.specs.Kept.{seen}
 use Rattle.diff_layer.specs.Clears.{set_cleared, part_cleared}
 use Rattle.diff_layer.specs.Plans.{plain_plans, matrices_for}
 use Rattle.diff_layer.specs.Walks.{seen2}

@@ -1,6 +1,6 @@
 use Rattle.std.proofs.Common.{◌≡◌, true, false, rules, arith, if◌then◌else◌, Some, None, sym, ap, ◌∙◌}
 use Rattle.cob_program.specs.ActView.{plain_program, plain_stmt}
-use Rattle.cell_rows.specs.Rows.{cells_of}
+use Rattle.interval_domain.specs.Rows.{cells_of}
 use Rattle.diff_layer.specs.Plans.{matrices_for}
 use Rattle.diff_layer.proofs.WalkSteps.{clear_begins, clears_on, clear_stops, clear_fails, clear_ends, clears_from_closed}
 use Rattle.diff_layer.proofs.clearing.packs_clear.Goals as goal

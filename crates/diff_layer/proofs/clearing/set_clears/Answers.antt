@@ -1,9 +1,9 @@
 use Rattle.std.proofs.Common.{◌∙◌, ap}
 use Rattle.cob_program.specs.ActView.{plain_act, plain_program}
-use Rattle.borrowed_parts.specs.PartView.{plain_part}
-use Rattle.cell_rows.specs.Rows.{cells_of}
+use Rattle.edge_amounts.specs.PartView.{plain_part}
+use Rattle.interval_domain.specs.Rows.{cells_of}
 use Rattle.cell_steps.specs.Seen.{Seen}
-use Rattle.cell_walk.specs.Kept.{seen}
+use Rattle.cell_layer.specs.Kept.{seen}
 use Rattle.pack_forms.proofs.KeptSmall.{kept_small}
 use Rattle.diff_layer.specs.Clears.{count_shown}
 use Rattle.diff_layer.specs.Plans.{plain_plans, matrices_for}

@@ -1,10 +1,10 @@
 use Rattle.std.specs.Prelude.{IfSome}
 use Rattle.std.proofs.Common.{sym, subst}
 use Rattle.cob_program.specs.ActView.{plain_act, plain_program}
-use Rattle.borrowed_parts.specs.PartView.{plain_amount}
-use Rattle.result_ranges.specs.Sizes.{IsSmallAmount}
-use Rattle.cell_walk.specs.Kept.{seen}
-use Rattle.cell_walk.proofs.Stepping.{can_work, small_amounts}
+use Rattle.edge_amounts.specs.PartView.{plain_amount}
+use Rattle.transfer_ranges.specs.Sizes.{IsSmallAmount}
+use Rattle.cell_layer.specs.Kept.{seen}
+use Rattle.cell_layer.proofs.Stepping.{can_work, small_amounts}
 use Rattle.pack_forms.proofs.KeptSmall.{kept_small}
 use Rattle.diff_layer.proofs.clearing.store_fits.Goals as goal
 

@@ -1,6 +1,6 @@
 use Rattle.std.proofs.Common.{◌++◌, take, drop, ap, subst, ◌∙◌, arith}
 use Rattle.cob_program.specs.ActView.{plain_program}
-use Rattle.cell_rows.specs.Rows.{cells_of}
+use Rattle.interval_domain.specs.Rows.{cells_of}
 use Rattle.diff_layer.specs.Plans.{IsPlanOf, matrices_for}
 use Rattle.diff_layer.proofs.PackRows.{named, its_matrix, other_rows, rows_together, closed_together, not_closed, closed_rows_together}
 use Rattle.std.specs.List.{AllByRecursion}

@@ -2,7 +2,7 @@ use Rattle.std.proofs.Common.{List, length, if◌then◌else◌, Some, None, sym
 use Rattle.std.proofs.lemmas.List.{length-map}
 use Rattle.diff_bounds.specs.Matrix.{IsMatrix}
 use Rattle.cob_program.specs.ActView.{plain_program}
-use Rattle.cell_rows.specs.Rows.{cells_of}
+use Rattle.interval_domain.specs.Rows.{cells_of}
 use Rattle.cell_steps.specs.Homes.{homes_of}
 use Rattle.pack_forms.specs.KnownCells.{HaveEnds}
 use Rattle.pack_forms.specs.Tight.{IsTightIfSettled}

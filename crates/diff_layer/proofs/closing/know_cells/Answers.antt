@@ -1,6 +1,6 @@
 use Rattle.std.proofs.Common.{rules, arith, get_or, refl, ◌∙◌, ap}
 use Rattle.cob_program.specs.ActView.{plain_program}
-use Rattle.cell_rows.specs.Rows.{cells_of}
+use Rattle.interval_domain.specs.Rows.{cells_of}
 use Rattle.pack_forms.specs.declared.cells.PackCell.TheVariants.{Item}
 use Rattle.pack_forms.specs.Cells.{plain_cell}
 use Rattle.diff_layer.specs.Plans.{plain_plan}

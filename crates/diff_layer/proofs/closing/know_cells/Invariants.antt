@@ -1,5 +1,5 @@
 use Rattle.cob_program.specs.ActView.{plain_program}
-use Rattle.cell_rows.specs.Rows.{cells_of}
+use Rattle.interval_domain.specs.Rows.{cells_of}
 use Rattle.pack_forms.specs.Cells.{plain_cell}
 use Rattle.diff_layer.proofs.Filling.{IsFilledTo}
 use Rattle.diff_layer.proofs.KnownEnds.{known_by}

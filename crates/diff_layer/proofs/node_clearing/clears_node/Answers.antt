@@ -3,7 +3,7 @@ use Rattle.std.specs.List.Sorted.{IsNonDecreasingBy}
 use Rattle.std.proofs.lemmas.Bool.{eqb-true, eqb-false}
 use Rattle.cob_program.specs.ActView.{plain_program}
 use Rattle.cob_graph.specs.declared.graph.Edge.{Edge}
-use Rattle.cell_rows.specs.Rows.{cells_of}
+use Rattle.interval_domain.specs.Rows.{cells_of}
 use Rattle.graph_runs.specs.Places.{no_edge}
 use Rattle.cell_layer.proofs.OwnEdges.{edges_rise, stands_among, earlier, one_more, behind_own, all_clear, one_unclear}
 use Rattle.diff_layer.specs.Plans.{plain_plans, matrices_for}

@@ -1,9 +1,9 @@
 use Rattle.std.proofs.Common.{◌++◌, take, drop, ap, subst, ◌∙◌, arith}
 use Rattle.std.specs.List.{AllByRecursion}
 use Rattle.cob_program.specs.ActView.{plain_program}
-use Rattle.borrowed_parts.specs.PartView.{plain_part}
-use Rattle.cell_rows.specs.Rows.{cells_of}
-use Rattle.cell_walk.specs.Kept.{latest_of}
+use Rattle.edge_amounts.specs.PartView.{plain_part}
+use Rattle.interval_domain.specs.Rows.{cells_of}
+use Rattle.cell_layer.specs.Kept.{latest_of}
 use Rattle.diff_layer.specs.Parts.{plan_changed}
 use Rattle.diff_layer.specs.Plans.{IsPlanOf, matrices_for}
 use Rattle.diff_layer.proofs.PackRows.{named, its_matrix, closed_matrix, closed_others, closed_rows_together, passed_together, not_passed}

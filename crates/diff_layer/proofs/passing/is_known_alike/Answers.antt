@@ -1,8 +1,8 @@
 use Rattle.std.proofs.Common.{refl, sym, ◌∙◌}
 use Rattle.cob_program.specs.ActView.{plain_program}
-use Rattle.cell_rows.specs.Rows.{cells_of}
-use Rattle.cell_walk.specs.ProgramRows.{known_in}
-use Rattle.cell_walk.proofs.CellNumbers.{number_fits, known_by_number}
+use Rattle.interval_domain.specs.Rows.{cells_of}
+use Rattle.cell_layer.specs.ProgramRows.{known_in}
+use Rattle.cell_layer.proofs.CellNumbers.{number_fits, known_by_number}
 use Rattle.pack_forms.specs.Cells.{plain_cell}
 use Rattle.diff_layer.proofs.passing.is_known_alike.Goals as goal
 

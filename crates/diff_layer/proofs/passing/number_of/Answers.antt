@@ -1,6 +1,6 @@
 use Rattle.std.proofs.Common.{sym, ap, ◌∙◌}
 use Rattle.cob_program.specs.ActView.{plain_program}
-use Rattle.cell_amounts.specs.Numbers.{number_of}
+use Rattle.edge_amounts.specs.Numbers.{number_of}
 use Rattle.pack_forms.specs.Cells.{plain_cell}
 use Rattle.diff_layer.proofs.passing.number_of.Goals as goal
 

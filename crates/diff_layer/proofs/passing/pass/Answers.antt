@@ -1,8 +1,8 @@
 use Rattle.std.proofs.Common.{if◌then◌else◌, Some, None, sym, ap, subst, ◌∙◌}
 use Rattle.cob_program.specs.ActView.{plain_program}
-use Rattle.borrowed_parts.specs.PartView.{plain_part}
-use Rattle.cell_rows.specs.Rows.{cells_of}
-use Rattle.cell_walk.specs.Kept.{latest_of}
+use Rattle.edge_amounts.specs.PartView.{plain_part}
+use Rattle.interval_domain.specs.Rows.{cells_of}
+use Rattle.cell_layer.specs.Kept.{latest_of}
 use Rattle.diff_layer.specs.Closed.{AreClosedBy, IsClosedRow}
 use Rattle.diff_layer.specs.Plans.{plain_plans, matrices_for}
 use Rattle.diff_layer.proofs.Idle.{idle_closed}

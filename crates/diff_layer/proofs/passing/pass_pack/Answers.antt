@@ -1,7 +1,7 @@
 use Rattle.std.proofs.Common.{sym, ap, subst, ◌∙◌}
 use Rattle.cob_program.specs.ActView.{plain_program}
 use Rattle.diff_bounds.specs.Matrix.{IsMatrix}
-use Rattle.cell_rows.specs.Rows.{cells_of}
+use Rattle.interval_domain.specs.Rows.{cells_of}
 use Rattle.cell_steps.specs.Homes.{homes_of}
 use Rattle.diff_steps.specs.Matrices.{put_closed}
 use Rattle.diff_steps.specs.Packs.{size_of}

@@ -1,8 +1,8 @@
 use Rattle.std.proofs.Common.{◌||◌, ◌++◌, [], sym, ap, ◌∙◌}
 use Rattle.std.specs.Option.{option_map, option_map_or}
 use Rattle.cob_program.specs.ActView.{plain_stmt}
-use Rattle.borrowed_parts.specs.PartView.{plain_part}
-use Rattle.cell_walk.specs.Statements.{act_in}
+use Rattle.edge_amounts.specs.PartView.{plain_part}
+use Rattle.cell_layer.specs.NumberedStatements.{act_in}
 use Rattle.pack_forms.specs.Writing.{are_written}
 use Rattle.diff_layer.specs.Writing.{edge_items, part_bytes}
 use Rattle.diff_layer.proofs.Items.{written_more}

@@ -2,13 +2,13 @@ use Rattle.std.proofs.Common.{Some, sym, ap, subst, ◌∙◌}
 use Rattle.std.specs.Option.{option_map_or}
 use Rattle.std.proofs.lemmas.Option.{slice_get_within}
 use Rattle.cob_program.specs.ActView.{plain_program, plain_stmt}
-use Rattle.borrowed_parts.specs.PartView.{edge_parts, plain_part}
-use Rattle.cell_rows.specs.Rows.{cells_of}
-use Rattle.cell_walk.specs.Kept.{seen, latest_of}
-use Rattle.cell_walk.specs.Latest.{latest_behind}
-use Rattle.cell_walk.specs.Statements.{act_in}
+use Rattle.edge_amounts.specs.PartView.{edge_parts, plain_part}
+use Rattle.interval_domain.specs.Rows.{cells_of}
+use Rattle.cell_layer.specs.Kept.{seen, latest_of}
+use Rattle.cell_layer.specs.Latest.{latest_behind}
+use Rattle.cell_layer.specs.NumberedStatements.{act_in}
 use Rattle.cell_laws.specs.Sizes.{IsSmallPart}
-use Rattle.cell_walk.proofs.Stepping.{held_at}
+use Rattle.cell_layer.proofs.Stepping.{held_at}
 use Rattle.diff_layer.specs.Closed.{IsClosedRow}
 use Rattle.diff_layer.specs.Parts.{IsOfEdge, CanChange}
 use Rattle.diff_layer.specs.Plans.{plain_plans, matrices_for}

@@ -1,6 +1,6 @@
 use Rattle.std.proofs.Common.{◌≡◌, true, rules, arith, if◌then◌else◌, Some, None, ap, ◌∙◌}
 use Rattle.cob_program.specs.ActView.{plain_program, plain_stmt}
-use Rattle.cell_rows.specs.Rows.{cells_of}
+use Rattle.interval_domain.specs.Rows.{cells_of}
 use Rattle.diff_layer.specs.Plans.{matrices_for}
 use Rattle.diff_layer.proofs.WalkSteps.{walk_begins, walks_on, walk_stops, walked_from, walk_ends}
 use Rattle.diff_layer.proofs.walking.walk_packs.Goals as goal

@@ -1,5 +1,5 @@
 use Rattle.cob_program.specs.ActView.{plain_program, plain_stmt}
-use Rattle.cell_rows.specs.Rows.{cells_of}
+use Rattle.interval_domain.specs.Rows.{cells_of}
 use Rattle.diff_layer.specs.Plans.{matrices_for}
 use Rattle.diff_layer.proofs.WalkSteps.{IsWalkedTo}
 use Rattle.diff_layer.proofs.walking.walk_packs.Given as goal

@@ -2,7 +2,7 @@ use Rattle.std.proofs.Common.{ap, sym, subst, ◌∙◌}
 use Rattle.std.specs.List.{AllByRecursion}
 use Rattle.diff_bounds.specs.Widening.{AreThresholds}
 use Rattle.diff_bounds.specs.PackRows.{lists_of}
-use Rattle.claimed_rows.specs.MatrixClaims.{cells_in, sizes_of}
+use Rattle.cert_text.specs.MatrixClaims.{cells_in, sizes_of}
 use Rattle.layer_driver.proofs.RowLemmas.{are_thresholds, are_short, listed}
 use Rattle.layer_driver.proofs.cases.answer_beside.Goals as goal
 

@@ -6,7 +6,7 @@ use Rattle.std.proofs.Math.Logic.{∥∥₁_elim}
 use Rattle.cob_program.specs.ActView.{plain_program}
 use Rattle.dom_laws.specs.Lattice.{IsElement}
 use Rattle.diff_bounds.specs.PackRows.{lists_of}
-use Rattle.claimed_rows.specs.MatrixClaims.{cells_in, sizes_of}
+use Rattle.cert_text.specs.MatrixClaims.{cells_in, sizes_of}
 use Rattle.layer_driver.specs.Rows.{rows_of_packs}
 use Rattle.layer_driver.proofs.LayerRows.{are_small, layer_width}
 use Rattle.layer_driver.proofs.cases.answer_by_layer.Goals as goal

@@ -1,6 +1,6 @@
 use Rattle.std.proofs.Common.{ap, sym, subst, ◌∙◌}
 use Rattle.cob_program.specs.ActView.{plain_program}
-use Rattle.cell_rows.specs.Rows.{lists_of}
+use Rattle.interval_domain.specs.Rows.{lists_of}
 use Rattle.cell_steps.specs.Homes.{owns}
 use Rattle.cob_graph_build.specs.Limits.{IsWithinLimits}
 use Rattle.graph_runs.specs.Sources.{IsSourceGraph}

@@ -4,7 +4,7 @@ use Rattle.std.proofs.Props.{props}
 use Rattle.std.proofs.Math.Logic.{∥∥₁_elim}
 use Rattle.cob_program.specs.ActView.{plain_program}
 use Rattle.diff_bounds.specs.PackRows.{lists_of}
-use Rattle.claimed_rows.specs.MatrixClaims.{cells_in, sizes_of}
+use Rattle.cert_text.specs.MatrixClaims.{cells_in, sizes_of}
 use Rattle.layer_driver.proofs.LayerRows.{are_small, layer_element}
 use Rattle.layer_driver.proofs.cases.answer_in_row.Goals as goal
 

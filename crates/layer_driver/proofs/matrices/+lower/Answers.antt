@@ -1,8 +1,8 @@
 use Rattle.std.proofs.Common.{◌≤◌, ◌++◌, ◌-◌, length, take, drop, sym, subst, ◌∙◌, arith}
 use Rattle.std.specs.List.{AllByRecursion}
 use Rattle.dom_laws.specs.Lattice.{IsElement}
-use Rattle.claimed_rows.specs.MatrixClaims.{cells_in, sizes_of}
-use Rattle.claimed_rows.proofs.MatrixFilling.{sizes_split}
+use Rattle.cert_text.specs.MatrixClaims.{cells_in, sizes_of}
+use Rattle.cert_text.proofs.MatrixFilling.{sizes_split}
 use Rattle.layer_driver.specs.Rows.{rows_for}
 use Rattle.layer_driver.proofs.RowLemmas.{first_matrix, others_element, joined_element}
 use Rattle.layer_driver.proofs.matrices.+lower.Goals as goal

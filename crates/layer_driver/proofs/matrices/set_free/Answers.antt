@@ -4,7 +4,7 @@ use Rattle.std.proofs.lemmas.List.{length-map}
 use Rattle.dom_laws.specs.Lattice.{IsElement}
 use Rattle.cert_text.specs.View.{Holds}
 use Rattle.cert_text.specs.Allowed.{bounds_fit, no_key}
-use Rattle.claimed_rows.specs.MatrixClaims.{cells_in, sizes_of}
+use Rattle.cert_text.specs.MatrixClaims.{cells_in, sizes_of}
 use Rattle.layer_driver.specs.Rows.{no_thresholds, rows_of_packs}
 use Rattle.layer_driver.proofs.RowLemmas.{width_for}
 use Rattle.layer_driver.proofs.matrices.set_free.Goals as goal

@@ -1,7 +1,7 @@
 use Rattle.std.proofs.Common.{◌≡◌}
 use Rattle.std.specs.Prelude.{take}
 use Rattle.diff_bounds.specs.PackRows.{lists_of}
-use Rattle.claimed_rows.specs.MatrixClaims.{cells_in, sizes_of}
+use Rattle.cert_text.specs.MatrixClaims.{cells_in, sizes_of}
 use Rattle.layer_driver.specs.Rows.{no_thresholds}
 use Rattle.layer_driver.proofs.packs.no_thresholds.Given as goal
 

@@ -1,5 +1,5 @@
 use Rattle.std.proofs.Common.{length}
-use Rattle.borrowed_parts.specs.PartView.{plain_amount}
+use Rattle.edge_amounts.specs.PartView.{plain_amount}
 use Rattle.cell_steps.specs.Homes.{of_item}
 use Rattle.cell_steps.specs.Stores.{range_at}
 use Rattle.pack_forms.specs.Views.{plain_pack, item_cell, program_of, known_in}

@@ -1,7 +1,7 @@
 use Rattle.cob_calc.specs.Contents.{bound_at}
 use Rattle.sum_ranges.proofs.Rooms.{item_small}
 use Rattle.cell_steps.specs.Stores.{range_at}
-use Rattle.cell_walk.proofs.RangeBounds.{ranges_are_bounded}
+use Rattle.cell_layer.proofs.RangeBounds.{ranges_are_bounded}
 use Rattle.pack_forms.specs.Views.{program_of, known_in}
 use Rattle.pack_forms.proofs.amounts.own_range.Goals as goal
 

@@ -1,8 +1,8 @@
 use Rattle.std.proofs.Common.{◌+◌, arith}
 use Rattle.std.proofs.lemmas.Int.{ints}
 use Rattle.diff_bounds.specs.Matrix.{word}
-use Rattle.linear_form.specs.Upper.{coef_at, upper_of}
-use Rattle.linear_form.proofs.Bounded.{upper_is}
+use Rattle.diff_bounds.specs.Upper.{coef_at, upper_of}
+use Rattle.diff_bounds.proofs.Bounded.{upper_is}
 use Rattle.pack_forms.proofs.Shown.{none_there}
 use Rattle.pack_forms.proofs.bounds.bound.Goals as goal
 

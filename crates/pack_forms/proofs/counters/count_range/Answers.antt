@@ -1,5 +1,5 @@
 use Rattle.std.proofs.Common.{ap}
-use Rattle.decimal_interval.specs.declared.bounds.Interval.{Interval}
+use Rattle.interval_domain.specs.declared.bounds.Interval.{Interval}
 use Rattle.sum_ranges.specs.Ranged.{ranged}
 use Rattle.pack_forms.specs.Views.{program_of, known_in}
 use Rattle.pack_forms.proofs.Counting.{count_small}

@@ -1,5 +1,5 @@
 use Rattle.cob_program.specs.SumView.{plain_sum}
-use Rattle.result_ranges.specs.Operands.{is_whole}
+use Rattle.transfer_ranges.specs.Operands.{is_whole}
 use Rattle.cell_steps.specs.Stores.{range_at}
 use Rattle.pack_forms.specs.Views.{program_of, known_in}
 use Rattle.pack_forms.proofs.Having.{none_taken, some_taken}

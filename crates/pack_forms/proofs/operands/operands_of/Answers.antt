@@ -1,7 +1,7 @@
 use Rattle.std.proofs.Common.{◌∙◌}
-use Rattle.borrowed_parts.specs.PartView.{plain_amount}
-use Rattle.cell_walk.proofs.ShortBounds.{bounded}
-use Rattle.cell_walk.proofs.ShortAnswers.{operands_are}
+use Rattle.edge_amounts.specs.PartView.{plain_amount}
+use Rattle.cell_layer.proofs.ShortBounds.{bounded}
+use Rattle.cell_layer.proofs.ShortAnswers.{operands_are}
 use Rattle.pack_forms.specs.Views.{program_of, known_in}
 use Rattle.pack_forms.proofs.operands.operands_of.Goals as goal
 

@@ -2,10 +2,10 @@ use Rattle.std.proofs.Common.{◌∙◌}
 use Rattle.cob_program.specs.SumView.{plain_sum}
 use Rattle.cob_calc.specs.Contents.{bound_at}
 use Rattle.cell_steps.specs.Stores.{range_at}
-use Rattle.cell_walk.specs.ShortRanges.{short_range_at}
-use Rattle.cell_walk.proofs.ShortBounds.{bounded}
-use Rattle.cell_walk.proofs.ShortAnswers.{short_is}
-use Rattle.cell_walk.proofs.SumsAgree.{sum_same}
+use Rattle.cell_layer.specs.ShortRanges.{short_range_at}
+use Rattle.cell_layer.proofs.ShortBounds.{bounded}
+use Rattle.cell_layer.proofs.ShortAnswers.{short_is}
+use Rattle.cell_layer.proofs.SumsAgree.{sum_same}
 use Rattle.pack_forms.specs.Views.{program_of, known_in}
 use Rattle.pack_forms.proofs.sides.range_of_sum.Goals as goal
 

@@ -1,4 +1,4 @@
-use Rattle.cell_walk.proofs.Quotients.{last_divides}
+use Rattle.cell_layer.proofs.Quotients.{last_divides}
 use Rattle.pack_forms.proofs.sums.ends_by_division.Goals as goal
 
 pub returns-in-Some : goal.returns-in-Some

@@ -1,6 +1,6 @@
 use Rattle.std.proofs.Common.{◌∙◌}
 use Rattle.cob_program.specs.SumView.{plain_sum}
-use Rattle.cell_walk.proofs.ShortBounds.{bounded}
+use Rattle.cell_layer.proofs.ShortBounds.{bounded}
 use Rattle.pack_forms.specs.Views.{item_cell, program_of, known_in}
 use Rattle.pack_forms.proofs.FormsAgree.{sum_form_is}
 use Rattle.pack_forms.proofs.sums.form_of_sum.Goals as goal

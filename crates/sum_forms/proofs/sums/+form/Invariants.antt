@@ -1,6 +1,6 @@
 use Rattle.std.proofs.Common.{◌≡◌, pos, None}
 use Rattle.std.specs.Prelude.{IfSome}
-use Rattle.decimal_interval.specs.Corners.{interval}
+use Rattle.interval_domain.specs.Corners.{interval}
 use Rattle.cob_program.specs.Values.{whole_number}
 use Rattle.sum_ranges.specs.Ranged.{point}
 use Rattle.sum_ranges.specs.Working.{HasRoom, HasSmallParts}

@@ -1,7 +1,7 @@
 use Rattle.std.proofs.Common.{◌≡◌, ◌∙◌, ap, sym, length, arith}
 use Rattle.std.proofs.lemmas.List.{length-map}
 use Rattle.std.specs.Prelude.{Some}
-use Rattle.block_cells.specs.Places.{somes}
+use Rattle.block_store.specs.Places.{somes}
 use Rattle.block_store.proofs.Border.{Shifted, shifted}
 use Rattle.block_store.proofs.halves.Halves.drop.Goals as goal
 

@@ -1,7 +1,7 @@
 use Rattle.std.proofs.Common.{sym, ap, refl, subst, ◌≤◌, ◌+◌, length, arith}
 use Rattle.std.proofs.lemmas.List.{length-append}
-use Rattle.block_cells.specs.Places.{somes}
-use Rattle.block_cells.specs.Lends.{spliced}
+use Rattle.block_store.specs.Places.{somes}
+use Rattle.block_store.specs.Lends.{spliced}
 use Rattle.block_store.specs.Parts.{Parts}
 use Rattle.block_store.proofs.SlotsLemmas.{is_run, run_seen, lent_full, lent_words, length_lent, refilled}
 use Rattle.block_store.proofs.halves.Halves.high_mut.Goals as goal

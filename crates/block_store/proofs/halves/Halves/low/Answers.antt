@@ -1,5 +1,5 @@
 use Rattle.std.proofs.Common.{sym, subst, ◌≤◌, ◌+◌, length}
-use Rattle.block_cells.specs.Places.{somes}
+use Rattle.block_store.specs.Places.{somes}
 use Rattle.block_store.specs.Parts.{Parts}
 use Rattle.block_store.proofs.SlotsLemmas.{is_run, run_seen}
 use Rattle.block_store.proofs.halves.Halves.low.Goals as goal

@@ -1,9 +1,9 @@
 use Rattle.std.proofs.Common.{sym, ◌∙◌, ap, refl, subst, ◌≤◌, ◌+◌, length, arith}
 use Rattle.std.proofs.lemmas.List.{length-append}
 use Rattle.std.specs.Borrow.{i128}
-use Rattle.block_cells.specs.Ownership.{place_on}
-use Rattle.block_cells.specs.Places.{somes}
-use Rattle.block_cells.specs.Lends.{spliced}
+use Rattle.block_store.specs.Ownership.{place_on}
+use Rattle.block_store.specs.Places.{somes}
+use Rattle.block_store.specs.Lends.{spliced}
 use Rattle.block_store.specs.Parts.{Parts}
 use Rattle.block_store.proofs.SlotsLemmas.{is_run, run_seen, lent_full, lent_words, length_lent, refilled}
 use Rattle.block_store.proofs.halves.Halves.low_mut_beside.Goals as goal

@@ -1,6 +1,6 @@
 use Rattle.std.proofs.Common.{◌∙◌, ap, sym, length, arith}
 use Rattle.std.specs.Borrow.{i128}
-use Rattle.block_cells.specs.Ownership.{place_on}
+use Rattle.block_store.specs.Ownership.{place_on}
 use Rattle.block_store.proofs.Border.{Zeroed, zeroed}
 use Rattle.block_store.proofs.halves.Halves.reserve.Goals as goal
 

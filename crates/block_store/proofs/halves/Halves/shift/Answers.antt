@@ -1,6 +1,6 @@
 use Rattle.std.proofs.Common.{◌≤◌, ◌++◌, length, ap, sym, ◌∙◌, subst, take, drop, arith}
 use Rattle.std.specs.Borrow.{i128}
-use Rattle.block_cells.specs.Ownership.{place_on}
+use Rattle.block_store.specs.Ownership.{place_on}
 use Rattle.block_store.specs.Parts.{Parts}
 use Rattle.block_store.proofs.Border.{Shifted, shifted}
 use Rattle.block_store.proofs.halves.Halves.shift.Goals as goal

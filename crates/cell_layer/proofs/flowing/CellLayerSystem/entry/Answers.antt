@@ -1,6 +1,6 @@
 use Rattle.std.proofs.Common.{◌∙◌, length, sym, ap}
 use Rattle.cob_program.specs.ActView.{plain_program}
-use Rattle.cell_rows.specs.Rows.{lists_of}
+use Rattle.interval_domain.specs.Rows.{lists_of}
 use Rattle.cell_layer.specs.LayerLaws.{flows_by}
 use Rattle.cell_layer.proofs.flowing.CellLayerSystem.entry.Goals as goal
 

@@ -5,7 +5,7 @@ use Rattle.std.proofs.lemmas.List.Folds.{flat_map-map}
 use Rattle.diff_bounds.specs.declared.Pack.{Pack}
 use Rattle.cert_text.specs.declared.cert.Element.{Element}
 use Rattle.cert_text.specs.View.{place_of, view}
-use Rattle.claimed_rows.specs.MatrixClaims.{HasFittingBounds, cells_in, claimed_row, sizes_of}
+use Rattle.cert_text.specs.MatrixClaims.{HasFittingBounds, cells_in, claimed_row, sizes_of}
 use Rattle.cert_check.proofs.PackNumbers.{bounds_all}
 use Rattle.cert_check.proofs.bounds.ClaimedBounds.new.Goals as goal
 

@@ -1,6 +1,6 @@
 use Rattle.std.proofs.Common.{◌≡◌, ℕ, List, ◌-◌, ◌*◌, ◌<◌, length, take, drop, ℤ, ap, sym, ◌∙◌, arith}
 use Rattle.cert_text.specs.View.{Certificate, Place, NotReached, view}
-use Rattle.claimed_rows.specs.MatrixClaims.{claimed_row, sizes_of}
+use Rattle.cert_text.specs.MatrixClaims.{claimed_row, sizes_of}
 use Rattle.cert_check.proofs.RowsBehind.{claimed_width, row_there, row_within}
 use Rattle.cert_check.proofs.bounds.ClaimedBoundsRows.row.Goals as goal
 

@@ -1,7 +1,7 @@
 use Rattle.std.proofs.Common.{◌≡◌, drop}
 use Rattle.std.specs.List.{list_all}
 use Rattle.cob_typed_exprs.specs.Sizes.{bound_at}
-use Rattle.guard_ranges.specs.Small.{is_short_pair}
+use Rattle.transfer_ranges.specs.Small.{is_short_pair}
 use Rattle.range_driver.proofs.known.Known.are_short_pairs.Given as goal
 
 abbrev pub invariant-loop-pair : goal.invariant-loop-pair

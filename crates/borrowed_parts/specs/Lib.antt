@@ -1,3 +1,0 @@
-pub mod Seeking
-pub mod PartView
-pub mod Pieces

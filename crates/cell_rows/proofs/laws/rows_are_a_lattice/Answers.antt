@@ -1,5 +1,0 @@
-use Rattle.cell_rows.proofs.Rows.{cells_are_a_lattice}
-use Rattle.cell_rows.proofs.laws.rows_are_a_lattice.Goals as goal
-
-pub returns : goal.returns
-returns c = cells_are_a_lattice

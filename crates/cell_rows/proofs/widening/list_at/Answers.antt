@@ -1,6 +1,0 @@
-use Rattle.std.proofs.Common.{◌∙◌}
-use Rattle.cell_rows.proofs.CellByCell.{list_is}
-use Rattle.cell_rows.proofs.widening.list_at.Goals as goal
-
-pub returns : goal.returns
-returns c = c.as_slice.ensures.value ∙ list_is c.args.lists.now c.args.k c.index-lists-k.result c.requires c.index-lists-k.is

@@ -1,4 +1,0 @@
-pub mod Known
-pub mod Elements
-pub mod Rows
-pub mod Classes

@@ -1,5 +1,0 @@
-use Rattle.std.proofs.Common.{length}
-use Rattle.claimed_rows.proofs.matrix_claims.+set_bounds.Given as goal
-
-abbrev pub decreases-set_bounds : goal.decreases-set_bounds
-decreases-set_bounds l = length l.packs.now

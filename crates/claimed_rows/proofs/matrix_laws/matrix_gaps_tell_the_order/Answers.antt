@@ -1,5 +1,0 @@
-use Rattle.claimed_rows.proofs.MatrixTelling.{gaps_tell}
-use Rattle.claimed_rows.proofs.matrix_laws.matrix_gaps_tell_the_order.Goals as goal
-
-pub returns : goal.returns
-returns c = gaps_tell

@@ -1,7 +1,0 @@
-//! What gaps tell.
-ghost use Rattle.claimed_rows.specs.Gaps.{GapsTellTheOrder};
-
-/// What is reached lies in the claims as they are written exactly where it lies in the row that they mean.
-pub fn gaps_tell_the_order()
-    ensures { GapsTellTheOrder }
-{}

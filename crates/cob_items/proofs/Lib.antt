@@ -1,2 +1,0 @@
-pub mod ReadBound
-pub mod Parts

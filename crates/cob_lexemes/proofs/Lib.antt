@@ -1,4 +1,0 @@
-pub mod StepLemmas
-pub mod PlaceLemmas
-pub mod WordLemmas
-mod LeadLemmas

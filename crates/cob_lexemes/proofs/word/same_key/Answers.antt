@@ -1,6 +1,0 @@
-use Rattle.std.proofs.Common.{◌∙◌}
-use Rattle.cob_lexemes.proofs.WordLemmas.{one_by_text}
-use Rattle.cob_lexemes.proofs.word.same_key.Goals as goal
-
-pub returns : goal.returns
-returns c = c.eq.ensures ∙ one_by_text c.args.first c.args.second

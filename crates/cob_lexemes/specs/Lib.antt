@@ -1,4 +1,0 @@
-pub mod Lexemes
-pub mod Classes
-pub mod Steps
-pub mod Places

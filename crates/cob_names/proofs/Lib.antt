@@ -1,5 +1,0 @@
-pub mod AboveLemmas
-pub mod HomeLemmas
-pub mod FoundLemmas
-pub mod MeaningLemmas
-pub mod FewPlaces

@@ -1,5 +1,0 @@
-use Rattle.cob_names.proofs.FewPlaces.{few_places}
-use Rattle.cob_names.proofs.names.layouts_have_few_places.Goals as goal
-
-pub returns : goal.returns
-returns c = few_places

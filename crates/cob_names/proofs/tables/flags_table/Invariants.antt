@@ -1,7 +1,0 @@
-use Rattle.std.proofs.Common.{slice_get}
-use Rattle.cob_names.specs.Search.{flag_name}
-use Rattle.cob_names.specs.Tables.{IsTable}
-use Rattle.cob_names.proofs.tables.flags_table.Given as goal
-
-abbrev pub invariant-loop-flag : goal.invariant-loop-flag
-invariant-loop-flag l = IsTable l.table (λ place. flag_name (slice_get l.flags place)) l.flag-index

@@ -1,7 +1,0 @@
-use Rattle.std.proofs.Common.{slice_get}
-use Rattle.cob_names.specs.Names.{item_name}
-use Rattle.cob_names.specs.Tables.{IsTable}
-use Rattle.cob_names.proofs.tables.items_table.Given as goal
-
-abbrev pub invariant-loop-item : goal.invariant-loop-item
-invariant-loop-item l = IsTable l.table (λ place. item_name (slice_get l.items place)) l.item-index

@@ -1,4 +1,0 @@
-pub mod Names
-pub mod Tables
-pub mod Homes
-pub mod Search

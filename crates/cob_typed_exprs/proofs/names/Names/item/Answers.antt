@@ -1,0 +1,5 @@
+use Rattle.cob_typed_exprs.proofs.MeaningLemmas.{found_item}
+use Rattle.cob_typed_exprs.proofs.names.Names.item.Goals as goal
+
+pub returns : goal.returns
+returns c = found_item c.args.self.now c.args.reference.now _ (rw (c.get.ensures, c.get-2.ensures) at c.search.ensures)

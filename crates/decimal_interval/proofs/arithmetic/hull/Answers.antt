@@ -1,7 +1,0 @@
-use Rattle.std.proofs.Common.{arith}
-use Rattle.std.proofs.lemmas.Grind.{common_steps}
-use Rattle.decimal_interval.proofs.Ends.{hull_gives}
-use Rattle.decimal_interval.proofs.arithmetic.hull.Goals as goal
-
-pub returns-clause-least : goal.returns-clause-least
-returns-clause-least c = hull_gives c.args.a c.args.b _ _ (grind (arith, common_steps)) (grind (arith, common_steps)) c.requires.a c.requires.b

@@ -1,4 +1,0 @@
-pub mod Bounds
-pub mod Results
-pub mod Corners
-pub mod Thresholds

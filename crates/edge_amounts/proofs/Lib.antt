@@ -1,0 +1,17 @@
+pub mod SoughtLemmas
+pub mod SumLoops
+pub mod TestLoops
+pub mod PartActs
+pub mod FileLoops
+pub mod FormLemmas
+pub mod EdgeLemmas
+pub mod DivisorLemmas
+pub mod EndLoops
+pub mod LeftLemmas
+pub mod Parallel
+pub mod StatementLoops
+pub mod NumberLemmas
+pub mod CountLemmas
+pub mod ActViews
+pub mod Rising
+pub mod TakenLemmas

@@ -1,0 +1,33 @@
+//! What a walk along an edge of the control graph works out: the operands of the edge, the amounts that its receivers are
+//! to get, and what a store may do (Cousot and Cousot 1977); and the cell of each item and of each counter of a PERFORM
+//! with TIMES. No call takes memory.
+#![tactic(auto)]
+
+mod amounts;
+mod arithmetic;
+mod conditions;
+mod counters;
+mod edges;
+mod files;
+mod items;
+mod moves;
+mod part;
+mod part_edges;
+mod part_items;
+mod part_senders;
+mod parts;
+mod seeking;
+mod senders;
+mod stores;
+mod sums;
+mod taking;
+mod tests_of;
+
+pub use amounts::{amount_of, is_remainder, may_divide_by_zero};
+pub use counters::cell_of_count;
+pub use edges::{has_phrase, is_handled, operands_vanish};
+pub use items::cell_of;
+pub use part::{Amount, Divisor, EdgePart};
+pub use parts::{part_at, part_count};
+pub use stores::{amount_from, may_keep, may_vanish, receiver_at, store_range};
+pub use taking::{edge_amount, operands};

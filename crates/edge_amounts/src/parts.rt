@@ -1,0 +1,34 @@
+//! The parts of an edge by their numbers.
+ghost use Rattle.std.specs.Prelude.{◌≡◌, ◌-◌, ◌^◌, min, length, slice_get};
+ghost use Rattle.std.specs.Option.{option_map};
+ghost use Rattle.cob_program.specs.ActView.{plain_stmt, plain_program};
+ghost use Rattle.edge_amounts.specs.PartView.{plain_part, edge_parts};
+
+use crate::part::EdgePart;
+use crate::part_edges::of_edge;
+use cob_program::{Program, Stmt};
+use cob_runs::Action;
+use std::ops::ControlFlow;
+
+/// How many parts an edge of a statement has; `u32::MAX` stands for more, too.
+pub fn part_count(program: &Program, statement: &Stmt, action: Action) -> u32
+    ensures { result ≡ min (length (edge_parts (plain_program program.now) (plain_stmt statement.now) action)) (2 ^ 32 - 1) }
+{
+    match of_edge(program, statement, action, u32::MAX) {
+        ControlFlow::Break(_) => u32::MAX,
+        ControlFlow::Continue(left) => u32::MAX - left,
+    }
+}
+
+/// The part of an edge with a number, which counts from 0.
+pub fn part_at<'a>(
+    program: &Program,
+    statement: &'a Stmt,
+    action: Action,
+    k: u32,
+) -> Option<EdgePart<'a>>
+    ensures { option_map plain_part result
+        ≡ slice_get (edge_parts (plain_program program.now) (plain_stmt statement.now) action) k }
+{
+    of_edge(program, statement, action, k).break_value()
+}

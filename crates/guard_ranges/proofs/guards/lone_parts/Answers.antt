@@ -1,5 +1,0 @@
-use Rattle.guard_ranges.proofs.SideLists.{no_lone_part}
-use Rattle.guard_ranges.proofs.guards.lone_parts.Goals as goal
-
-pub returns-else-parts-eq1 : goal.returns-else-parts-eq1
-returns-else-parts-eq1 c = no_lone_part c.args.parts.now c.if-parts-eq1.false

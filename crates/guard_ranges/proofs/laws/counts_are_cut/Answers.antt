@@ -1,5 +1,0 @@
-use Rattle.guard_ranges.proofs.CountLaws.{count_holds, count_rises, count_part}
-use Rattle.guard_ranges.proofs.laws.counts_are_cut.Goals as goal
-
-pub returns : goal.returns
-returns c = record { sound = count_holds; rises = count_rises; fits = count_part }

@@ -1,9 +1,0 @@
-pub mod Kept
-pub mod Sides
-pub mod Beside
-pub mod Members
-pub mod Guards
-pub mod Counts
-pub mod Meaning
-pub mod Small
-pub mod Trimming

@@ -1,0 +1,10 @@
+pub mod IntervalEnds
+pub mod Quotients
+pub mod Nearest
+pub mod Places
+pub mod Flags
+pub mod CellByCell
+pub mod Ends
+pub mod OneKnown
+pub mod AllCells
+pub mod Rows

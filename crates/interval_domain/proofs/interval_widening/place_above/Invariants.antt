@@ -1,0 +1,9 @@
+use Rattle.std.proofs.Common.{ℕ, ◌<◌, pos, ◌≤ℤ◌, length, get_or}
+use Rattle.interval_domain.proofs.interval_widening.place_above.Given as goal
+
+abbrev pub invariant-loop-k : goal.invariant-loop-k
+invariant-loop-k l = record {
+  within : l.nearest < length l.thresholds;
+  above : l.z ≤ℤ get_or l.thresholds l.nearest (pos 0);
+  nearest : (k : ℕ) → k < l.k → l.z ≤ℤ get_or l.thresholds k (pos 0) → get_or l.thresholds l.nearest (pos 0) ≤ℤ get_or l.thresholds k (pos 0);
+}

@@ -1,8 +1,0 @@
-use Rattle.linear_form.proofs.Scales.{spans_raised, spans_added}
-use Rattle.linear_form.proofs.error_laws.sums_span_at_greater_scales.Goals as goal
-
-pub returns-clause-raised : goal.returns-clause-raised
-returns-clause-raised c = spans_raised
-
-pub returns-clause-added : goal.returns-clause-added
-returns-clause-added c = spans_added

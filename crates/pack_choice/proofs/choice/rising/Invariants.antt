@@ -1,8 +1,0 @@
-use Rattle.std.proofs.Common.{◌≡◌}
-use Rattle.std.specs.Prelude.{◌==◌}
-use Rattle.std.specs.List.{filter, range_with_len}
-use Rattle.pack_choice.specs.Firsts.{holds}
-use Rattle.pack_choice.proofs.choice.rising.Given as goal
-
-abbrev pub invariant-loop-k : goal.invariant-loop-k
-invariant-loop-k l = l.list.items ≡ filter (holds (λ a b. a == b) l.cells) (range_with_len 1 l.k)

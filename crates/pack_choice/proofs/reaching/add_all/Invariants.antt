@@ -1,5 +1,0 @@
-use Rattle.std.proofs.Common.{◌≡◌, ◌++◌, drop}
-use Rattle.pack_choice.proofs.reaching.add_all.Given as goal
-
-abbrev pub invariant-loop-mention : goal.invariant-loop-mention
-invariant-loop-mention l = l.mentions.items ++ drop l.mention-index l.more ≡ l.initial.mentions.items ++ l.more

@@ -1,7 +1,0 @@
-use Rattle.std.proofs.Common.{◌≡◌}
-use Rattle.pack_choice.specs.Mentions.{lists_of}
-use Rattle.pack_choice.specs.Reaching.{reached_through}
-use Rattle.pack_choice.proofs.reaching.reached.Given as goal
-
-abbrev pub invariant-loop-round : goal.invariant-loop-round
-invariant-loop-round l = l.marks.items ≡ reached_through (lists_of l.texts) l.own l.round

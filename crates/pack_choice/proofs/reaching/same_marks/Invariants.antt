@@ -1,6 +1,0 @@
-use Rattle.std.proofs.Common.{◌≡◌, drop}
-use Rattle.pack_choice.specs.Reaching.{same_marks}
-use Rattle.pack_choice.proofs.reaching.same_marks.Given as goal
-
-abbrev pub invariant-loop-k : goal.invariant-loop-k
-invariant-loop-k l = same_marks (drop l.k l.next) (drop l.k l.marks) ≡ same_marks l.next l.marks

@@ -1,8 +1,0 @@
-use Rattle.std.proofs.Common.{◌≡◌, ◌++◌, drop}
-use Rattle.pack_choice.specs.PackThresholds.{list_thresholds}
-use Rattle.pack_choice.proofs.thresholds.add_list.Given as goal
-
-abbrev pub invariant-loop-threshold : goal.invariant-loop-threshold
-invariant-loop-threshold l =
-    l.list.items ++ list_thresholds l.units (drop l.threshold-index l.thresholds)
-    ≡ l.initial.list.items ++ list_thresholds l.units l.thresholds

@@ -1,8 +1,0 @@
-//! What holds of all programs.
-ghost use Rattle.pack_choice.specs.Reaching.{ReachedAreMarked};
-
-/// A law: the paragraphs that are marked as reached from a statement are just those that it performs, or that a reached
-/// one performs.
-pub fn reached_paragraphs_are_marked()
-    ensures { ReachedAreMarked }
-{}

@@ -1,8 +1,0 @@
-pub mod Receivers
-pub mod Amounts
-pub mod Operands
-pub mod Stores
-pub mod Results
-pub mod ResultRanges
-pub mod Sizes
-pub mod Bounded

@@ -1,4 +1,0 @@
-pub mod Tasks
-pub mod Asked
-pub mod RunEnds
-pub mod Clashes

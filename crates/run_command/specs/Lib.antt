@@ -1,5 +1,0 @@
-pub mod Text
-pub mod Runs
-pub mod View
-pub mod Steps
-pub mod Paths

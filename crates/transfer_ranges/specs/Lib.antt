@@ -1,0 +1,17 @@
+pub mod Kept
+pub mod Sides
+pub mod Beside
+pub mod Members
+pub mod Guards
+pub mod Counts
+pub mod Meaning
+pub mod Small
+pub mod Trimming
+pub mod Receivers
+pub mod Amounts
+pub mod Operands
+pub mod Stores
+pub mod Results
+pub mod ResultRanges
+pub mod Sizes
+pub mod Bounded

@@ -1,0 +1,32 @@
+//! What a store makes of what is known of its operands: the interval of a receiver's new units, and whether some result
+//! may not fit (ISO 1989:1985, "The SIZE ERROR phrase"). No call takes memory.
+#![tactic(auto)]
+
+mod amounts;
+mod arithmetic;
+mod beside;
+mod counts;
+mod cuts;
+mod guard_laws;
+mod guards;
+mod intervals;
+mod laws;
+mod members;
+mod results;
+mod sides;
+mod units;
+
+pub use amounts::{AmountRange, Receiver, Taken};
+pub use counts::count_kept;
+pub use cuts::{Cut, Cuts};
+pub use guard_laws::{
+    counts_are_cut, cuts_are_least, cuts_fit, guards_are_sound, guards_rise, searches_are_least,
+};
+pub use guards::{Items, guarded};
+pub use laws::{
+    amounts_lie_in_their_ranges, bounded_operands_give_small_amounts, counts_are_least,
+    narrower_operands_give_narrower_results, receivers_keep_the_least, results_lie_in_their_ranges,
+    stores_lie_in_their_ranges, units_are_least,
+};
+pub use results::{Stored, computed_range, counted, exceeds, fitted, lowered, result_range};
+pub use sides::{left_kept, right_kept};
