@@ -1,5 +1,6 @@
 //! The analysis of a program: thresholds by its literals, the solver over both layers, and the certificate of what they
-//! find (Cousot and Cousot 1977, Miné 2001).
+//! find (Cousot and Cousot 1977, Miné 2001); and which packs of cells it tracks differences in, with which thresholds:
+//! packs by what a program mentions together in its loops and paragraphs.
 #![tactic(auto)]
 
 mod analysis;

@@ -1,6 +1,10 @@
 //! The first layer of the analysis: what is known of cells along the graph of a program (Cousot and Cousot 1977). Rows of
 //! words flow along the graph's edges, stand for the storages that runs bring to its nodes, and show which faults are
 //! not met there.
+//!
+//! Beneath it stands the walk along an edge, part by part, on the row of what is known: what each part makes of the row, in
+//! place, and the faults that what is known shows not to be met there. The row is read, set and forgotten by what its
+//! cells are of, and tells the ranges of items, of sums and of senders, and what a read, a test or a counter leaves of it.
 #![tactic(auto)]
 
 mod clearing;

@@ -1,5 +1,12 @@
-//! The text of a certificate, read and printed: a list of whole lines, and the first line with which no text of a set
-//! of such texts goes on.
+//! Certificates: their text, and what they claim.
+//!
+//! The text is a list of whole lines, read and printed; where it is none, the first line is told with which no text of
+//! a set of such texts goes on.
+//!
+//! Of the rows that are claimed, of cells and of difference-bound matrices (Miné 2001), the places are told at which what
+//! is reached doesn't lie in them; and the bounds by which a certificate tells a row of matrices. A claim of a cell is met
+//! with its cell's own range before it is a row's; what is reached is compared with the claim as it is written. Bounds are
+//! taken as they are written, in the units of their packs; what isn't claimed has no bound.
 #![tactic(auto)]
 
 mod bound_laws;

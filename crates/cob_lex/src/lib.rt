@@ -1,4 +1,6 @@
-//! The canonical tokens of a COBOL text (ISO 1989:1985, "Character-strings" and "Separators").
+//! The text of a COBOL source in the standard's reference format (ISO 1989:1985, "Reference format"): lines, comment
+//! lines and continuations become one list of characters; and the canonical tokens of such a text ("Character-strings"
+//! and "Separators").
 #![tactic(auto)]
 
 ghost use Rattle.std.specs.Prelude.{◌≡◌, map, Ok, Err, IfOk, IfErr};

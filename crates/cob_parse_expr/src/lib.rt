@@ -1,5 +1,8 @@
 //! Reads expressions and conditions from tokens (ISO 1989:1985, "Arithmetic expressions" and "Conditional
 //! expressions").
+//!
+//! Beneath stands what all parsers share below the grammar's rules: tokens as the grammar sees them, the functions that
+//! read one of them from the front, why nothing was read, and the line that is told then.
 #![tactic(auto)]
 
 /// What a call gives. Where it fails, what was read before is dropped by calls, and the fault is handed on. `?` does the

@@ -1,5 +1,5 @@
-//! What becomes of storage while a program runs, but for arithmetic: MOVE, what DISPLAY shows, and storage at the beginning
-//! (ISO 1989:1985, "Procedure division").
+//! Storage while a program runs: numbers are read from the bytes of items and stored in them, MOVE, what DISPLAY shows,
+//! and storage at the beginning (ISO 1989:1985, "Data division" and "Procedure division").
 #![tactic(auto)]
 
 mod begin;

@@ -1,5 +1,6 @@
-//! What names and expressions of a program mean: names resolved, expressions as sums, how great these can be, and which
-//! values may be moved where or compared; each with the rules that it breaks (ISO 1989:1985, "Procedure division").
+//! What names and expressions of a program mean: the items, condition-names, files and records that a reference names
+//! (ISO 1989:1985, "Qualification"), expressions as sums, how great these can be, and which values may be moved where or
+//! compared; each with the rules that it breaks ("Procedure division").
 #![tactic(auto)]
 
 /// What a call gives. Where it ends by an error, what was made before is dropped by calls, and the error is handed on.

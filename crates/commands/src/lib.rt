@@ -1,7 +1,9 @@
-//! What the commands share: their answers with texts and statuses, the report on a program, what is shown, and the
-//! source that each of them reads; and the command `check`, which shows nothing and changes no file.
+//! The commands: their answers with texts and statuses, the report on a program, what is shown, and the source that each
+//! of them reads.
 //!
-//! Which answer `analyse`, `run` and `trial` give stands with them.
+//! `check` shows nothing and changes no file. `analyse` and `trial` read a source, or make one of the length that is asked
+//! for, and analyse it; text and report are made before the certificate's file is. `run` makes the task that its words ask
+//! for, runs it, and tells in a line how the run ended.
 #![tactic(auto)]
 
 mod alarms;

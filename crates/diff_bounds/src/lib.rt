@@ -11,6 +11,16 @@
 //!
 //! The matrices of several packs, one behind the other, are rows of a lattice with a widening by thresholds. The
 //! first row that comes to a node is taken as it is.
+//!
+//! A linear form is the sum of whole coefficients times cells of a pack, plus a constant that lies in an interval, since
+//! rounding and what no cell holds are known by their bounds alone. Its numbers are below 10^37 in absolute value. The
+//! error that a store makes where it cuts or rounds a value to the receiver's scale is such an interval: exact where
+//! nothing is cut off or the value is 0, one-sided where a cut value's sign is known, and else two-sided.
+//!
+//! A matrix shows a least bound of a form: every value is bounded by its bound against 0, or two values with opposite
+//! coefficients by the bound of their difference and the others against 0, whichever of these is the least. A
+//! coefficient's term is cut as a word of a closure is, and so is the whole sum, once. By such bounds an assignment of a
+//! form to a cell, the demand that a form is at most 0, and the forgetting of a cell change the matrix.
 #![tactic(auto)]
 
 mod altered;

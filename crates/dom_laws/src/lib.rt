@@ -1,5 +1,6 @@
 //! What the domains, systems and layers of an analysis promise (Cousot and Cousot 1977): traits with
-//! laws, and the counter of transfers.
+//! laws, and the counter of transfers; and the pass over rows that are given for the nodes of a system: whether the entry
+//! and every edge keep them.
 #![tactic(auto)]
 
 mod counter;

@@ -1,9 +1,12 @@
-//! Rows of words: whether a node is reached, and what is known of each cell there. They are the lattice
-//! of the first layer of an analysis, with a widening by thresholds (Cousot and Cousot 1977).
+//! The domain of intervals (Cousot and Cousot 1977): intervals of whole numbers with exact least bounds, and rows of them.
 //!
-//! A row begins with 1 where the node is reached, and has two words for each cell: the ends of the interval
-//! that its number lies in, or 1 and 0 where nothing is known of it. Where no run comes all words are 0.
-//! Beside them stand classes of cells, numeric or not. No call takes memory.
+//! The sums, differences, products and quotients of the numbers of intervals have least bounds, and a cell's interval is
+//! widened by thresholds. The numbers are units of a decimal scale that the caller knows.
+//!
+//! A row tells whether a node is reached, and what is known of each cell there. It begins with 1 where the node is
+//! reached, and has two words for each cell: the ends of the interval that its number lies in, or 1 and 0 where nothing
+//! is known of it. Where no run comes all words are 0. Rows are a lattice, with a widening by thresholds. Beside them
+//! stand classes of cells, numeric or not. No call takes memory.
 #![tactic(auto)]
 
 mod arithmetic;

@@ -1,5 +1,8 @@
-//! What a store makes of what is known of its operands: the interval of a receiver's new units, and whether some result
-//! may not fit (ISO 1989:1985, "The SIZE ERROR phrase"). No call takes memory.
+//! What statements make of ranges (Cousot and Cousot 1977). No call takes memory.
+//!
+//! Of a store: the interval of a receiver's new units, and whether some result may not fit (ISO 1989:1985, "The SIZE ERROR
+//! phrase"). Of a test: where a relation, a condition-name or a class test has an outcome, each item that is compared keeps
+//! the least interval of its numbers for which it can.
 #![tactic(auto)]
 
 mod amounts;
