@@ -1,10 +1,16 @@
 //! Verbs in two parts: what is judged before their lists of statements, and these lists.
-ghost use Rattle.std.specs.Prelude.{◌≡◌, is_ok, IfOk, OnOk};
+ghost use Rattle.std.specs.Prelude.{◌≡◌, ℕ, Option, is_ok, IfOk, OnOk};
 ghost use Rattle.std.specs.Option.{option_copied};
 ghost use Rattle.cob_tree.specs.StmtView.{plain_tail, plain_verb};
+ghost use Rattle.cob_program.specs.Act as act_spec;
 ghost use Rattle.cob_program.specs.Act.{MkStmt};
-ghost use Rattle.cob_program.specs.ActView.{plain_act, plain_stmt, plain_stmts, plain_phrase};
+ghost use Rattle.cob_program.specs.Logic as logic_spec;
+ghost use Rattle.cob_program.specs.LogicView.{plain_logic};
+ghost use Rattle.cob_program.specs.ActView.{plain_act, plain_stmt, plain_stmts, plain_phrase, plain_turns};
 ghost use Rattle.cob_typed_exprs.specs.Judged.{noted};
+ghost use Rattle.cob_typed_conds.specs.declared.selections.Looked.{Looked};
+ghost use Rattle.cob_typed_verbs.specs.Arithmetic as work_spec;
+ghost use Rattle.cob_typed_verbs.specs.Workings.{plain_worked};
 ghost use Rattle.cob_typed.specs.Lists.{tree_phrase};
 ghost use Rattle.cob_typed.specs.Statements.{stmts_if};
 ghost use Rattle.cob_typed.specs.Heads as spec;
@@ -56,6 +62,72 @@ pub struct TypedLists {
     pub second: Option<Vec<Stmt>>,
 }
 
+/// A verb without lists.
+fn done(act: Result<Act, AllocError>) -> Result<Head, AllocError>
+    ensures ends { is_ok result ≡ is_ok act }
+    ensures value { (x : act_spec.Act) → IfOk act (λ y. plain_act y ≡ x) → IfOk result (λ made. plain_head made ≡ spec.done x) }
+{
+    match act {
+        Ok(act) => Ok(Head::Done(act)),
+        Err(error) => Err(error),
+    }
+}
+
+/// An arithmetic statement.
+fn worked(work: Result<Worked, AllocError>) -> Result<Head, AllocError>
+    ensures ends { is_ok result ≡ is_ok work }
+    ensures value { (x : work_spec.Worked) → IfOk work (λ y. plain_worked y ≡ x) → IfOk result (λ made. plain_head made ≡ spec.worked x) }
+{
+    match work {
+        Ok(work) => Ok(Head::Worked(work)),
+        Err(error) => Err(error),
+    }
+}
+
+/// IF
+fn tested(test: Result<Logic, AllocError>) -> Result<Head, AllocError>
+    ensures ends { is_ok result ≡ is_ok test }
+    ensures value { (x : logic_spec.Logic) → IfOk test (λ y. plain_logic y ≡ x) → IfOk result (λ made. plain_head made ≡ spec.tested x) }
+{
+    match test {
+        Ok(test) => Ok(Head::Tested(test)),
+        Err(error) => Err(error),
+    }
+}
+
+/// EVALUATE
+fn looked(subject: Result<Looked, AllocError>) -> Result<Head, AllocError>
+    ensures ends { is_ok result ≡ is_ok subject }
+    ensures value { (x : Looked) → IfOk subject (λ y. y ≡ x) → IfOk result (λ made. plain_head made ≡ spec.looked x) }
+{
+    match subject {
+        Ok(subject) => Ok(Head::Looked(subject)),
+        Err(error) => Err(error),
+    }
+}
+
+/// PERFORM of a body of its own
+fn turned(turns: Result<Turns, AllocError>) -> Result<Head, AllocError>
+    ensures ends { is_ok result ≡ is_ok turns }
+    ensures value { (x : act_spec.Turns) → IfOk turns (λ y. plain_turns y ≡ x) → IfOk result (λ made. plain_head made ≡ spec.turned x) }
+{
+    match turns {
+        Ok(turns) => Ok(Head::Turned(turns)),
+        Err(error) => Err(error),
+    }
+}
+
+/// READ: its file, and the item of INTO
+fn reads(parts: Result<(u32, Option<u32>), AllocError>) -> Result<Head, AllocError>
+    ensures ends { is_ok result ≡ is_ok parts }
+    ensures value { (x : ℕ × Option ℕ) → IfOk parts (λ y. y ≡ x) → IfOk result (λ made. plain_head made ≡ spec.reads_of x) }
+{
+    match parts {
+        Ok((file, into)) => Ok(Head::Reads(file, into)),
+        Err(error) => Err(error),
+    }
+}
+
 /// What a verb is before its lists, and the rules that it breaks there.
 pub fn head_of(
     scope: &Scope,
@@ -67,15 +139,11 @@ pub fn head_of(
     ensures noted { OnOk result (findings.new.items ≡ noted line findings.old.items (spec.head scope.now (plain_verb verb.now)).broken) }
 {
     match verb {
-        Verb::Move { from, to } => {
-            Ok(Head::Done(or_leave!(move_act(scope, findings, line, from, to.get()))))
-        }
-        Verb::Set(name) => Ok(Head::Done(or_leave!(set_act(scope, findings, line, name)))),
-        Verb::Display(operands) => {
-            Ok(Head::Done(or_leave!(show_act(scope, findings, line, operands.get()))))
-        }
+        Verb::Move { from, to } => done(move_act(scope, findings, line, from, to.get())),
+        Verb::Set(name) => done(set_act(scope, findings, line, name)),
+        Verb::Display(operands) => done(show_act(scope, findings, line, operands.get())),
         Verb::AddTo { addends, to, .. } => {
-            Ok(Head::Worked(or_leave!(add_to(scope, findings, line, addends.get(), to.get()))))
+            worked(add_to(scope, findings, line, addends.get(), to.get()))
         }
         Verb::AddGiving {
             addends,
@@ -84,62 +152,28 @@ pub fn head_of(
             ..
         } => {
             let to = to.as_ref();
-            let worked = or_leave!(add_giving(
-                scope,
-                findings,
-                line,
-                addends.get(),
-                to,
-                giving.get()
-            ));
-            Ok(Head::Worked(worked))
+            worked(add_giving(scope, findings, line, addends.get(), to, giving.get()))
         }
         Verb::SubtractFrom { less, from, .. } => {
-            Ok(Head::Worked(or_leave!(subtract_from(
-                scope,
-                findings,
-                line,
-                less.get(),
-                from.get()
-            ))))
+            worked(subtract_from(scope, findings, line, less.get(), from.get()))
         }
         Verb::SubtractGiving {
             less,
             from,
             giving,
             ..
-        } => {
-            let worked = or_leave!(subtract_giving(
-                scope,
-                findings,
-                line,
-                less.get(),
-                from,
-                giving.get()
-            ));
-            Ok(Head::Worked(worked))
-        }
+        } => worked(subtract_giving(scope, findings, line, less.get(), from, giving.get())),
         Verb::MultiplyBy { factor, by, .. } => {
-            Ok(Head::Worked(or_leave!(multiply_by(scope, findings, line, factor, by.get()))))
+            worked(multiply_by(scope, findings, line, factor, by.get()))
         }
         Verb::MultiplyGiving {
             factor,
             by,
             giving,
             ..
-        } => {
-            let worked = or_leave!(multiply_giving(
-                scope,
-                findings,
-                line,
-                factor,
-                by,
-                giving.get()
-            ));
-            Ok(Head::Worked(worked))
-        }
+        } => worked(multiply_giving(scope, findings, line, factor, by, giving.get())),
         Verb::DivideInto { divisor, into, .. } => {
-            Ok(Head::Worked(or_leave!(divide_into(scope, findings, line, divisor, into.get()))))
+            worked(divide_into(scope, findings, line, divisor, into.get()))
         }
         Verb::DivideGiving {
             first,
@@ -151,55 +185,30 @@ pub fn head_of(
         } => {
             let rest = remainder.as_ref();
             let giving = giving.get();
-            let worked = or_leave!(divide_giving(
-                scope, findings, line, first, *way, second, giving, rest
-            ));
-            Ok(Head::Worked(worked))
+            worked(divide_giving(scope, findings, line, first, *way, second, giving, rest))
         }
         Verb::Compute { to, value, .. } => {
-            Ok(Head::Worked(or_leave!(compute(scope, findings, line, to.get(), value))))
+            worked(compute(scope, findings, line, to.get(), value))
         }
-        Verb::If { test, .. } => Ok(Head::Tested(or_leave!(condition(
-            scope, findings, line, test
-        )))),
-        Verb::Evaluate { subject, .. } => {
-            Ok(Head::Looked(or_leave!(looked_at(scope, findings, line, subject))))
-        }
+        Verb::If { test, .. } => tested(condition(scope, findings, line, test)),
+        Verb::Evaluate { subject, .. } => looked(looked_at(scope, findings, line, subject)),
         Verb::PerformRange { first, thru, turns } => {
-            let act = or_leave!(range_act(
-                scope,
-                findings,
-                line,
-                first,
-                thru.as_ref(),
-                turns.as_ref()
-            ));
-            Ok(Head::Done(act))
+            let thru = thru.as_ref();
+            done(range_act(scope, findings, line, first, thru, turns.as_ref()))
         }
         Verb::PerformInline { turns, .. } => {
-            Ok(Head::Turned(or_leave!(turns_of(scope, findings, line, turns.as_ref()))))
+            turned(turns_of(scope, findings, line, turns.as_ref()))
         }
-        Verb::Go(name) => Ok(Head::Done(or_leave!(go_act(scope, findings, line, name)))),
-        Verb::Exit | Verb::Continue => Ok(Head::Done(nothing())),
-        Verb::StopRun => Ok(Head::Done(stop())),
-        Verb::Open(opens) => Ok(Head::Done(or_leave!(open_act(
-            scope,
-            findings,
-            line,
-            opens.get()
-        )))),
-        Verb::Close(names) => Ok(Head::Done(or_leave!(close_act(
-            scope,
-            findings,
-            line,
-            names.get()
-        )))),
+        Verb::Go(name) => done(go_act(scope, findings, line, name)),
+        Verb::Exit | Verb::Continue => done(Ok(nothing())),
+        Verb::StopRun => done(Ok(stop())),
+        Verb::Open(opens) => done(open_act(scope, findings, line, opens.get())),
+        Verb::Close(names) => done(close_act(scope, findings, line, names.get())),
         Verb::Read { file, into, .. } => {
-            let (file, into) = or_leave!(read_parts(scope, findings, line, file, into.as_ref()));
-            Ok(Head::Reads(file, into))
+            reads(read_parts(scope, findings, line, file, into.as_ref()))
         }
         Verb::Write { record, from, .. } => {
-            Ok(Head::Done(or_leave!(write_act(scope, findings, line, record, from.as_ref()))))
+            done(write_act(scope, findings, line, record, from.as_ref()))
         }
     }
 }

@@ -71,9 +71,13 @@ fn turns_until(
     match varying {
         None => Ok(Turns::Until { after, test }),
         Some(varying) => {
-            let item = varied(scope, findings, line, &varying.item)?;
-            let start = number_operand(scope, findings, line, &varying.from)?;
-            let by = number_operand(scope, findings, line, &varying.by)?;
+            let item = or_leave!(varied(scope, findings, line, &varying.item), test);
+            let start = or_leave!(number_operand(scope, findings, line, &varying.from), test);
+            let by = or_leave!(
+                number_operand(scope, findings, line, &varying.by),
+                start,
+                test
+            );
             Ok(Turns::Varying {
                 after,
                 item,

@@ -71,7 +71,8 @@ pub fn add_stmts(
     ensures found { OnOk result (findings.new.items ≡ found_behind findings.old.items (typed_stmts scope.now next.old (tree_spec.stmts_of (map tree_view.plain_stmt list.now))).found) }
 {
     for statement in list {
-        typed.push(typed_stmt(scope, findings, next, statement)?)?;
+        let made = or_leave!(typed_stmt(scope, findings, next, statement));
+        typed.push(made)?;
     }
     Ok(())
 }
@@ -88,7 +89,7 @@ fn typed_stmts(
     ensures found { OnOk result (findings.new.items ≡ found_behind findings.old.items (typed_stmts scope.now next.old (tree_spec.stmts_of (map tree_view.plain_stmt list.now))).found) }
 {
     let mut typed = Vec::new(scope.alloc);
-    add_stmts(scope, findings, next, list, &mut typed)?;
+    or_leave!(add_stmts(scope, findings, next, list, &mut typed));
     Ok(typed)
 }
 
@@ -126,9 +127,9 @@ fn typed_lists(
     ensures next { OnOk result (next.new ≡ (typed_lists scope.now line next.old looked (tree_lists lists.entry)).next) }
     ensures found { OnOk result (findings.new.items ≡ found_behind findings.old.items (typed_lists scope.now line next.old looked (tree_lists lists.entry)).found) }
 {
-    let whens = typed_whens(scope, findings, next, line, looked, lists.whens)?;
-    let first = typed_phrase(scope, findings, next, lists.first)?;
-    let second = typed_phrase(scope, findings, next, lists.second)?;
+    let whens = or_leave!(typed_whens(scope, findings, next, line, looked, lists.whens));
+    let first = or_leave!(typed_phrase(scope, findings, next, lists.first));
+    let second = or_leave!(typed_phrase(scope, findings, next, lists.second));
     Ok(TypedLists {
         whens,
         first,
@@ -149,7 +150,7 @@ fn typed_phrase(
 {
     match phrase {
         None => Ok(None),
-        Some(list) => Ok(Some(typed_stmts(scope, findings, next, list)?)),
+        Some(list) => Ok(Some(or_leave!(typed_stmts(scope, findings, next, list)))),
     }
 }
 
@@ -168,8 +169,8 @@ fn typed_when(
     ensures next { OnOk result (next.new ≡ (typed_when scope.now line next.old looked (tree_view.plain_when when.now)).next) }
     ensures found { OnOk result (findings.new.items ≡ found_behind findings.old.items (typed_when scope.now line next.old looked (tree_view.plain_when when.now)).found) }
 {
-    let tests = choices(scope, findings, line, looked, when.choices.get())?;
-    let body = typed_stmts(scope, findings, next, &when.body)?;
+    let tests = or_leave!(choices(scope, findings, line, looked, when.choices.get()));
+    let body = or_leave!(typed_stmts(scope, findings, next, &when.body));
     Ok(when_of(tests, body))
 }
 
@@ -188,7 +189,8 @@ fn typed_whens(
 {
     let mut typed = Vec::new(scope.alloc);
     for when in whens {
-        typed.push(typed_when(scope, findings, next, line, looked, when)?)?;
+        let made = or_leave!(typed_when(scope, findings, next, line, looked, when));
+        typed.push(made)?;
     }
     Ok(typed)
 }

@@ -275,8 +275,8 @@ fn scope_in<'x>(
     requires { HasFewPlaces layout.now }
     ensures { IfOk result (λ scope. scope ≡ record { layout = layout.now; paras = map (λ p. p.name) paragraphs.now }) }
 {
-    let names = Names::of(alloc, layout)?;
-    let places = places_of(alloc, paragraphs)?;
+    let names = or_leave!(Names::of(alloc, layout));
+    let places = or_leave!(places_of(alloc, paragraphs), names);
     Ok(Scope::of(alloc, layout, names, paragraphs, places))
 }
 
@@ -284,9 +284,8 @@ fn typed_in<'x>(alloc: Global, layout: &'x Layout, tree: &'x Tree) -> Result<Typ
     requires { HasFewPlaces layout.now }
     ensures { IfOk result (λ typed. AreTyped layout.now (plain_tree tree.now) typed) }
 {
-    let scope = scope_in(alloc, layout, tree.paragraphs.get())?;
-    let typed = typed_with(&scope, tree)?;
-    Ok(typed)
+    let scope = or_leave!(scope_in(alloc, layout, tree.paragraphs.get()));
+    typed_with(&scope, tree)
 }
 
 /// The program of what was typed, over a copy of the layout.

@@ -23,8 +23,8 @@ add_stmts-loop-statement-preserved t c =
     let l = c.loop-statement in
     let i = l.statement-index in
     let x = c.statement-item.result in
-    let made = c.in_ok-typed_stmt.field-0 in
-    let told = c.in_ok-typed_stmt.ensures in
+    let made = c.in-Ok.given in
+    let told = c.in-Ok.ensures in
     let here = stmts_step c.args.list.now i x c.loop-statement-test.true c.statement-item.is in
     let rest = stmts_from c.args.list.now (i + 1) in record {
       value = stmt_value s l.next c.typed_stmt.new.next (tree_view.plain_stmt x) rest (map plain_stmt l.typed.items) (map plain_stmt c.push.new.self.items) (plain_stmt made) _ told.next told.value
@@ -59,8 +59,8 @@ typed_whens-loop-when-preserved t c =
     let x = c.when-item.result in
     let line = c.args.line in
     let looked = c.args.looked in
-    let made = c.in_ok-typed_when.field-0 in
-    let told = c.in_ok-typed_when.ensures in
+    let made = c.in-Ok.given in
+    let told = c.in-Ok.ensures in
     let here = whens_step c.args.whens.now i x c.loop-when-test.true c.when-item.is in
     let rest = whens_from c.args.whens.now (i + 1) in record {
       value = when_value s line l.next c.typed_when.new.next looked (tree_view.plain_when x) rest (map plain_when l.typed.items) (map plain_when c.push.new.self.items) (plain_when made) _ told.next told.value
@@ -112,7 +112,7 @@ typed_stmt-returns-clause-found t c =
 pub typed_when-returns-clause-found : goal.typed_when-returns-clause-found
 typed_when-returns-clause-found t c =
     choice_found c.args.scope.now c.args.line c.args.next.now c.args.looked (tree_view.plain_when c.args.when.now) (map tree_view.plain_sel c.get.result.now) (tree.stmts_of (map tree_view.plain_stmt c.deref.result.now)) c.args.findings.now.items c.choices.new.findings.items _
-    (rw (when_is_of c.args.when.now) (search rules)) c.in_ok-tests.ensures.noted c.in_ok-body.ensures.found
+    (rw (when_is_of c.args.when.now) (search rules)) c.in-Ok.ensures.noted c.in-Ok-typed_stmts.ensures.found
 
 -- fewer statements for each call
 
