@@ -1,10 +1,10 @@
 //! The text of a COBOL source in the standard's reference format (ISO 1989:1985, "Reference
 //! format"): lines, comment lines and continuations become one list of characters.
 ghost use Rattle.std.specs.Prelude.{◌≡◌, ◌≤◌, ℕ, List, length, Ok, IfOk, IfErr};
-ghost use Rattle.cob_lines.specs.declared.TextEnd.TheVariants.{Memory};
+ghost use Rattle.cob_lex.specs.declared.text.TextEnd.TheVariants.{Memory};
 ghost use Rattle.std.specs.List.{All};
-ghost use Rattle.cob_lines.specs.Text.{numbered_lines, source_text, IfBadLine, source_limit};
-ghost use Rattle.cob_lines.specs.Plain.{IsPlain, plain_text};
+ghost use Rattle.cob_lex.specs.Text.{numbered_lines, source_text, IfBadLine, source_limit};
+ghost use Rattle.cob_lex.specs.Plain.{IsPlain, plain_text};
 
 use crate::join::joined;
 use crate::refusal::{Place, earlier, first_bad};
