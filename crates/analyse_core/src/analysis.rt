@@ -18,7 +18,7 @@ use crate::certificate::certificate_of;
 use crate::choice::packs;
 use crate::listing::thresholds;
 use crate::solving::{NoBounds, solve_cells, solve_packs};
-use crate::thresholds::pack_thresholds;
+use crate::threshold_lists::pack_thresholds;
 use cell_layer::CellLayer;
 use cert_text::Cert;
 use cob_graph::Graph;

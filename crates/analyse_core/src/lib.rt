@@ -21,7 +21,7 @@ mod reaching;
 mod solving;
 mod statements;
 mod sums;
-mod thresholds;
+mod threshold_lists;
 
 pub use analysis::analyse;
 pub use choice::packs;
@@ -29,4 +29,4 @@ pub use choice_laws::reached_paragraphs_are_marked;
 pub use laws::plain_evaluation_assigns;
 pub use listing::thresholds;
 pub use mention::Mention;
-pub use thresholds::pack_thresholds;
+pub use threshold_lists::pack_thresholds;

@@ -1,6 +1,6 @@
 use Rattle.std.proofs.Common.{◌≡◌, ◌++◌, drop}
 use Rattle.analyse_core.specs.PackThresholds.{list_thresholds}
-use Rattle.analyse_core.proofs.thresholds.add_list.Given as goal
+use Rattle.analyse_core.proofs.threshold_lists.add_list.Given as goal
 
 abbrev pub invariant-loop-threshold : goal.invariant-loop-threshold
 invariant-loop-threshold l =

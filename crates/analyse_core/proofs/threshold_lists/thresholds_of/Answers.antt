@@ -5,7 +5,7 @@ use Rattle.analyse_core.specs.Mentions.{lists_of}
 use Rattle.analyse_core.specs.Choice.{numbers_of}
 use Rattle.analyse_core.specs.PackThresholds.{thresholds_of_pack}
 use Rattle.analyse_core.proofs.Pushing.{list_pushed}
-use Rattle.analyse_core.proofs.thresholds.thresholds_of.Goals as goal
+use Rattle.analyse_core.proofs.threshold_lists.thresholds_of.Goals as goal
 
 pub loop-pack-preserved : goal.loop-pack-preserved
 loop-pack-preserved c =

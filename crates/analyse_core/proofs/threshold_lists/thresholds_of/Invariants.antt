@@ -2,7 +2,7 @@ use Rattle.std.proofs.Common.{◌≡◌, ◌++◌, drop, map}
 use Rattle.analyse_core.specs.Mentions.{lists_of}
 use Rattle.analyse_core.specs.Choice.{numbers_of}
 use Rattle.analyse_core.specs.PackThresholds.{thresholds_of_pack}
-use Rattle.analyse_core.proofs.thresholds.thresholds_of.Given as goal
+use Rattle.analyse_core.proofs.threshold_lists.thresholds_of.Given as goal
 
 abbrev pub invariant-loop-pack : goal.invariant-loop-pack
 invariant-loop-pack l =

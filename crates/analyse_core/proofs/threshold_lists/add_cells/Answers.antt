@@ -3,7 +3,7 @@ use Rattle.std.proofs.lemmas.List.{drop_all, drop_more}
 use Rattle.cob_program.proofs.Loops.{added, nothing_left}
 use Rattle.analyse_core.specs.Mentions.{lists_of}
 use Rattle.analyse_core.specs.PackThresholds.{cells_thresholds}
-use Rattle.analyse_core.proofs.thresholds.add_cells.Goals as goal
+use Rattle.analyse_core.proofs.threshold_lists.add_cells.Goals as goal
 
 pub loop-number-preserved : goal.loop-number-preserved
 loop-number-preserved c =

@@ -7,7 +7,7 @@ use Rattle.analyse_core.specs.Choice.{numbers_of}
 use Rattle.analyse_core.specs.Rising.{Rises}
 use Rattle.analyse_core.specs.PackThresholds.{thresholds_of_pack}
 use Rattle.analyse_core.proofs.PackUnits.{are_counted, they_rise, they_are_short, they_are_words}
-use Rattle.analyse_core.proofs.thresholds.pack_thresholds.Goals as goal
+use Rattle.analyse_core.proofs.threshold_lists.pack_thresholds.Goals as goal
 
 pub returns-clause-counted : goal.returns-clause-counted
 returns-clause-counted c =

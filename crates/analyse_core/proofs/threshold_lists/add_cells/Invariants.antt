@@ -1,7 +1,7 @@
 use Rattle.std.proofs.Common.{◌≡◌, ◌++◌, drop}
 use Rattle.analyse_core.specs.Mentions.{lists_of}
 use Rattle.analyse_core.specs.PackThresholds.{cells_thresholds}
-use Rattle.analyse_core.proofs.thresholds.add_cells.Given as goal
+use Rattle.analyse_core.proofs.threshold_lists.add_cells.Given as goal
 
 abbrev pub invariant-loop-number : goal.invariant-loop-number
 invariant-loop-number l =
