@@ -71,7 +71,7 @@ fn push_paragraph(text: &mut Vec<u8>, number: u32) -> Result<(), AllocError>
 }
 
 /// The source of a trial with so many paragraphs, at most 9,999 of them. Each counts an item up, and back from 10 to 0.
-#[tactic(auto, using(crate::proofs::Lines::begins, crate::proofs::Lines::ends))]
+#[tactic(auto, using(crate::proofs::AnalysisLines::begins, crate::proofs::AnalysisLines::ends))]
 pub fn trial_source(alloc: Global, count: u32) -> Result<Vec<u8>, AllocError>
     ensures { IfOk result (λ text. text.items ≡ trial_text count) }
 {
