@@ -16,14 +16,14 @@
 //! record, since a READ doesn't look for the end behind it.
 #![tactic(auto)]
 
-mod commands;
 mod left;
 mod outside;
+mod status;
 
 use batch_io::MemFiles;
-use commands::status_of;
 use left::is_right;
 use outside::{AMPLE, files_of, shown, sink_of};
+use status::status_of;
 use std::{env, io};
 
 /// What a case that can't be read is answered.
