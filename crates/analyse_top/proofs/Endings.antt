@@ -37,28 +37,29 @@ module _ (call : Call) where
     }
 
     ends_out_of_memory : (text : List ℕ) → MayBeShown call text → call.status ≡ 8
-        → GainsFront call.out_before call.out_after text → EndsByAnswer call
-    ends_out_of_memory text may eight front = record {
+        → GainsFront call.out_before call.out_after text
+        → (text ≡ memory_line) ⊎ (call.out_after.faults ≡ call.out_before.faults) → EndsByAnswer call
+    ends_out_of_memory text may eight front faults = record {
       contents = reads.contents;
       ids = reads.ids;
       writing = reads.writing;
-      ends = inr (inr (record { status = eight; shows = (text, may, front) }));
+      ends = inr (inr (record { status = eight; text = text; may = may; shows = front; faults = faults }));
     }
-
-    pub ends_by_answer : (answer : Answer) → Answers (known_bytes call.files_before) call.words answer
-        → ShowsAnswer call.out_before call.out_after answer call.status → EndsByAnswer call
-    ends_by_answer answer is (inl shows) =
-        ends_in answer (record { is_answer = is; reading = reads.reading.kept refl; shows = shows })
-    ends_by_answer answer is (inr (eight, inl front)) =
-        ends_out_of_memory (answer_text answer) (inr (inr (answer, is, refl))) eight front
-    ends_by_answer answer is (inr (eight, inr front)) = ends_out_of_memory memory_line (inl refl) eight front
 
     ends_for_memory : ShowsRefusal call.out_before call.out_after memory_line 8 call.status → EndsByAnswer call
     ends_for_memory (inl (inl (eight, gains, kept))) =
         ends_out_of_memory memory_line (inl refl) eight
-        (whole_front call.out_before call.out_after memory_line gains)
-    ends_for_memory (inl (inr (eight, front, rose))) = ends_out_of_memory memory_line (inl refl) eight front
-    ends_for_memory (inr (eight, front)) = ends_out_of_memory memory_line (inl refl) eight front
+        (whole_front call.out_before call.out_after memory_line gains) (inl refl)
+    ends_for_memory (inl (inr (eight, front, rose))) = ends_out_of_memory memory_line (inl refl) eight front (inl refl)
+    ends_for_memory (inr (eight, front, kept)) = ends_out_of_memory memory_line (inl refl) eight front (inl refl)
+
+    pub ends_by_answer : (answer : Answer) → Answers (known_bytes call.files_before) call.words answer
+        → ShowsAnswer call.out_before call.out_after answer call.status → EndsByAnswer call
+    ends_by_answer answer is (inl (inl shows)) =
+        ends_in answer (record { is_answer = is; reading = reads.reading.kept refl; shows = shows })
+    ends_by_answer answer is (inl (inr (eight, front, kept))) =
+        ends_out_of_memory (answer_text answer) (inr (inr (answer, is, refl))) eight front (inr kept)
+    ends_by_answer answer is (inr refusal) = ends_for_memory refusal
 
   module _ (reads : Reads call.files_before call.files_after true) where
     rose : Rose call.files_before.reading call.files_after.reading
@@ -71,11 +72,17 @@ module _ (call : Call) where
       writing = reads.writing;
       ends = inr (inl (record { rose = rose; shows = shows }));
     }
-    ends_by_read_fault (inr (eight, front)) = record {
+    ends_by_read_fault (inr (eight, front, kept)) = record {
       contents = reads.contents;
       ids = reads.ids;
       writing = reads.writing;
-      ends = inr (inr (record { status = eight; shows = (read_fault_line, inr (inl (rose, refl)), front) }));
+      ends = inr (inr (record {
+        status = eight;
+        text = read_fault_line;
+        may = inr (inl (rose, refl));
+        shows = front;
+        faults = inr kept;
+      }));
     }
 
   pub ends_found : (found : Result code.Answer Stop) → Reads call.files_before call.files_after (stopped_by_fault found)

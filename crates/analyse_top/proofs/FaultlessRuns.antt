@@ -48,7 +48,9 @@ told_fault files old new (Err e) true status h one = one_is_fault e (sym h.0 ∙
 told_fault files old new (Err e) false status (inl (inl (inl h))) one = one_is_fault e (sym h.0 ∙ one)
 told_fault files old new (Err e) false status (inl (inl (inr h))) one = one_is_fault e (sym h.0 ∙ one)
 told_fault files old new (Err e) false status (inl (inr h)) one = absurd (omega (arith, h.0, one))
-told_fault files old new (Err e) false status (inr h) one = absurd (omega (arith, h.0, one))
+told_fault files old new (Err e) false status (inr (inl (inl h))) one = absurd (omega (arith, h.0, one))
+told_fault files old new (Err e) false status (inr (inl (inr h))) one = absurd (omega (arith, h.0, one))
+told_fault files old new (Err e) false status (inr (inr h)) one = absurd (omega (arith, h.0, one))
 
 no_refusal : (result : Result Ended RunEnd) → IsFault result
     → (result ≡ Err end.ReadFault) ⊎ (result ≡ Err end.WriteFault) ⊎ (result ≡ Err end.Memory) → ⊥

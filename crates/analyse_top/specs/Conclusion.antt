@@ -61,9 +61,13 @@ MayBeShown call text =
     ⊎ ((Rose call.files_before.reading call.files_after.reading) × (text ≡ read_fault_line))
     ⊎ ((answer : Answer) × Answers (known_bytes call.files_before) call.words answer × (text ≡ answer_text answer))
 
+-- memory ran out: a front of one of them is shown, and no write failed but one of the line that tells it
 pub record EndsByMemory (call : Call) : Type 0 where
   pub status : call.status ≡ 8
-  pub shows : (text : List ℕ) × MayBeShown call text × GainsFront call.out_before call.out_after text
+  pub text : List ℕ
+  pub may : MayBeShown call text
+  pub shows : GainsFront call.out_before call.out_after text
+  pub faults : (text ≡ memory_line) ⊎ (call.out_after.faults ≡ call.out_before.faults)
 
 -- No file is changed, and every open id is as it was.
 pub record EndsByAnswer (call : Call) : Type 0 where

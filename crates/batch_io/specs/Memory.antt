@@ -1,5 +1,5 @@
 -- What the objects in memory mean. They tell everything.
-use Rattle.std.specs.Prelude.{◌≡◌, ◌≢◌, ◌≤◌, ℕ, List, [], length, take, map, bytes_eq, position, string_bytes, option_map, Option, None, Some, Vec, String}
+use Rattle.std.specs.Prelude.{◌≡◌, ◌≢◌, ◌≤◌, ◌-◌, ◌^◌, ℕ, List, [], length, take, map, bytes_eq, position, string_bytes, option_map, Option, None, Some, Vec, String}
 use Rattle.std.specs.declared.alloc.Global.{Global}
 use Rattle.std.specs.FinMap.{from_entries}
 use Rattle.batch_io.specs.declared.failing.FailingCalls.{FailingCalls}
@@ -70,13 +70,14 @@ files_calls m = m.calls
 abbrev pub files_most : MemFiles → ℕ
 files_most m = m.most.bytes
 
--- an object that holds these files, with no id open, no fault and no call so far
+-- an object that holds these files, with no id open, no fault and no call so far, whose reads and writes count as many bytes as there are
 pub record StartsFiles (files : List File) (failing : List ℕ) (result : MemFiles) : Type 0 where
   pub bytes : known_bytes (mem_files result) ≡ Some (contents_of files)
   pub purpose : (id : ℕ) → (mem_files result).purpose id ≡ None
   pub reading : (mem_files result).reading ≡ 0
   pub writing : (mem_files result).writing ≡ 0
   pub calls : StartsCalls failing (files_calls result)
+  pub most : files_most result ≡ 2 ^ 64 - 1
 
 abbrev pub mem_sink : MemSink → SinkState
 mem_sink m = record { told = Some m.text.items; faults = m.faults }
@@ -88,8 +89,9 @@ sink_calls m = m.calls
 abbrev pub sink_most : MemSink → ℕ
 sink_most m = m.most.bytes
 
--- no text, no fault and no call so far
+-- no text, no fault and no call so far; a write counts as many bytes as there are
 pub record StartsSink (failing : List ℕ) (result : MemSink) : Type 0 where
   pub told : (mem_sink result).told ≡ Some []
   pub faults : (mem_sink result).faults ≡ 0
   pub calls : StartsCalls failing (sink_calls result)
+  pub most : sink_most result ≡ 2 ^ 64 - 1

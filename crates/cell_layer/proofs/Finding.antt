@@ -7,7 +7,7 @@ use Rattle.std.specs.Option.{option_map_or}
 use Rattle.std.proofs.Props.{props}
 use Rattle.std.proofs.Math.Logic.{∥∥₁_elim}
 use Rattle.std.proofs.lemmas.List.{take_all}
-use Rattle.std.proofs.lemmas.List.Elements.{All-head, All-tail, All-more}
+use Rattle.std.proofs.lemmas.List.Elements.{All-head, All-tail, All-more, All-get_or}
 use Rattle.std.proofs.lemmas.Option.{same_Some, none-some}
 use Rattle.cob_tree.specs.declared.fault.Kind.{Kind}
 use Rattle.cob_program.specs.declared.act.Stmt as declared_stmt
@@ -131,6 +131,11 @@ module _ (p : Program) (g : Graph) (x : Edge) (ss : List (Bor declared_stmt.Stmt
   few_some s numbered few =
       ∥∥₁_elim source (hlevel props) (λ h. few_by p g x (plain_stmt s.now) few (is_left_some p g x ss h.whole listed s numbered))
 
+  pub some_few : (s : Bor declared_stmt.Stmt) → IsNumbered ss (left g x) s → HasFewAt p g x →
+      length (edge_parts p (plain_stmt s.now) x.action) < 2 ^ 32 - 1
+  some_few s numbered few =
+      ∥∥₁_elim source (hlevel props) (λ h. few_at p g x (plain_stmt s.now) few (is_left_some p g x ss h.whole listed s numbered))
+
   pub few_none : All (λ s. ¬ number_in (plain_stmt s.now) ≡ left g x) ss → HasFewAt p g x
   few_none none = ∥∥₁_elim source (hlevel props) (λ h. few_by_none p g x (is_left_none p g x ss h.whole listed none))
 
@@ -145,3 +150,6 @@ module _ (p : Program) (g : Graph) (xs : List Edge) (same : xs ≡ g.edges) (k :
 
   pub few_all : length xs ≤ k → All (HasFewAt p g) (take k g.edges) → All (HasFewAt p g) g.edges
   few_all past all = subst (All (HasFewAt p g)) (take_all k g.edges (omega (arith, past, ap length same))) all
+
+  pub few_each : (d : Edge) → k < length xs → All (HasFewAt p g) g.edges → HasFewAt p g (slice_index_or xs k d)
+  few_each d within all = All-get_or (HasFewAt p g) xs k d within (subst (All (HasFewAt p g)) (sym same) all)

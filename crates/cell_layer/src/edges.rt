@@ -1,5 +1,5 @@
 //! What edges make of rows, in place, and the faults that they clear.
-ghost use Rattle.std.specs.Prelude.{◌≡◌, ◌≤◌, ◌&&◌, not, if◌then◌else◌, true, length, IfSome, Some, None, Contains};
+ghost use Rattle.std.specs.Prelude.{◌≡◌, ◌≤◌, ◌↔◌, ◌&&◌, not, if◌then◌else◌, true, length, IfSome, Some, None, Contains};
 ghost use Rattle.std.specs.List.{All};
 ghost use Rattle.cob_program.specs.ActView.{plain_stmt, plain_program};
 ghost use Rattle.cob_program.specs.Statements.{program_statements, plain_references};
@@ -196,7 +196,7 @@ pub fn clears_edge(
 fn has_few_at(program: &Program, graph: &Graph, statements: &[&Stmt], edge: Edge) -> bool
     requires source { ∥ IsSourceGraph (plain_program program.now) graph.now ∥₁ }
     requires listed { plain_references statements.now ≡ program_statements (plain_program program.now) }
-    ensures { result ≡ true → HasFewAt (plain_program program.now) graph.now edge }
+    ensures { (result ≡ true) ↔ HasFewAt (plain_program program.now) graph.now edge }
 {
     match left(graph, statements, edge) {
         Some(statement) => part_count(program, statement, edge.action) < u32::MAX,
@@ -208,7 +208,7 @@ fn has_few_at(program: &Program, graph: &Graph, statements: &[&Stmt], edge: Edge
 pub fn has_few_parts(program: &Program, graph: &Graph, statements: &[&Stmt]) -> bool
     requires source { ∥ IsSourceGraph (plain_program program.now) graph.now ∥₁ }
     requires listed { plain_references statements.now ≡ program_statements (plain_program program.now) }
-    ensures { result ≡ true → HasFewParts (plain_program program.now) graph.now }
+    ensures { (result ≡ true) ↔ HasFewParts (plain_program program.now) graph.now }
 {
     for edge in graph.edges.get() {
         if !has_few_at(program, graph, statements, *edge) {

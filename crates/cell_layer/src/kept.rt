@@ -154,6 +154,7 @@ pub fn with_operands(
     requires can { CanStep (plain_program program.now) (plain_act act.now) action (seen row.now kept.now) }
     ensures same { seen row.now result ≡ with_taken_small (plain_program program.now) (plain_act act.now) action (seen row.now kept.now) }
     ensures written { result.written ≡ true }
+    ensures latest { latest_of result ≡ latest_of kept.now }
     ensures can { CanStep (plain_program program.now) (plain_act act.now) action (seen row.now result) }
 {
     taken(program, cells, row, act, action, *kept)

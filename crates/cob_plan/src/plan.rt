@@ -11,6 +11,7 @@ ghost use Rattle.cob_world.specs.Doing.{CanDoProgram};
 ghost use Rattle.cob_plan.specs.Plan.{ArePlanNodes, IsPlanNode, IsStatement};
 ghost use Rattle.cob_graph.specs.Lookup.{node_at};
 ghost use Rattle.cob_plan.specs.Stepping.{IsListed, HasSteps};
+ghost use Rattle.cob_plan.specs.Listing.{plain_statements, listed};
 
 use crate::listing::statements_of;
 use crate::node::PlanNode;
@@ -61,6 +62,8 @@ impl<'a> Plan<'a> {
             plan.statements.items) }
         ensures steps { IfOk result (λ plan. HasSteps (plain_program program.now) plan.nodes.items
             plan.statements.items) }
+        ensures listed { IfOk result (λ plan. plain_statements plan.statements.items
+            ≡ listed (plain_program program.now)) }
     {
         let nodes = nodes_of(alloc, graph)?;
         let statements = statements_of(alloc, program)?;

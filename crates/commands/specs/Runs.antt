@@ -14,7 +14,7 @@ use Rattle.command_words.specs.Commands.{Run, IsCommand}
 use Rattle.command_words.specs.Commands as command
 use Rattle.commands.specs.Paths.{paths_of}
 use Rattle.commands.specs.Text.{memory_line}
-use Rattle.commands.specs.Showing.{GainsFront, ShowsRefusal}
+use Rattle.commands.specs.Showing.{ShowsRefusal}
 use Rattle.commands.specs.Profile.{IsProgramOf, IsOfProfile, IsProfileCause}
 use Rattle.commands.specs.Answer.{Answer, Usage, Absent, Refused}
 use Rattle.commands.specs.RunText.{run_text}
@@ -83,7 +83,7 @@ run_status end.Memory = 8
 -- The end is told by its line, or by that of want of memory where the line can't be made.
 abbrev pub ShowsEnd : List FileDecl → SinkState → SinkState → RunEnd → ℕ → Type 0
 ShowsEnd files old new e status =
-    ShowsRefusal old new (run_text files e) (run_status e) status ⊎ ((status ≡ 8) × GainsFront old new memory_line)
+    ShowsRefusal old new (run_text files e) (run_status e) status ⊎ ShowsRefusal old new memory_line 8 status
 
 -- Nothing more is shown where the run came to its end, or where the sink refused the run's text.
 abbrev pub TellsEnd : List FileDecl → SinkState → SinkState → Result Ended RunEnd → Bool → ℕ → Type 0

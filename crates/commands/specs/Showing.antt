@@ -17,10 +17,10 @@ Shows old new text whole failed status =
     ((status ≡ whole) × Gains old new text × (new.faults ≡ old.faults))
     ⊎ ((status ≡ failed) × GainsFront old new text × Rose old.faults new.faults)
 
--- the text is shown as above, or memory ran out behind a front of it
+-- the text is shown as above, or memory ran out behind a front of it, and no write failed
 abbrev pub ShowsIfMemory : SinkState → SinkState → List ℕ → ℕ → ℕ → ℕ → Type 0
 ShowsIfMemory old new text whole failed status =
-    Shows old new text whole failed status ⊎ ((status ≡ 8) × GainsFront old new text)
+    Shows old new text whole failed status ⊎ ((status ≡ 8) × GainsFront old new text × (new.faults ≡ old.faults))
 
 -- a refusal's line: its status, or 8 where memory ran out
 abbrev pub ShowsRefusal : SinkState → SinkState → List ℕ → ℕ → ℕ → Type 0

@@ -11,7 +11,7 @@ use Rattle.commands.specs.declared.answer.Stop.{Stop}
 use Rattle.commands.specs.declared.answer.Stop.TheVariants.{ReadFault, Memory}
 use Rattle.commands.specs.declared.source.Laid.{Laid}
 use Rattle.commands.specs.Text.{memory_line, read_fault_line}
-use Rattle.commands.specs.Showing.{GainsFront, Shows, ShowsRefusal}
+use Rattle.commands.specs.Showing.{ShowsIfMemory, ShowsRefusal}
 use Rattle.commands.specs.Profile.{IsProgramOf}
 use Rattle.commands.specs.Answer.{Answer, Refused, answer_text, status_of, status_unwritten}
 
@@ -55,11 +55,11 @@ answer_to cause = Ok (Refused cause)
 
 -- ---- what is shown
 
--- an answer: its status, or 8 where memory ran out
+-- an answer: its status, or 8 where memory ran out, in its place the line of that where its text can't be made
 abbrev pub ShowsAnswer : SinkState → SinkState → Answer → ℕ → Type 0
 ShowsAnswer old new answer status =
-    Shows old new (answer_text answer) (status_of answer) (status_unwritten answer) status
-    ⊎ ((status ≡ 8) × (GainsFront old new (answer_text answer) ⊎ GainsFront old new memory_line))
+    ShowsIfMemory old new (answer_text answer) (status_of answer) (status_unwritten answer) status
+    ⊎ ShowsRefusal old new memory_line 8 status
 
 -- what is found: an answer, or why there is none
 abbrev pub ShowsFound : SinkState → SinkState → Result Answer Stop → ℕ → Type 0

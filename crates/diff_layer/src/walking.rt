@@ -151,8 +151,9 @@ fn is_taken(statement: &Stmt, action: Action, any_fail: bool) -> bool
     }
 }
 
-/// Makes of the matrices of all packs what an edge of a statement makes of them, and of the row of what is known of cells
-/// what is known behind the edge's last part. Answers false where no run passes the edge; the words then aren't told.
+/// Makes of the matrices of all packs what an edge of a statement makes of them. The row of what is known of cells goes
+/// along, and what it then holds isn't told. Answers false where no run passes the edge; then the matrices' words aren't
+/// told either.
 pub fn walk_packs(
     program: &Program,
     cells: &[Cell],

@@ -24,7 +24,7 @@ plans_of-requires-clause-packs g c =
     let graph = c.args.graph.now in
     let source = c.requires.source in
     let ss = c.in_ok-statements.statements.items in
-    let held = held_by p graph source ss c.in_ok-statements.ensures (c.has_few_parts.ensures c.if-not-has_few_parts.false) in
+    let held = held_by p graph source ss c.in_ok-statements.ensures (c.has_few_parts.ensures.0 c.if-not-has_few_parts.false) in
     subst (λ n. ArePacksOfCells n c.args.packs.now) (cells_for_homes p graph ss held) c.requires.packs
 
 pub heads_of-requires-clause-first : goal.heads_of-requires-clause-first
@@ -69,7 +69,7 @@ entry_words-requires-clause-plans g c =
     let graph = c.args.graph.now in
     let source = c.requires.source in
     let ss = c.in_ok-statements.statements.items in
-    let held = held_by p graph source ss c.in_ok-statements.ensures (c.has_few_parts.ensures c.if-not-has_few_parts.false) in
+    let held = held_by p graph source ss c.in_ok-statements.ensures (c.has_few_parts.ensures.0 c.if-not-has_few_parts.false) in
     let plans = c.in_ok-plans.plans.items in
     subst (ArePlansOf p) (sym c.as_slice-3.ensures.value)
     (are_plans p graph ss held c.args.packs.now ∣ c.requires.packs ∣₁ c.args.thresholds.now c.requires.listed plans c.in_ok-plans.ensures.packs
@@ -90,7 +90,7 @@ invariant_of-result g c =
     let graph = c.args.graph.now in
     let source = c.requires.source in
     let ss = c.in_ok-statements.statements.items in
-    let held = held_by p graph source ss c.in_ok-statements.ensures (c.has_few_parts.ensures c.if-not-has_few_parts.false) in
+    let held = held_by p graph source ss c.in_ok-statements.ensures (c.has_few_parts.ensures.0 c.if-not-has_few_parts.false) in
     record {
       held = held;
       cells = ∣ c.requires.packs ∣₁;
