@@ -7,7 +7,7 @@ use Rattle.std.specs.Option.{option_map_or}
 use Rattle.std.proofs.Props.{props}
 use Rattle.std.proofs.Math.Logic.{∥∥₁_elim}
 use Rattle.std.proofs.lemmas.List.{take_all}
-use Rattle.std.proofs.lemmas.List.Elements.{All-head, All-tail, All-more, All-get_or}
+use Rattle.std.proofs.lemmas.List.Elements.{All-head, All-tail, All-more}
 use Rattle.std.proofs.lemmas.Option.{same_Some, none-some}
 use Rattle.cob_tree.specs.declared.fault.Kind.{Kind}
 use Rattle.cob_program.specs.declared.act.Stmt as declared_stmt
@@ -150,6 +150,3 @@ module _ (p : Program) (g : Graph) (xs : List Edge) (same : xs ≡ g.edges) (k :
 
   pub few_all : length xs ≤ k → All (HasFewAt p g) (take k g.edges) → All (HasFewAt p g) g.edges
   few_all past all = subst (All (HasFewAt p g)) (take_all k g.edges (omega (arith, past, ap length same))) all
-
-  pub few_each : (d : Edge) → k < length xs → All (HasFewAt p g) g.edges → HasFewAt p g (slice_index_or xs k d)
-  few_each d within all = All-get_or (HasFewAt p g) xs k d within (subst (All (HasFewAt p g)) (sym same) all)

@@ -1,7 +1,6 @@
-use Rattle.std.proofs.Common.{refl, sym, ◌∙◌}
-use Rattle.std.proofs.lemmas.Bool.{false≢true}
+use Rattle.std.proofs.Common.{refl}
 use Rattle.cob_program.specs.ActView.{plain_program}
-use Rattle.cell_layer.proofs.Finding.{few_more, few_all, few_each}
+use Rattle.cell_layer.proofs.Finding.{few_more, few_all}
 use Rattle.cell_layer.proofs.edges.has_few_parts.Goals as goal
 
 pub loop-edge-preserved : goal.loop-edge-preserved
@@ -14,14 +13,4 @@ returns c = (
   λ e. few_all (plain_program c.args.program.now) c.args.graph.now c.get-edge-items.result.now c.get-edge-items.ensures c.loop-edge.edge-index
       c.loop-edge-test.false c.loop-edge.invariant,
   λ few. refl,
-)
-
-pub returns-then-not-has_few_at : goal.returns-then-not-has_few_at
-returns-then-not-has_few_at c = (
-  λ e. absurd (false≢true e),
-  λ few.
-      sym c.if-not-has_few_at.true
-      ∙ c.has_few_at.ensures.1
-      (few_each (plain_program c.args.program.now) c.args.graph.now c.get-edge-items.result.now c.get-edge-items.ensures c.loop-edge.edge-index _
-      c.loop-edge-test.true few),
 )
