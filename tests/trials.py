@@ -1,5 +1,5 @@
-"""`trial N`: what it answers, and that what it leaves is the certificate of its source, which the specification's rule
-writes out here."""
+"""`trial N`: what it answers, and that what it leaves is the certificate of its source, which is written out here by its
+rule (docs/GUIDE.md, "Trying it")."""
 
 from bench.sources import trial
 from tests.built import Case, launcher, ran
