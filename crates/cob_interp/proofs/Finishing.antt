@@ -32,7 +32,7 @@ use Rattle.cob_interp.specs.Tracking.{Ids, IsHeldFor, purposes_for, purposes_of}
 use Rattle.cob_interp.specs.Meeting.{is_failure, IfFailed, IsFailureBy, IsMetBy, shows_first, ShowsRest}
 use Rattle.cob_interp.specs.Runs.{Outside, outside, IfTold, CountsOn, EndsRun, EndsWell, HasEnded, IsOpenAt, ByClose, NoClose, IsBrokenBy, IsBroken, IsBrokenBefore, IfRefused, EndsBy, Runs, RunsBefore, TellsOfSink}
 use Rattle.cob_interp.specs.Running.{IsWell, Stands, RestsIn, Rests, Halts, Arrives, IsAt, GoesOn, HaltsOff}
-use Rattle.cob_interp.specs.Walking.{by_sink, as_result, IsSinkRefusal, TellsBySink, Flushes, MayFlush, Refuses, is_refused, IsOwnEnd}
+use Rattle.cob_interp.specs.Walking.{by_sink, as_result, is_sink_fault, IsSinkRefusal, TellsBySink, Flushes, MayFlush, Refuses, is_refused, IsOwnEnd}
 use Rattle.cob_interp.proofs.Passing.{append_none, rests_on}
 use Rattle.cob_interp.proofs.Onward.{ends_well, spends}
 use Rattle.cob_interp.proofs.CloseLemmas.{rose_on}
@@ -532,7 +532,7 @@ pub tells_on : (old mid new : SinkState) (e : Halt) → mid.faults ≡ old.fault
     → TellsBySink {A = Ended} old new (Err e)
 tells_on old mid new (halt.End e) same tells = tells ∙ same
 tells_on old mid new (halt.Sink make.Failed) same tells = rose_on old.faults mid.faults new.faults same tells
-tells_on old mid new (halt.Sink make.Memory) same tells = tt
+tells_on old mid new (halt.Sink make.Memory) same tells = tells ∙ same
 
 -- behind a refused statement
 pub tells_rest : (a : Act) (old mid new : SinkState) (w v : World) (e : RunEnd) (h : Halt) → mid.faults ≡ old.faults
@@ -542,13 +542,13 @@ tells_rest a old mid new w v e (halt.End d) same (is, inl (sink, world, why)) =
 tells_rest a old mid new w v e (halt.End d) same (is, inr (flushes, waits, fails)) = flushes.gains.faults ∙ same
 tells_rest a old mid new w v e (halt.Sink make.Failed) same (refuses, waits, fails) =
     rose_on old.faults mid.faults new.faults same refuses.why
-tells_rest a old mid new w v e (halt.Sink make.Memory) same (refuses, waits, fails) = tt
+tells_rest a old mid new w v e (halt.Sink make.Memory) same (refuses, waits, fails) = refuses.why ∙ same
 
 module _ (old new : SinkState) (e : Ending) where
-  pub tells_refused : (why : MakeEnd) → e.end ≡ Err (by_sink why) → e.sink_refused ≡ true → IsSinkRefusal old new why
-      → TellsOfSink old new e
-  tells_refused make.Failed is refused rose = record { kept = λ not. absurd cc; refused = λ _. inl (is, rose) }
-  tells_refused make.Memory is refused rose = record { kept = λ not. absurd cc; refused = λ _. inr is }
+  pub tells_refused : (why : MakeEnd) → e.end ≡ Err (by_sink why) → e.sink_refused ≡ is_sink_fault why
+      → IsSinkRefusal old new why → TellsOfSink old new e
+  tells_refused make.Failed is fault rose = record { kept = λ not. absurd cc; refused = λ _. (is, rose) }
+  tells_refused make.Memory is not same = record { kept = λ _. same; refused = λ fault. absurd cc }
 
   pub tells_kept : e.sink_refused ≡ false → new.faults ≡ old.faults → TellsOfSink old new e
   tells_kept not same = record { kept = λ _. same; refused = λ refused. absurd cc }
@@ -556,8 +556,7 @@ module _ (old new : SinkState) (e : Ending) where
   pub tells_from : (mid : SinkState) → mid.faults ≡ old.faults → TellsOfSink mid new e → TellsOfSink old new e
   tells_from mid same tells = record {
     kept = λ not. tells.kept not ∙ same;
-    refused = λ refused. elim (tells.refused refused) [
-      | inl both ↦ inl (both.0, rose_on old.faults mid.faults new.faults same both.1)
-      | inr is ↦ inr is
-    ];
+    refused = λ refused.
+        let both = tells.refused refused in
+        (both.0, rose_on old.faults mid.faults new.faults same both.1);
   }

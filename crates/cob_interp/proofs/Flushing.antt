@@ -30,7 +30,7 @@ flushes old new w s = record { gains = record { faults = s.faults.kept refl; tol
 refused_why : (old new : SinkState) (text : List ℕ) (e : MakeEnd) → ShowsWhole old new text (Err e)
     → IsSinkRefusal old new e
 refused_why old new text make.Failed s = s.faults.rose refl
-refused_why old new text make.Memory s = tt
+refused_why old new text make.Memory s = s.faults.kept refl
 
 pub refuses : (old new : SinkState) (w : World) (e : MakeEnd) → ShowsWhole old new w.shown (Err e)
     → Refuses old new w w e

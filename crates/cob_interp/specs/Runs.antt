@@ -195,8 +195,7 @@ KeepsUnmade p paths first told =
 
 -- ---- the sink
 
--- Whether the sink refused text: then that is why the run was refused, and else it told no fault.
+-- Whether the sink refused text by a fault: then that is why the run was refused, and else it told no fault.
 pub record TellsOfSink (old new : SinkState) (e : Ending) : Type 0 where
   pub kept : e.sink_refused ≡ false → new.faults ≡ old.faults
-  pub refused : e.sink_refused ≡ true
-      → ((e.end ≡ Err end.WriteFault) × Rose old.faults new.faults) ⊎ (e.end ≡ Err end.Memory)
+  pub refused : e.sink_refused ≡ true → (e.end ≡ Err end.WriteFault) × Rose old.faults new.faults

@@ -23,10 +23,15 @@ as_result (Ok a) = Ok a
 as_result (Err (halt.End e)) = Err e
 as_result (Err (halt.Sink e)) = Err (by_sink e)
 
--- why the sink refused text
+-- whether it is a fault of the sink, and not want of memory
+abbrev pub is_sink_fault : MakeEnd → Bool
+is_sink_fault make.Failed = true
+is_sink_fault make.Memory = false
+
+-- why the sink refused text: by a fault, which its count shows, or where memory ran out
 abbrev pub IsSinkRefusal : SinkState → SinkState → MakeEnd → Type 0
 IsSinkRefusal old new make.Failed = Rose old.faults new.faults
-IsSinkRefusal old new make.Memory = Unit {0}
+IsSinkRefusal old new make.Memory = new.faults ≡ old.faults
 
 -- a fault of the sink is told where it refused text, and else none
 abbrev pub TellsBySink : {A : Type 0} → SinkState → SinkState → Result A Halt → Type 0

@@ -35,7 +35,7 @@ pub enum RunEnd {
     Memory,
 }
 
-/// How a run ended, and whether the sink refused its text, so that nothing more may be shown.
+/// How a run ended, and whether the sink refused its text by a fault, so that nothing more may be shown.
 #[derive(Clone, Copy)]
 pub struct Ending {
     pub end: Result<Ended, RunEnd>,

@@ -18,7 +18,7 @@ ghost use Rattle.cob_interp.specs.Setting.{IsReady, program_of, paths_of};
 ghost use Rattle.cob_interp.specs.Told.{AreDistinct};
 ghost use Rattle.cob_interp.specs.Touching.{Loses, Touches, makes_none};
 ghost use Rattle.cob_interp.specs.Tracking.{AreLeft, AreNone, AreOpen, AreWritten, IsHeldFor, Tracks, purposes_for, purposes_of};
-ghost use Rattle.cob_interp.specs.Walking.{by_sink, as_result, TellsBySink, is_refused, IsOwnEnd, IsRefused};
+ghost use Rattle.cob_interp.specs.Walking.{by_sink, as_result, is_sink_fault, TellsBySink, is_refused, IsOwnEnd, IsRefused};
 ghost use Rattle.cob_program.specs.Act as act;
 ghost use Rattle.cob_graph.specs.declared.graph.Graph as graph;
 
@@ -66,14 +66,17 @@ fn write_all<F: Files>(
 /// A refusal of the sink as the run's.
 fn refused_by_sink(end: MakeEnd) -> Ending
     ensures end { result.end ≡ Err (by_sink end) }
-    ensures refused { result.sink_refused ≡ true }
+    ensures refused { result.sink_refused ≡ is_sink_fault end }
 {
-    Ending {
-        end: Err(match end {
-            MakeEnd::Failed => RunEnd::WriteFault,
-            MakeEnd::Memory => RunEnd::Memory,
-        }),
-        sink_refused: true,
+    match end {
+        MakeEnd::Failed => Ending {
+            end: Err(RunEnd::WriteFault),
+            sink_refused: true,
+        },
+        MakeEnd::Memory => Ending {
+            end: Err(RunEnd::Memory),
+            sink_refused: false,
+        },
     }
 }
 
