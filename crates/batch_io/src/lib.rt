@@ -16,6 +16,3 @@ pub use memory::{MemFiles, MemSink};
 pub use outside::{Files, Sink};
 pub use real::{RealFiles, StdSink};
 pub use whole::{put_file, put_whole, read_file, read_record, read_whole, show_whole};
-
-#[cfg(test)]
-mod tests;

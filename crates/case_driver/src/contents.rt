@@ -1,7 +1,8 @@
 //! Cases of what bytes of items hold.
 ghost use Rattle.std.specs.Prelude.{◌≡◌, ◌≤◌};
 ghost use Rattle.cob_tree.specs.Pictures.{place_count};
-ghost use Rattle.num_bytes.specs.Reading.{is_own, number_length};
+ghost use Rattle.cob_tree.specs.Forms.{number_length};
+ghost use Rattle.num_bytes.specs.Reading.{is_own};
 
 use crate::words::{bytes_of, shown_bytes};
 use cob_tree::{Bytes, Form, Usage};

@@ -5,7 +5,7 @@ use Rattle.std.specs.Option.{option_map_or}
 use Rattle.std.proofs.lemmas.Bool.{eqb-true, eq-eqb}
 use Rattle.cob_program.specs.Act.{Program}
 use Rattle.cob_edge_parts.specs.Meaning.{count_in}
-use Rattle.graph_runs.specs.Counters.{IsCount, HoldsCount, IsCounted}
+use Rattle.cob_edge_parts.specs.Counters.{IsCount, HoldsCount, IsCounted}
 
 -- ---- one element of a list
 

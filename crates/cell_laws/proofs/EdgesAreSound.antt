@@ -17,7 +17,7 @@ use Rattle.cob_edge_parts.specs.Edges.{fault_edge}
 use Rattle.dom_laws.specs.Walking as walked
 use Rattle.dom_laws.specs.Walking.{BelowIf, IsSeen, IfSeen, walk, PassesAll, Meets, ClearsAll, IsWalking, IsSound}
 use Rattle.dom_laws.proofs.Edges.{edges_are_sound}
-use Rattle.graph_runs.specs.Counters.{PassesParts, MeetsAmong}
+use Rattle.cob_edge_parts.specs.Counters.{PassesParts, MeetsAmong}
 use Rattle.interval_domain.specs.Known.{Known}
 use Rattle.cell_steps.specs.Storages.{storage, StandsIn, ElementStands}
 use Rattle.cell_steps.specs.Seen.{Seen, beginning}

@@ -24,7 +24,7 @@ use Rattle.interval_domain.specs.Known.{Known, KnownFits}
 use Rattle.interval_domain.specs.Elements.{CellsFit}
 use Rattle.graph_runs.specs.Sources.{IsSourceGraph}
 use Rattle.graph_runs.specs.Doing.{Begins}
-use Rattle.graph_runs.specs.Counters.{IsCounted}
+use Rattle.cob_edge_parts.specs.Counters.{IsCounted}
 use Rattle.graph_runs.proofs.Counting.{begins_counted}
 use Rattle.data_laws.specs.Values.{BeginsWith}
 use Rattle.data_laws.proofs.Stored.{first_storage_is_whole, values_stand_at_first}

@@ -13,7 +13,7 @@ use Rattle.cob_runs.specs.Contents.{form_at, bytes_at, scale_of, scaled_by, numb
 use Rattle.cob_edge_parts.specs.Meaning.{count_in}
 use Rattle.sum_ranges.specs.Ranged.{IsIn, IsOrdered}
 use Rattle.dom_laws.specs.Meaning.{Storage}
-use Rattle.graph_runs.specs.Counters.{IsCount, HoldsCount}
+use Rattle.cob_edge_parts.specs.Counters.{IsCount, HoldsCount}
 use Rattle.transfer_ranges.specs.Meaning.{ItemsHold}
 use Rattle.interval_domain.specs.Known.{Known}
 use Rattle.cell_steps.specs.Homes.{Home, of_item, of_count, is_home, homes_of, home_range, picture_range}

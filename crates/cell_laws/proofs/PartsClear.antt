@@ -34,7 +34,7 @@ use Rattle.transfer_ranges.specs.declared.amounts.AmountRange.{AmountRange}
 use Rattle.transfer_ranges.specs.Receivers.{receiver_of}
 use Rattle.transfer_ranges.specs.Amounts.{IsAmount}
 use Rattle.transfer_ranges.specs.ResultRanges.{may_fail, lowered, count_may_fail}
-use Rattle.graph_runs.specs.Counters.{IsCount, IsTooGreat, PassesParts}
+use Rattle.cob_edge_parts.specs.Counters.{IsCount, IsTooGreat, PassesParts}
 use Rattle.cell_laws.specs.Places.{IsDivided, Counts, IsStored, is_worked}
 use Rattle.cell_steps.specs.Homes.{of_count, homes_of, picture_range}
 use Rattle.cell_steps.specs.Storages.{storage}

@@ -9,7 +9,7 @@ use Rattle.cob_runs.specs.Contents.{number_at}
 use Rattle.cob_runs.specs.Computing.{are_numeric, worth}
 use Rattle.cob_edge_parts.specs.Parts.{Amount, Part, read, unread, divide, store, bytes_in, guard, read_count, set_count, count_down, guard_count, item_reads, divides}
 use Rattle.cob_edge_parts.specs.Meaning.{Moment, with_own, divided_by_zero, divides_by, is_left_alone, stored_bytes, stored_or_kept, ReadsAt, Divides, Stores, Passes}
-use Rattle.graph_runs.specs.Counters.{PassesPart, PassesParts}
+use Rattle.cob_edge_parts.specs.Counters.{PassesPart, PassesParts}
 use Rattle.cell_steps.specs.Agreeing.{writes, is_store}
 
 -- ---- tests

@@ -38,7 +38,7 @@ use Rattle.transfer_ranges.specs.Receivers.{receiver_of, counter}
 use Rattle.transfer_ranges.specs.Amounts.{IsAmount}
 use Rattle.transfer_ranges.specs.Results.{IsLeastIfAny, IsKept}
 use Rattle.transfer_ranges.specs.ResultRanges.{fitted, result_range, count_range, lowered}
-use Rattle.graph_runs.specs.Counters.{IsCount, PassesPart, PassesParts}
+use Rattle.cob_edge_parts.specs.Counters.{IsCount, PassesPart, PassesParts}
 use Rattle.cell_laws.specs.Places.{IsDivided, Counts, IsStored}
 use Rattle.interval_domain.specs.Known.{Known, KnownFits}
 use Rattle.interval_domain.specs.Elements.{joined}

@@ -19,7 +19,7 @@ use Rattle.cob_edge_parts.specs.Meaning.{Moment, with_own, count_in, ReadsAt}
 use Rattle.dom_laws.specs.Walking.{IsSeen}
 use Rattle.sum_ranges.specs.declared.ranged.Ranged.{Ranged}
 use Rattle.transfer_ranges.specs.declared.amounts.Taken.{Taken}
-use Rattle.graph_runs.specs.Counters.{IsCount, PassesPart, PassesParts}
+use Rattle.cob_edge_parts.specs.Counters.{IsCount, PassesPart, PassesParts}
 use Rattle.transfer_ranges.specs.declared.cuts.Cut.{Cut}
 use Rattle.transfer_ranges.specs.declared.cuts.Cuts.{Cuts}
 use Rattle.transfer_ranges.specs.Guards.{guarded}

@@ -34,7 +34,7 @@ use Rattle.cob_edge_parts.specs.Meaning.{Moment, with_own, divides_by, amount, R
 use Rattle.sum_ranges.specs.Ranged.{decimal, IsIn}
 use Rattle.transfer_ranges.specs.declared.amounts.Taken.{Taken}
 use Rattle.transfer_ranges.specs.Amounts.{IsAmount}
-use Rattle.graph_runs.specs.Counters.{PassesPart, PassesParts}
+use Rattle.cob_edge_parts.specs.Counters.{PassesPart, PassesParts}
 use Rattle.cell_laws.specs.Places.{IsBehindOperands, EndsWithRead, IsComputed, IsBehindSender, Moves, Augments, Counts, IsStored, IsInPlace}
 use Rattle.interval_domain.specs.Known.{Known, KnownFits}
 use Rattle.cell_steps.specs.Homes.{Home, of_item, homes_of, picture_range, form_range}

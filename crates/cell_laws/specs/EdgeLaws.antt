@@ -10,7 +10,7 @@ use Rattle.cob_edge_parts.specs.Meaning as run
 use Rattle.cob_edge_parts.specs.Meaning.{Moment}
 use Rattle.cob_edge_parts.specs.Edges.{fault_edge}
 use Rattle.dom_laws.specs.Walking.{IsSound}
-use Rattle.graph_runs.specs.Counters.{PassesParts, MeetsAmong}
+use Rattle.cob_edge_parts.specs.Counters.{PassesParts, MeetsAmong}
 use Rattle.interval_domain.specs.Known.{Known}
 use Rattle.interval_domain.specs.Elements.{CellsFit, ElementFits, CellsBelow, ElementBelow}
 use Rattle.cell_steps.specs.Homes.{owns}

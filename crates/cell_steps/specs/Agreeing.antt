@@ -19,7 +19,7 @@ use Rattle.sum_ranges.specs.declared.ranged.Ranged.{Ranged}
 use Rattle.sum_ranges.specs.Ranged.{IsIn}
 use Rattle.transfer_ranges.specs.declared.amounts.Taken.{Taken}
 use Rattle.transfer_ranges.specs.Amounts.{IsAmount}
-use Rattle.graph_runs.specs.Counters.{PassesPart, FaultsAtPart, PassesParts}
+use Rattle.cob_edge_parts.specs.Counters.{PassesPart, FaultsAtPart, PassesParts}
 use Rattle.cell_steps.specs.Homes.{of_count, homes_of}
 use Rattle.cell_steps.specs.Storages.{storage, StandsIn}
 use Rattle.cell_steps.specs.Premises.{HasSoundItems}

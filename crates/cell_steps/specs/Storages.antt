@@ -9,7 +9,7 @@ use Rattle.interval_domain.specs.Bounds.{Holds}
 use Rattle.dom_laws.specs.Meaning.{Storage}
 use Rattle.interval_domain.specs.Known.{Known}
 use Rattle.interval_domain.specs.Elements.{Element}
-use Rattle.graph_runs.specs.Counters.{IsCounted}
+use Rattle.cob_edge_parts.specs.Counters.{IsCounted}
 use Rattle.cell_steps.specs.Homes.{Home, of_item, of_count, is_home, homes_of}
 
 -- what is known of a home: that of the first cell that is of it

@@ -17,7 +17,7 @@ use Rattle.cob_tree.specs.declared.front.Clause.{Clause}
 use Rattle.cob_tree.specs.declared.front.Clause.TheVariants as clause
 use Rattle.cob_tree.specs.declared.front.Range.{Range}
 use Rattle.cob_tree.specs.PictureForms.{picture_form}
-use Rattle.num_bytes.specs.Reading.{number_length}
+use Rattle.cob_tree.specs.Forms.{number_length}
 use Rattle.cob_data.specs.declared.layout.Sender.{Sender}
 use Rattle.cob_data.specs.declared.layout.Sender.TheVariants as sender
 use Rattle.cob_data.specs.declared.description.Area.{Area}

@@ -4,7 +4,7 @@ ghost use Rattle.std.specs.Option.{option_copied};
 ghost use Rattle.cob_data.specs.Entries.{two_digits, level_of, name_of, is_picture, is_redefines, is_usage, is_sign, is_value, text_in, usage_in, sender_of, sender_if, span_of, spans_in, kept_as, form_kept_as, form_or_group, pictured_form, form_bytes, Placed, description, only_values, condition, is_condition, owner_in, placed};
 ghost use Rattle.cob_data.specs.Reading.{IsFormed, Moves};
 ghost use Rattle.cob_tree.specs.PictureForms.{picture_form};
-ghost use Rattle.num_bytes.specs.Reading.{number_length};
+ghost use Rattle.cob_tree.specs.Forms.{number_length};
 ghost use Rattle.cob_tree.specs.Limits.{token_limit};
 
 use crate::description::{Area, Condition, Description, Span};

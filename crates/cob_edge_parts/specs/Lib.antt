@@ -2,3 +2,4 @@ pub mod Parts
 pub mod Meaning
 pub mod Edges
 pub mod Ranges
+pub mod Counters

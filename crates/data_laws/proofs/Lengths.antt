@@ -17,7 +17,8 @@ use Rattle.cob_tree.specs.Pictures.{place_count}
 use Rattle.cob_data.specs.declared.layout.Layout.{Layout}
 use Rattle.cob_data.specs.declared.layout.Sender.{Sender}
 use Rattle.num_bytes.specs.Digits.{last_digits, digit_text, digit_at}
-use Rattle.num_bytes.specs.Reading.{binary_width, number_length}
+use Rattle.cob_tree.specs.Forms.{number_length}
+use Rattle.num_bytes.specs.Reading.{binary_width}
 use Rattle.num_bytes.specs.Writing.{packed, number_bytes, is_minus, sign_half, overpunched_digit, sign_byte}
 use Rattle.num_bytes.specs.Editing.{edited, edited_bytes, still_suppressed, begins_suppressed, all_suppressed}
 use Rattle.num_bytes.proofs.DigitLemmas.{length-digit_text}

@@ -1,14 +1,15 @@
 //! Tries commands on files and a standard output in memory of which a call fails, or takes few bytes: faults of the
 //! outside that no real file shows. The words are paths of files, which stand in memory by these names; each line of the
-//! standard input is a case, `MOST FIRST LAST COMMAND..`:
+//! standard input is a case, `MOST FIRST LAST COMMAND..`, or `out MOST FIRST LAST COMMAND..`:
 //!
-//! - MOST is the most bytes that a call takes. The call on files with each number from FIRST to LAST fails in turn.
+//! - MOST is the most bytes that a call takes. The call on files with each number from FIRST to LAST fails in turn, or
+//!   with `out` the write to the standard output.
 //! - Commands are `check SOURCE CERT`, `analyse SOURCE CERT`, `trial N`, and `run SOURCE`, whose files have their own
 //!   names as paths.
 //!
 //! Each try is answered by a line, the call's number with the status and whether what is left is right, and by what is
-//! shown. Right is that each file is absent, as it was, or a front of what is written where no call fails, and that it
-//! is all of that where the status is 0.
+//! shown, which with `out` a line's end follows. Right is that each file is absent, as it was, or a front of what is
+//! written where no call fails, and that it is all of that where the status is 0.
 //!
 //! Open, two reads and close read a whole file; create, write and close make one. Each READ reads a record, and one more
 //! reads none at the end. The last row of a command by ample bytes is one call more than it makes, and in that by single
@@ -32,13 +33,16 @@ const NO_CASE: &str = "no case";
 // The files behind a command where no call fails.
 fn whole_of(rt: &HostRuntime, names: &[String], words: &[&str]) -> io::Result<MemFiles> {
     let mut files = files_of(rt, names, AMPLE, 0)?;
-    let _status = status_of(
-        rt.alloc(),
-        words,
-        &mut files,
-        &mut sink_of(rt.alloc(), AMPLE),
-    );
+    let mut sink = sink_of(rt.alloc(), AMPLE, 0)?;
+    let _status = status_of(rt.alloc(), words, &mut files, &mut sink);
     Ok(files)
+}
+
+/// Whose call fails.
+#[derive(Clone, Copy)]
+enum Side {
+    Files,
+    Output,
 }
 
 fn try_call(
@@ -46,30 +50,38 @@ fn try_call(
     names: &[String],
     words: &[&str],
     most: usize,
-    failing: u64,
+    (side, failing): (Side, u64),
     whole: &MemFiles,
 ) -> io::Result<()> {
-    let mut files = files_of(rt, names, most, failing)?;
-    let mut sink = sink_of(rt.alloc(), most);
+    let (of_files, of_output) = match side {
+        Side::Files => (failing, 0),
+        Side::Output => (0, failing),
+    };
+    let mut files = files_of(rt, names, most, of_files)?;
+    let mut sink = sink_of(rt.alloc(), most, of_output)?;
     let Some(status) = status_of(rt.alloc(), words, &mut files, &mut sink) else {
         return println!(rt; "{NO_CASE}");
     };
     let right = is_right(&files, whole, names, status);
     println!(rt; "{failing}: {status} {right}")?;
-    print!(rt; "{}", shown(rt.alloc(), sink.bytes())?)
+    let text = shown(rt.alloc(), sink.bytes())?;
+    if let Side::Output = side {
+        return println!(rt; "{text}");
+    }
+    print!(rt; "{text}")
 }
 
 fn try_calls(
     rt: &HostRuntime,
     names: &[String],
     words: &[&str],
+    side: Side,
     most: u32,
-    first: u32,
-    last: u32,
+    (first, last): (u32, u32),
 ) -> io::Result<()> {
     let whole = whole_of(rt, names, words)?;
     for failing in u64::from(first)..u64::from(last) + 1 {
-        try_call(rt, names, words, most as usize, failing, &whole)?;
+        try_call(rt, names, words, most as usize, (side, failing), &whole)?;
     }
     Ok(())
 }
@@ -79,11 +91,17 @@ fn number_of(word: &str) -> Option<u32> {
 }
 
 fn try_case(rt: &HostRuntime, names: &[String], words: &[&str]) -> io::Result<()> {
+    let (side, words) = match words {
+        ["out", words @ ..] => (Side::Output, words),
+        words => (Side::Files, words),
+    };
     let [most, first, last, command @ ..] = words else {
         return println!(rt; "{NO_CASE}");
     };
     match (number_of(most), number_of(first), number_of(last)) {
-        (Some(most), Some(first), Some(last)) => try_calls(rt, names, command, most, first, last),
+        (Some(most), Some(first), Some(last)) => {
+            try_calls(rt, names, command, side, most, (first, last))
+        }
         _ => println!(rt; "{NO_CASE}"),
     }
 }

@@ -24,11 +24,11 @@ pub fn files_of(
     Ok(files)
 }
 
-/// A sink whose writes take at most so many bytes, or one.
-pub fn sink_of(alloc: Global, most: usize) -> MemSink {
-    let mut sink = MemSink::new(alloc, Vec::new(alloc));
+/// A sink whose write of this number fails, and whose writes take at most so many bytes, or one.
+pub fn sink_of(alloc: Global, most: usize, failing: u64) -> Result<MemSink, AllocError> {
+    let mut sink = MemSink::new(alloc, Vec::from_slice(alloc, &[failing])?);
     sink.slow(most.max(1));
-    sink
+    Ok(sink)
 }
 
 /// The bytes of a sink as text.

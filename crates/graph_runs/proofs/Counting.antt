@@ -8,7 +8,7 @@ use Rattle.cob_program.specs.Act.{Program}
 use Rattle.cob_edge_parts.specs.Meaning.{count_in}
 use Rattle.cob_edge_parts.specs.Edges.{StandFor}
 use Rattle.graph_runs.specs.Sources.{StatementsAreCounted}
-use Rattle.graph_runs.specs.Counters.{IsCount, HoldsCount, IsCounted}
+use Rattle.cob_edge_parts.specs.Counters.{IsCount, HoldsCount, IsCounted}
 
 pub is_count : (n : ℤ) → IsCount n ⊎ ¬ IsCount n
 is_count n = by_order (cases_lt (unsigned_abs n) (10 ^ 18))

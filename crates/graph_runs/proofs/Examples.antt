@@ -31,7 +31,7 @@ use Rattle.cob_edge_parts.specs.Meaning.{Moment, moment, Meets}
 use Rattle.cob_edge_parts.specs.Edges.{fault_edge}
 use Rattle.dom_laws.specs.Meaning.{Storage}
 use Rattle.graph_runs.specs.Places.{edge_at, DoesAt}
-use Rattle.graph_runs.specs.Counters.{PassesParts, MeetsAmong}
+use Rattle.cob_edge_parts.specs.Counters.{PassesParts, MeetsAmong}
 use Rattle.graph_runs.specs.Doing.{start}
 use Rattle.graph_runs.specs.Following.{Reaches}
 use Rattle.graph_runs.specs.Sources.{HasValue, SeparateItemsHaveSigns, IsSourceGraph}

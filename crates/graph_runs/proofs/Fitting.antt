@@ -23,7 +23,7 @@ use Rattle.graph_runs.specs.Counts.{IsPositiveIn}
 use Rattle.graph_runs.proofs.Counted.{counters_are_positive}
 use Rattle.graph_runs.proofs.Sent.{sent_counts_are_short}
 use Rattle.graph_runs.specs.Sources.{IsSourceGraph}
-use Rattle.graph_runs.specs.Counters.{IsCount}
+use Rattle.cob_edge_parts.specs.Counters.{IsCount}
 use Rattle.graph_runs.proofs.Counting.{AreSmall}
 use Rattle.graph_runs.proofs.Holding.{MisfitsAmong}
 use Rattle.graph_runs.proofs.Quiet.{none_misfits, behind_none, number_reads_none, edge_none}

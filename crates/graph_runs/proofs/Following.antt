@@ -25,7 +25,7 @@ use Rattle.cob_edge_parts.proofs.AllEdges.{parts_are_passed_beside, faults_are_m
 use Rattle.dom_laws.specs.Meaning.{Storage}
 use Rattle.graph_runs.specs.Places.{edge_at, DoesAt}
 use Rattle.graph_runs.specs.Sources.{IsSourceGraph}
-use Rattle.graph_runs.specs.Counters.{PassesParts, MeetsAmong}
+use Rattle.cob_edge_parts.specs.Counters.{PassesParts, MeetsAmong}
 use Rattle.graph_runs.specs.Doing.{start, Acts, IsMetOn, MeetsAt}
 use Rattle.graph_runs.specs.Following.{Reaches, IsReached, IsMet, WaysAreFollowed, FaultsAreReached}
 use Rattle.graph_runs.proofs.Numbering.{IsNumbered, numbered}

@@ -12,7 +12,7 @@ use Rattle.cob_runs.specs.Moves.{number_of}
 use Rattle.cob_edge_parts.specs.Parts.{Amount, Part, read, unread, divide, store, bytes_in, guard, read_count, set_count, count_down, guard_count}
 use Rattle.cob_edge_parts.specs.Meaning.{Moment, with_storage, with_own, with_failure, divided_by_zero, divides_by, is_left_alone, stored_bytes, stored_or_kept, ReadsAt, Divides, Stores, Passes, PassesAll, Meets}
 use Rattle.cob_edge_parts.specs.Meaning as meaning
-use Rattle.graph_runs.specs.Counters.{IsCount, IsCounted, IsTooGreat, Misfits, PassesPart, PassesParts, MeetsAmong}
+use Rattle.cob_edge_parts.specs.Counters.{IsCount, IsCounted, IsTooGreat, Misfits, PassesPart, PassesParts, MeetsAmong}
 use Rattle.graph_runs.proofs.Counting.{AreSmall, is_count, holds_set, length_set, small_set}
 
 module _ (l : Layout) where

@@ -25,7 +25,7 @@ use Rattle.cob_runs.specs.Effects.{tests_in_act}
 use Rattle.cob_edge_parts.specs.Parts as part
 use Rattle.cob_edge_parts.specs.Parts.{Part, item_reads, number_reads, own_reads, divides, divisors_in, divisors_of, target_parts, targets_parts, augment_parts, compare_parts, remainder_parts, arith_parts, is_number_item, text_reads, gets_value, is_read_for, item_bytes, receiver_parts, receivers_parts, move_parts, end_reads, member_reads, test_reads, test_parts, status_parts, file_parts, file_call_parts, into_parts, from_parts, assign_parts, compute_parts, condition_parts, call_parts, read_parts, bad_parts, parts_of}
 use Rattle.cob_edge_parts.specs.Meaning.{Moment}
-use Rattle.graph_runs.specs.Counters.{Misfits}
+use Rattle.cob_edge_parts.specs.Counters.{Misfits}
 use Rattle.graph_runs.proofs.Holding.{MisfitsAmong}
 
 module _ (l : Layout) where

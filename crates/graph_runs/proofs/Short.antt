@@ -11,7 +11,8 @@ use Rattle.cob_tree.specs.declared.form.Form.TheVariants as form
 use Rattle.cob_tree.specs.declared.form.Usage.{Usage}
 use Rattle.cob_tree.specs.declared.form.Usage.TheVariants.{Display, Leading, Trailing, Binary, Packed}
 use Rattle.num_bytes.specs.Digits.{number_of, signed_number}
-use Rattle.num_bytes.specs.Reading.{both, last, is_own, binary_width, twos_complement, packed_sign, packed_digits, packed_value, separate_sign, number_value, number_length, contents_value, HasNumber}
+use Rattle.cob_tree.specs.Forms.{number_length}
+use Rattle.num_bytes.specs.Reading.{both, last, is_own, binary_width, twos_complement, packed_sign, packed_digits, packed_value, separate_sign, number_value, contents_value, HasNumber}
 use Rattle.num_bytes.proofs.PackedLemmas.{no_spare_odd}
 use Rattle.cob_program.specs.Bounds.{form_bound}
 use Rattle.cob_runs.specs.Contents.{scale_of, scaled_by}

@@ -11,7 +11,7 @@ use Rattle.cob_edge_parts.specs.Edges.{fault_edge}
 use Rattle.dom_laws.specs.Meaning.{Storage, Runs}
 use Rattle.graph_runs.specs.Places.{edge_at, Leaves, DoesAt}
 use Rattle.graph_runs.specs.Sources.{IsSourceGraph}
-use Rattle.graph_runs.specs.Counters.{PassesEdge, MeetsOnEdge}
+use Rattle.cob_edge_parts.specs.Counters.{PassesEdge, MeetsOnEdge}
 
 abbrev pub start : Storage → Moment
 start s = beginning s.bytes s.counters

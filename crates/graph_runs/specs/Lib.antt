@@ -2,7 +2,6 @@ pub mod Counts
 pub mod Sent
 pub mod Places
 pub mod Sources
-pub mod Counters
 pub mod Doing
 pub mod Flows
 pub mod Following

@@ -7,6 +7,7 @@ use Rattle.cob_tree.specs.declared.form.Form.{Form}
 use Rattle.cob_tree.specs.declared.form.Form.TheVariants.{Group, Text, Number, Edited}
 use Rattle.cob_tree.specs.declared.form.Usage.{Usage}
 use Rattle.cob_tree.specs.declared.form.Usage.TheVariants.{Display, Leading, Trailing, Binary, Packed}
+use Rattle.cob_tree.specs.Forms.{number_length}
 use Rattle.num_bytes.specs.Digits.{digits_in, number_of, signed_number}
 
 -- f of both values, if there are both
@@ -110,14 +111,6 @@ contents_value Group bs = None
 contents_value (Text length) bs = unsigned_value bs
 contents_value (Number digits scale signed usage) bs = number_value digits signed usage bs
 contents_value (Edited picture digits scale) bs = None
-
--- how many bytes a numeric item has
-abbrev pub number_length : ℕ → Usage → ℕ
-number_length digits Display = digits
-number_length digits Leading = digits + 1
-number_length digits Trailing = digits + 1
-number_length digits Binary = if nat_le digits 4 then 2 else (if nat_le digits 9 then 4 else 8)
-number_length digits Packed = digits / 2 + 1
 
 -- a numeric item of 1 to 18 digits with its bytes
 pub record HasNumber (digits : ℕ) (usage : Usage) (bytes : ℕ) : Type 0 where

@@ -40,7 +40,7 @@ use Rattle.transfer_ranges.specs.declared.amounts.Taken.{Taken}
 use Rattle.transfer_ranges.specs.Amounts.{IsAmount}
 use Rattle.transfer_ranges.specs.Operands.{whole_range}
 use Rattle.transfer_ranges.specs.Stores.{amount_range}
-use Rattle.graph_runs.specs.Counters.{PassesParts}
+use Rattle.cob_edge_parts.specs.Counters.{PassesParts}
 use Rattle.cell_laws.specs.Places.{IsBehindOperands, EndsWithRead, IsStored}
 use Rattle.cell_steps.specs.Homes.{of_item}
 use Rattle.cell_steps.specs.Storages.{storage}

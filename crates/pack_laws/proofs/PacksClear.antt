@@ -36,7 +36,7 @@ use Rattle.transfer_ranges.specs.Receivers.{receiver_of, counter}
 use Rattle.transfer_ranges.specs.Amounts.{IsAmount}
 use Rattle.transfer_ranges.specs.ResultRanges.{amount_units, most, lowered}
 use Rattle.transfer_ranges.proofs.Fitting.{units_hold}
-use Rattle.graph_runs.specs.Counters.{IsCount, IsTooGreat}
+use Rattle.cob_edge_parts.specs.Counters.{IsCount, IsTooGreat}
 use Rattle.cell_laws.specs.Places.{IsStored}
 use Rattle.interval_domain.specs.Known.{Known}
 use Rattle.cell_steps.specs.Homes.{Home, of_count, is_home, homes_of, picture_range}

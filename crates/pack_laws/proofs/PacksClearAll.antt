@@ -10,7 +10,7 @@ use Rattle.cob_edge_parts.specs.Parts.{Part, parts_of}
 use Rattle.cob_edge_parts.specs.Meaning as run
 use Rattle.cob_edge_parts.specs.Meaning.{Moment}
 use Rattle.cob_edge_parts.specs.Edges.{fault_edge}
-use Rattle.graph_runs.specs.Counters.{MeetsAmong}
+use Rattle.cob_edge_parts.specs.Counters.{MeetsAmong}
 use Rattle.interval_domain.specs.Known.{Known}
 use Rattle.cell_steps.specs.Storages.{storage, StandsIn}
 use Rattle.cell_steps.specs.Seen.{Seen, beginning}

@@ -25,7 +25,7 @@ use Rattle.dom_laws.specs.Meaning.{Storage}
 use Rattle.dom_laws.specs.Walking.{IsSeen}
 use Rattle.diff_bounds.specs.declared.form.Lin.{Lin}
 use Rattle.diff_bounds.specs.Matrix.{word}
-use Rattle.graph_runs.specs.Counters.{PassesPart, PassesParts}
+use Rattle.cob_edge_parts.specs.Counters.{PassesPart, PassesParts}
 use Rattle.diff_bounds.specs.Closed.{closed}
 use Rattle.interval_domain.specs.Known.{Known}
 use Rattle.cell_steps.specs.Homes.{Home, of_item, of_count, homes_of}

@@ -7,7 +7,7 @@ use Rattle.cob_runs.specs.declared.action.Action.{Action}
 use Rattle.cob_edge_parts.specs.Parts.{Part, parts_of}
 use Rattle.cob_edge_parts.specs.Meaning as run
 use Rattle.cob_edge_parts.specs.Meaning.{Moment}
-use Rattle.graph_runs.specs.Counters.{PassesParts}
+use Rattle.cob_edge_parts.specs.Counters.{PassesParts}
 use Rattle.interval_domain.specs.Known.{Known}
 use Rattle.cell_steps.specs.Storages.{storage, StandsIn, ElementStands}
 use Rattle.cell_steps.specs.Seen.{Seen, beginning}

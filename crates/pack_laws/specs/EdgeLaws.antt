@@ -7,7 +7,7 @@ use Rattle.cob_edge_parts.specs.Parts.{is_handled, parts_of}
 use Rattle.cob_edge_parts.specs.Meaning as run
 use Rattle.cob_edge_parts.specs.Meaning.{Moment}
 use Rattle.cob_edge_parts.specs.Edges.{fault_edge}
-use Rattle.graph_runs.specs.Counters.{PassesParts, MeetsAmong}
+use Rattle.cob_edge_parts.specs.Counters.{PassesParts, MeetsAmong}
 use Rattle.interval_domain.specs.Known.{Known}
 use Rattle.interval_domain.specs.Elements.{CellsFit, CellsBelow}
 use Rattle.cell_steps.specs.Homes.{owns}

@@ -17,7 +17,7 @@ use Rattle.cob_runs.specs.Moves.{number_of}
 use Rattle.cob_edge_parts.specs.Parts.{Amount, Part, divide, store, guard, set_count, count_down, parts_of}
 use Rattle.cob_edge_parts.specs.Meaning.{Moment, amount}
 use Rattle.diff_bounds.specs.declared.form.Lin.{Lin}
-use Rattle.graph_runs.specs.Counters.{IsCount}
+use Rattle.cob_edge_parts.specs.Counters.{IsCount}
 use Rattle.sum_forms.specs.SumForms.{atom_form}
 use Rattle.cell_steps.specs.Homes.{of_count}
 use Rattle.cell_steps.specs.Storages.{storage}
