@@ -29,10 +29,10 @@ use Rattle.diff_steps.specs.Moments.{Bytes}
 use Rattle.diff_steps.specs.Forms.{amount_form, set_form}
 use Rattle.diff_steps.specs.Stores.{known_of_amount, forgotten_cells}
 use Rattle.diff_steps.specs.Steps.{by_outcome, is_other, form_at_cell, stored_cell, stored_pack, lost_pack, pack_behind_store, counter_stored, guarded_pack, changed_pack}
-use Rattle.pack_forms.specs.Receiving.{stored_at}
-use Rattle.pack_forms.proofs.AtCell.{at_cell}
-use Rattle.pack_forms.specs.Views.{taken_at}
-use Rattle.pack_forms.proofs.AmountsAgree.{same_amount_form, same_set_form, same_operands}
+use Rattle.diff_layer.specs.Receiving.{stored_at}
+use Rattle.diff_layer.proofs.AtCell.{at_cell}
+use Rattle.diff_layer.specs.Views.{taken_at}
+use Rattle.diff_layer.proofs.AmountsAgree.{same_amount_form, same_set_form, same_operands}
 use Rattle.diff_layer.specs.Changes.{decimal_in, cell_stored, cell_assigned, fitting_stored, store_changed, guard_changed}
 use Rattle.diff_layer.specs.Parts.{plan_changed}
 

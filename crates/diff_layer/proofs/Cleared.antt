@@ -49,7 +49,7 @@ use Rattle.diff_steps.specs.Moments.{Bytes, is_written}
 use Rattle.diff_steps.specs.Forms.{amount_form, set_form, lowered_form, has_operands, kept_form, cell_at}
 use Rattle.diff_steps.specs.Stores.{upper_negated}
 use Rattle.diff_steps.specs.Clearing.{some_pack, high_fits, low_fits, ends_fit, high_shown, low_shown, is_apart_in, amounts_fit, store_fits, clears_part2}
-use Rattle.pack_forms.proofs.AmountsAgree.{same_amount_form, same_set_form, same_operands, same_lowered_form}
+use Rattle.diff_layer.proofs.AmountsAgree.{same_amount_form, same_set_form, same_operands, same_lowered_form}
 use Rattle.diff_layer.specs.Ends.{part_form, shows_end}
 use Rattle.diff_layer.specs.Clears.{range_shown, amount_shown, store_shown, count_shown, store_cleared, set_cleared, part_cleared}
 use Rattle.diff_layer.specs.Parts.{IsStoreOf, IsOfEdge}

@@ -9,9 +9,9 @@ use Rattle.interval_domain.specs.Known.{Known}
 use Rattle.cell_steps.specs.Homes.{of_item}
 use Rattle.cell_steps.specs.Stores.{range_at}
 use Rattle.diff_steps.specs.Packs.{Pack, cell_of, pack_decimals}
-use Rattle.pack_forms.specs.Receiving.{is_apart}
-use Rattle.pack_forms.specs.declared.cells.PackCell.{PackCell}
-use Rattle.pack_forms.specs.Cells.{plain_cell, plain_cells}
+use Rattle.diff_layer.specs.Receiving.{is_apart}
+use Rattle.diff_layer.specs.declared.cells.PackCell.{PackCell}
+use Rattle.diff_layer.specs.Cells.{plain_cell, plain_cells}
 use Rattle.diff_layer.specs.Clears.{divisor_apart}
 
 pub apart_is : (p : Program) (known : List Known) (d : Atom) (cells : List PackCell) (pack : Pack) (m : List ℤ) (form : Option Lin) → plain_cells cells ≡ pack →

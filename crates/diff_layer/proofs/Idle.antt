@@ -11,8 +11,8 @@ use Rattle.cell_layer.specs.Latest.{Latest}
 use Rattle.diff_steps.specs.Moments.{Bytes}
 use Rattle.diff_steps.specs.Packs.{Pack}
 use Rattle.diff_steps.specs.Steps.{each_pack, all_closed}
-use Rattle.pack_forms.specs.declared.cells.PackCell.{PackCell}
-use Rattle.pack_forms.specs.Cells.{plain_cell, plain_cells}
+use Rattle.diff_layer.specs.declared.cells.PackCell.{PackCell}
+use Rattle.diff_layer.specs.Cells.{plain_cell, plain_cells}
 use Rattle.diff_layer.specs.Closed.{AreClosedBy, IsIdle}
 use Rattle.diff_layer.specs.Parts.{plan_changed}
 use Rattle.diff_layer.proofs.PackRows.{split_is}

@@ -17,7 +17,7 @@ use Rattle.cob_runs.specs.Computing.{items_in_parts, items_in_factors, items_in_
 use Rattle.edge_amounts.proofs.SumLoops.{factors_from, products_from}
 use Rattle.cell_steps.specs.Cells.{share_bytes}
 use Rattle.diff_steps.specs.Moments.{Bytes, is_written, item_bytes}
-use Rattle.pack_forms.specs.Writing.{are_written}
+use Rattle.diff_layer.specs.PackWriting.{are_written}
 use Rattle.diff_layer.specs.Writing.{bytes, product_items}
 
 -- ---- items

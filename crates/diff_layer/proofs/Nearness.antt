@@ -9,7 +9,7 @@ use Rattle.dec_num.proofs.Powers.{ten_positive}
 use Rattle.sum_ranges.specs.Ranged.{decimal}
 use Rattle.transfer_ranges.specs.declared.amounts.Receiver.{Receiver}
 use Rattle.diff_steps.specs.Clearing.{high_fits, low_fits}
-use Rattle.pack_forms.proofs.Sizes.{low_as_high}
+use Rattle.diff_layer.proofs.PackSizes.{low_as_high}
 
 above : (size most : ℕ) → most < size → false ≡ int_le (pos size) (pos most)
 above size most h = grind (arith, ints)

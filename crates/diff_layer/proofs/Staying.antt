@@ -18,10 +18,10 @@ use Rattle.cell_steps.specs.Storages.{known_of}
 use Rattle.cell_layer.proofs.Stepping.{held_at}
 use Rattle.diff_steps.specs.Packs.{Pack, size_of, unit_of}
 use Rattle.diff_steps.specs.Matrices.{with_words, high_word, low_word, put_high, put_low, put_word, put_closed}
-use Rattle.pack_forms.specs.KnownCells.{cell, AreEnds, HasEnds}
-use Rattle.pack_forms.specs.Ends.{IsNumber}
-use Rattle.pack_forms.specs.Tight.{IsTightIfSettled}
-use Rattle.pack_forms.proofs.SameWords.{with_words_is}
+use Rattle.diff_layer.specs.KnownCells.{cell, AreEnds, HasEnds}
+use Rattle.diff_layer.specs.PackEnds.{IsNumber}
+use Rattle.diff_layer.specs.Tight.{IsTightIfSettled}
+use Rattle.diff_layer.proofs.SameWords.{with_words_is}
 use Rattle.pack_laws.proofs.PacksClosingRise.{words_are_matrix}
 use Rattle.pack_laws.proofs.Words.{word_at}
 use Rattle.diff_layer.specs.Closed.{IsClosedBy, IsKnownAlike}

@@ -21,9 +21,9 @@ use Rattle.cell_layer.proofs.Stepping.{taken_can, taken_written, can_work}
 use Rattle.diff_steps.specs.Packs.{Pack}
 use Rattle.diff_steps.specs.Moments.{Bytes, Seen2, with_packs}
 use Rattle.diff_steps.specs.Steps.{each_pack, all_closed, changed_pack, changed, written_by}
-use Rattle.pack_forms.specs.Sizes.{HasSmallTop}
-use Rattle.pack_forms.specs.Writing.{amount_items, are_written}
-use Rattle.pack_forms.proofs.KeptSmall.{kept_small}
+use Rattle.diff_layer.specs.Sizes.{HasSmallTop}
+use Rattle.diff_layer.specs.PackWriting.{amount_items, are_written}
+use Rattle.diff_layer.proofs.KeptSmall.{kept_small}
 use Rattle.diff_layer.specs.Clears.{IsSetCount}
 use Rattle.diff_layer.specs.Parts.{IsOfEdge, IsWrittenTo, CanChange, plan_changed}
 use Rattle.diff_layer.specs.Walks.{seen2, passed_to, step2_small}

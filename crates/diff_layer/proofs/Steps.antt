@@ -10,8 +10,8 @@ use Rattle.cob_program.specs.Statements.{plain_references}
 use Rattle.std.specs.Borrow.{Bor}
 use Rattle.cell_steps.specs.Homes.{Home, of_item, of_count, if_named, home_of, item_homes, stmt_homes, count_homes}
 use Rattle.diff_bounds.specs.declared.Pack as declared
-use Rattle.pack_forms.specs.declared.cells.PackCell.{PackCell}
-use Rattle.pack_forms.specs.Cells.{plain_cell, plain_cells}
+use Rattle.diff_layer.specs.declared.cells.PackCell.{PackCell}
+use Rattle.diff_layer.specs.Cells.{plain_cell, plain_cells}
 use Rattle.diff_layer.specs.declared.plans.PackPlan.{PackPlan}
 use Rattle.diff_layer.specs.Plans.{plain_plan, plain_plans}
 use Rattle.pack_laws.specs.Packs.{home_at, pack_in, packs_in}

@@ -24,7 +24,7 @@ use Rattle.diff_steps.specs.Moments.{Bytes, Seen2}
 use Rattle.diff_steps.specs.Steps.{all_closed}
 use Rattle.diff_steps.specs.Edges.{beginning2, steps2, finished2}
 use Rattle.diff_steps.specs.Clearing.{clears_parts2}
-use Rattle.pack_forms.specs.Writing.{are_written}
+use Rattle.diff_layer.specs.PackWriting.{are_written}
 use Rattle.diff_layer.specs.declared.plans.PackPlan.{PackPlan}
 use Rattle.diff_layer.specs.Closed.{IsClosedRow}
 use Rattle.diff_layer.specs.Plans.{plain_plans, matrices_for}

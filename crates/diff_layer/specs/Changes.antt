@@ -24,8 +24,8 @@ use Rattle.diff_steps.specs.Forms.{amount_form, set_form, lowered_form, has_oper
 use Rattle.diff_steps.specs.Stores.{assigned_or_forgotten, forgotten_cells}
 use Rattle.diff_steps.specs.Guards.{related}
 use Rattle.diff_steps.specs.Steps.{by_outcome}
-use Rattle.pack_forms.specs.Receiving.{stored_at}
-use Rattle.pack_forms.specs.Views.{taken_at}
+use Rattle.diff_layer.specs.Receiving.{stored_at}
+use Rattle.diff_layer.specs.Views.{taken_at}
 use Rattle.diff_layer.specs.declared.gone.Gone.TheVariants as gone
 use Rattle.diff_layer.specs.Gone.{is_gone}
 

@@ -29,7 +29,7 @@ use Rattle.diff_steps.specs.Clearing.{some_pack, is_apart_in}
 use Rattle.diff_steps.specs.Forms.{has_operands}
 use Rattle.diff_steps.specs.Moments.{Bytes, Seen2}
 use Rattle.diff_steps.specs.Packs.{Pack}
-use Rattle.pack_forms.specs.Views.{taken_at}
+use Rattle.diff_layer.specs.Views.{taken_at}
 use Rattle.diff_layer.specs.Ends.{some_end}
 
 -- what is known of cells shows the divisor not to be 0

@@ -11,8 +11,8 @@ use Rattle.diff_steps.specs.Packs.{Pack, size_of, pack_decimals}
 use Rattle.diff_steps.specs.Moments.{Bytes}
 use Rattle.diff_steps.specs.Forms.{amount_form, set_form, lowered_form}
 use Rattle.diff_steps.specs.Clearing.{high_fits, low_fits, some_pack}
-use Rattle.pack_forms.specs.Receiving.{upper_if, upper_negated_if}
-use Rattle.pack_forms.specs.Views.{taken_at}
+use Rattle.diff_layer.specs.Receiving.{upper_if, upper_negated_if}
+use Rattle.diff_layer.specs.Views.{taken_at}
 
 -- whether the matrix of a pack of so many cells shows that the low end fits, or the high one
 abbrev pub end_in_pack : ℕ → ℕ → List ℤ → Option Lin → Mode → Receiver → Bool → Bool

@@ -1,3 +1,14 @@
+pub mod KnownCells
+pub mod PackEnds
+pub mod Forms
+pub mod PackGone
+pub mod Receiving
+pub mod Tight
+pub mod Cells
+pub mod Views
+pub mod Sizes
+pub mod PackWriting
+pub mod Working
 pub mod Gone
 pub mod Plans
 pub mod Writing

@@ -17,8 +17,8 @@ use Rattle.cell_steps.specs.Stores.{range_at}
 use Rattle.cell_layer.specs.Latest.{Latest}
 use Rattle.diff_steps.specs.Packs.{Pack, size_of, pack_decimals}
 use Rattle.diff_steps.specs.Moments.{Bytes}
-use Rattle.pack_forms.specs.Sizes.{HasSmallTop}
-use Rattle.pack_forms.specs.Writing.{sender_items, amount_items, are_written}
+use Rattle.diff_layer.specs.Sizes.{HasSmallTop}
+use Rattle.diff_layer.specs.PackWriting.{sender_items, amount_items, are_written}
 use Rattle.diff_layer.specs.Changes.{part_changed}
 
 -- ---- operands

@@ -5,8 +5,8 @@ use Rattle.cob_data.specs.declared.layout.Layout.{Layout}
 use Rattle.cell_steps.specs.Homes.{Home, of_item, of_count}
 use Rattle.diff_bounds.specs.declared.Pack as declared
 use Rattle.diff_steps.specs.Packs.{pack_decimals}
-use Rattle.pack_forms.specs.declared.cells.PackCell.{PackCell}
-use Rattle.pack_forms.specs.declared.cells.PackCell.TheVariants.{Item, Count}
+use Rattle.diff_layer.specs.declared.cells.PackCell.{PackCell}
+use Rattle.diff_layer.specs.declared.cells.PackCell.TheVariants.{Item, Count}
 use Rattle.diff_layer.specs.declared.plans.PackPlan.{PackPlan}
 use Rattle.diff_layer.specs.Plans.{plain_plan, plain_plans}
 use Rattle.pack_laws.specs.Packs.{pack_in, packs_in}

@@ -7,7 +7,7 @@ use Rattle.cell_steps.specs.Homes.{Home, home_range}
 use Rattle.diff_steps.specs.Packs.{Pack, size_of, decimals_of, pack_decimals}
 use Rattle.diff_bounds.specs.PackRows.{width_of, matrices_in}
 use Rattle.pack_laws.specs.Agreeing.{AreMatrices, IsPackOf}
-use Rattle.pack_forms.specs.Cells.{plain_cells}
+use Rattle.diff_layer.specs.Cells.{plain_cells}
 use Rattle.diff_layer.specs.declared.plans.PackPlan.{PackPlan}
 
 abbrev pub plain_plan : PackPlan → Pack

@@ -8,7 +8,7 @@ use Rattle.cob_runs.specs.Computing.{items_in_factors}
 use Rattle.cob_edge_parts.specs.Parts.{Amount, Part, store, bytes_in}
 use Rattle.cell_steps.specs.Operands.{edge_amount}
 use Rattle.diff_steps.specs.Moments.{Bytes, item_bytes}
-use Rattle.pack_forms.specs.Writing.{amount_items}
+use Rattle.diff_layer.specs.PackWriting.{amount_items}
 
 abbrev pub bytes : ℕ → ℕ → Bytes
 bytes offset count = record { offset = offset; count = count }

@@ -10,7 +10,7 @@ ghost use Rattle.cell_layer.specs.Kept.{latest_of};
 ghost use Rattle.cell_layer.specs.ProgramRows.{IsRowOf};
 ghost use Rattle.diff_steps.specs.Moments.{Bytes};
 ghost use Rattle.diff_steps.specs.Packs.{size_of};
-ghost use Rattle.pack_forms.specs.Views.{plain_pack, HasUnit, program_of, known_in};
+ghost use Rattle.diff_layer.specs.Views.{plain_pack, HasUnit, program_of, known_in};
 ghost use Rattle.diff_layer.specs.Changes.{part_changed};
 ghost use Rattle.diff_layer.specs.Parts.{CanChange, IsWrittenTo, plan_changed};
 ghost use Rattle.diff_layer.specs.Plans.{plain_plan, IsPlanOf};
@@ -18,13 +18,13 @@ ghost use Rattle.diff_layer.specs.Plans.{plain_plan, IsPlanOf};
 use crate::counters::{count_down, set_count};
 use crate::gone::{Gone, forget};
 use crate::guards::guard;
+use crate::pack::PackView;
 use crate::plans::{PackPlan, view_of};
 use crate::stores::store;
 use cell_layer::{Kept, KnownItems};
 use cob_program::Program;
 use cob_runs::Cell;
 use edge_amounts::EdgePart;
-use pack_forms::PackView;
 
 // what a part makes of the matrix of a pack
 fn change(

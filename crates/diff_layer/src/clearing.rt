@@ -26,16 +26,19 @@ ghost use Rattle.cell_layer.specs.Edges.{CanWalk};
 ghost use Rattle.diff_steps.specs.Clearing.{some_pack};
 ghost use Rattle.diff_steps.specs.Moments.{Bytes};
 ghost use Rattle.diff_steps.specs.Packs.{size_of};
-ghost use Rattle.pack_forms.specs.Writing.{amount_items, are_written};
+ghost use Rattle.diff_layer.specs.PackWriting.{amount_items, are_written};
 ghost use Rattle.diff_layer.specs.Clears.{divisor_apart, both_shown, range_shown, amount_shown, store_shown, count_shown, taken_shown, store_cleared, set_cleared, down_cleared, part_cleared, IsSetCount};
 ghost use Rattle.diff_layer.specs.Parts.{CanChange, IsOfEdge, IsStoreOf, IsWrittenTo};
 ghost use Rattle.diff_layer.specs.Plans.{plain_plan, plain_plans, IsPlanOf, ArePlansOf, matrices_for, IsRowFor};
 ghost use Rattle.diff_layer.specs.Walks.{seen2, clears2_at, statement_clears2};
 ghost use Rattle.diff_layer.specs.Writing.{edge_items};
 
+use crate::bounds::is_apart;
 use crate::closing::close_all;
 use crate::ends::{end_is_shown, high_end_fits, low_end_fits};
+use crate::operands::has_operands;
 use crate::plans::{PackPlan, view_of, words_for};
+use crate::sides::divisor_form;
 use crate::walking::step;
 use cell_layer::{Kept, KnownItems, clears_part, count_units, item_range, with_operands};
 use cob_program::{Act, Program, Stmt};
@@ -46,7 +49,6 @@ use edge_amounts::{
     Amount, Divisor, EdgePart, amount_from, is_remainder, part_at, part_count, receiver_at,
 };
 use interval_domain::Interval;
-use pack_forms::{divisor_form, has_operands, is_apart};
 use sum_ranges::Ranged;
 use transfer_ranges::{AmountRange, Receiver, Taken, lowered};
 

@@ -12,17 +12,18 @@ ghost use Rattle.diff_steps.specs.Matrices.{put_closed};
 ghost use Rattle.diff_steps.specs.Packs as packs;
 ghost use Rattle.diff_steps.specs.Packs.{size_of};
 ghost use Rattle.diff_steps.specs.Steps.{all_closed};
-ghost use Rattle.pack_forms.specs.KnownCells.{cell, known_cells};
-ghost use Rattle.pack_forms.specs.Cells.{plain_cell};
+ghost use Rattle.diff_layer.specs.KnownCells.{cell, known_cells};
+ghost use Rattle.diff_layer.specs.Cells.{plain_cell};
 ghost use Rattle.diff_layer.specs.Closed.{IsClosedBy, IsClosedRow};
 ghost use Rattle.diff_layer.specs.Plans.{plain_plan, plain_plans, IsPlanOf, ArePlansOf, matrices_for, IsRowFor};
 
+use crate::cells::{PackCell, unit_of};
+use crate::pack_closings::KnownCell;
 use crate::plans::{PackPlan, words_for};
 use cell_layer::{known_of_count, known_of_item};
 use cob_program::Program;
 use cob_runs::Cell;
 use interval_domain::Interval;
-use pack_forms::{KnownCell, PackCell, unit_of};
 
 // what a row says of what a cell is of
 fn known_of(program: &Program, cells: &[Cell], row: &[i128], cell: PackCell) -> Option<Interval>
@@ -91,7 +92,7 @@ fn close(program: &Program, cells: &[Cell], plan: &PackPlan, row: &[i128], m: &m
     let size = plan.cells.as_slice().len();
     let known = &mut room[..size];
     know_cells(program, cells, row, plan, known);
-    pack_forms::close_pack(size, m, known)
+    crate::pack_closings::close_pack(size, m, known)
 }
 
 /// Lowers a matrix to what is known of its cells and closes it, where a part has made it of one that was closed by what
@@ -125,7 +126,7 @@ pub(crate) fn close_again(
     let size = plan.cells.as_slice().len();
     let known = &mut room[..size];
     know_cells(program, cells, row, plan, known);
-    pack_forms::close_again(size, m, last, known)
+    crate::pack_closings::close_again(size, m, last, known)
 }
 
 /// Lowers the matrices of all packs to what is known of their cells, and closes them. Answers false where a cycle of one

@@ -7,16 +7,20 @@ ghost use Rattle.cell_steps.specs.Homes.{of_count, owns};
 ghost use Rattle.diff_steps.specs.Forms as forms;
 ghost use Rattle.diff_steps.specs.Moments.{Bytes};
 ghost use Rattle.diff_steps.specs.Packs.{cell_of};
-ghost use Rattle.pack_forms.specs.Forms.{IsFormOf};
-ghost use Rattle.pack_forms.specs.Sizes.{HasSmallTop};
-ghost use Rattle.pack_forms.specs.Views.{plain_pack, HasUnit, program_of, known_in, taken_at};
-ghost use Rattle.pack_forms.specs.Writing.{sender_items, are_written};
+ghost use Rattle.diff_layer.specs.Forms.{IsFormOf};
+ghost use Rattle.diff_layer.specs.Sizes.{HasSmallTop};
+ghost use Rattle.diff_layer.specs.Views.{plain_pack, HasUnit, program_of, known_in, taken_at};
+ghost use Rattle.diff_layer.specs.PackWriting.{sender_items, are_written};
 ghost use Rattle.diff_layer.specs.Changes.{cell_assigned};
 
+use crate::cells::PackCell;
+use crate::images::assign_or_forget;
+use crate::pack::{PackView, cell_in};
+use crate::pack_counters::lowered_form;
+use crate::senders::set_form;
 use cell_layer::{Kept, KnownItems};
 use cob_data::Sender;
 use diff_bounds::Lin;
-use pack_forms::{PackCell, PackView, assign_or_forget, cell_in, lowered_form, set_form};
 
 // makes the counter's cell, where the pack has it, a form
 fn set_cell(pack: &PackView, m: &mut [i128], statement: u32, form: Option<Lin>)

@@ -6,12 +6,13 @@ ghost use Rattle.diff_bounds.specs.Matrix.{IsMatrix};
 ghost use Rattle.cell_steps.specs.Homes.{of_item, is_home};
 ghost use Rattle.cell_steps.specs.Cells.{is_in_bytes, is_beside};
 ghost use Rattle.diff_steps.specs.Stores.{forgotten_cells};
-ghost use Rattle.pack_forms.specs.Cells.{plain_cell, plain_cells};
+ghost use Rattle.diff_layer.specs.Cells.{plain_cell, plain_cells};
 ghost use Rattle.diff_layer.specs.Gone.{is_gone};
 
+use crate::cells::PackCell;
+use crate::pack_gone::forget_cells;
 use cell_layer::share_bytes;
 use cob_data::{Item, Layout};
-use pack_forms::{PackCell, forget_cells};
 
 /// Which cells are forgotten.
 #[derive(Clone, Copy)]

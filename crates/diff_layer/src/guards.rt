@@ -11,13 +11,14 @@ ghost use Rattle.interval_domain.specs.Elements.{CellsFit};
 ghost use Rattle.cell_steps.specs.Homes.{owns};
 ghost use Rattle.cell_steps.specs.Stores.{range_at};
 ghost use Rattle.diff_steps.specs.Guards as guards;
-ghost use Rattle.pack_forms.specs.Views.{plain_pack, item_cell, HasUnit, program_of, known_in};
+ghost use Rattle.diff_layer.specs.Views.{plain_pack, item_cell, HasUnit, program_of, known_in};
 ghost use Rattle.diff_layer.specs.Changes.{guard_changed};
 
+use crate::pack::PackView;
+use crate::sides::{are_fine, difference_form};
 use cell_layer::KnownItems;
 use cob_program::{Sum, Test};
 use cob_tree::Rel;
-use pack_forms::{PackView, are_fine, difference_form};
 
 fn relate(
     items: &KnownItems,
@@ -39,7 +40,7 @@ fn relate(
 {
     let fine = are_fine(items, pack, left, right);
     let form = difference_form(items, pack, left, right);
-    pack_forms::relate(pack.cells.len(), m, fine, form, rel, wanted);
+    crate::orders::relate(pack.cells.len(), m, fine, form, rel, wanted);
 }
 
 /// Makes of a pack's matrix what a test with such an outcome leaves of it.

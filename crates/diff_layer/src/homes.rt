@@ -4,13 +4,13 @@ ghost use Rattle.cob_tree.specs.declared.form.Form.TheVariants as form;
 ghost use Rattle.cob_program.specs.ActView.{plain_act, plain_stmt, plain_turns, plain_program};
 ghost use Rattle.cob_program.specs.Statements.{plain_references, program_statements};
 ghost use Rattle.cell_steps.specs.Homes.{home_of, if_named, item_homes, turns_homes, act_homes, stmt_homes, count_homes, homes_of};
-ghost use Rattle.pack_forms.specs.declared.cells.PackCell.TheVariants.{Item as OfItem};
+ghost use Rattle.diff_layer.specs.declared.cells.PackCell.TheVariants.{Item as OfItem};
 ghost use Rattle.diff_layer.specs.Planning.{cells_of};
 
+use crate::cells::PackCell;
 use cob_data::Item;
 use cob_program::{Act, Program, Stmt, Turns};
 use cob_tree::Form;
-use pack_forms::PackCell;
 use std::alloc::{AllocError, Global};
 
 /// The longest text that has a cell.

@@ -5,6 +5,9 @@
 //! Along an edge the matrices of several packs are changed in one row of words and in place; no call there takes memory.
 #![tactic(auto)]
 
+mod amounts;
+mod bounds;
+mod cells;
 mod changing;
 mod clearing;
 mod closing;
@@ -14,15 +17,32 @@ mod edges;
 mod ends;
 mod entry;
 mod flowing;
+mod form_sums;
+mod forms;
 mod gone;
 mod guards;
 mod homes;
+mod images;
 mod layer;
+mod literals;
 mod node_clearing;
+mod operands;
+mod orders;
+mod pack;
+mod pack_changes;
+mod pack_closings;
+mod pack_counters;
+mod pack_gone;
+mod pack_stores;
 mod passing;
 mod planning;
 mod plans;
+mod receivers;
+mod senders;
+mod sides;
 mod stores;
+mod sums;
+mod taken;
 mod walking;
 mod writing;
 

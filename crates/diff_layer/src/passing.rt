@@ -16,11 +16,12 @@ ghost use Rattle.diff_steps.specs.Matrices.{put_closed};
 ghost use Rattle.diff_steps.specs.Moments.{Bytes};
 ghost use Rattle.diff_steps.specs.Packs.{size_of};
 ghost use Rattle.diff_steps.specs.Steps.{each_pack, all_closed};
-ghost use Rattle.pack_forms.specs.Cells.{plain_cell, plain_cells};
+ghost use Rattle.diff_layer.specs.Cells.{plain_cell, plain_cells};
 ghost use Rattle.diff_layer.specs.Closed.{IsClosedBy, IsClosedRow, IsKnownAlike, IsIdle};
 ghost use Rattle.diff_layer.specs.Parts.{CanChange, IsWrittenTo, plan_changed};
 ghost use Rattle.diff_layer.specs.Plans.{plain_plan, plain_plans, IsPlanOf, ArePlansOf, matrices_for};
 
+use crate::cells::PackCell;
 use crate::changing::change_plan;
 use crate::closing::close_again;
 use crate::plans::{PackPlan, words_for};
@@ -29,7 +30,6 @@ use cob_program::Program;
 use cob_runs::Cell;
 use edge_amounts::{EdgePart, cell_of, cell_of_count};
 use interval_domain::{Interval, known_at};
-use pack_forms::PackCell;
 
 // whether two lists of words are one
 fn is_same(one: &[i128], other: &[i128]) -> bool

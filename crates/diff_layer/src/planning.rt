@@ -3,17 +3,17 @@ ghost use Rattle.std.specs.Prelude.{◌≡◌, ◌≤◌, length, IfOk};
 ghost use Rattle.cob_program.specs.ActView.{plain_program};
 ghost use Rattle.cob_program.specs.Statements.{plain_references, program_statements};
 ghost use Rattle.cell_steps.specs.Homes.{homes_of};
-ghost use Rattle.pack_forms.specs.Cells.{plain_cell, plain_cells};
+ghost use Rattle.diff_layer.specs.Cells.{plain_cell, plain_cells};
 ghost use Rattle.diff_layer.specs.Plans.{plain_plans};
 ghost use Rattle.pack_laws.specs.Packs.{home_at, pack_in, packs_in, AreRisingNumbers, ArePacksOfCells};
 ghost use Rattle.diff_layer.specs.Planning.{IsPlanFor, ArePlansFor, sizes_in};
 
+use crate::cells::{PackCell, pack_decimals};
 use crate::homes::homes_of;
 use crate::plans::PackPlan;
 use cob_data::Layout;
 use cob_program::{Program, Stmt};
 use diff_bounds::Pack;
-use pack_forms::{PackCell, pack_decimals};
 use std::alloc::{AllocError, Global};
 
 // what the cell with a number is of, which counts from 1

@@ -1,12 +1,13 @@
 //! Packs as they are walked with.
 ghost use Rattle.std.specs.Prelude.{◌≡◌, ◌≤◌};
 ghost use Rattle.diff_steps.specs.Packs.{size_of};
-ghost use Rattle.pack_forms.specs.Views.{plain_pack};
+ghost use Rattle.diff_layer.specs.Views.{plain_pack};
 ghost use Rattle.diff_bounds.specs.PackRows.{words_of};
 ghost use Rattle.diff_layer.specs.Plans.{plain_plan};
 
+use crate::cells::PackCell;
+use crate::pack::PackView;
 use diff_bounds::words_of;
-use pack_forms::{PackCell, PackView};
 
 /// A pack: its cells in turn, at most eight, and the decimals of its unit.
 #[derive(Drop)]

@@ -15,17 +15,21 @@ ghost use Rattle.cell_layer.specs.Kept.{latest_of};
 ghost use Rattle.diff_steps.specs.Forms as forms;
 ghost use Rattle.diff_steps.specs.Moments.{Bytes};
 ghost use Rattle.diff_steps.specs.Packs.{cell_of, decimals_of};
-ghost use Rattle.pack_forms.specs.Sizes.{HasSmallTop};
-ghost use Rattle.pack_forms.specs.Views.{plain_pack, HasUnit, program_of, known_in, taken_at};
-ghost use Rattle.pack_forms.specs.Writing.{amount_items, are_written};
+ghost use Rattle.diff_layer.specs.Sizes.{HasSmallTop};
+ghost use Rattle.diff_layer.specs.Views.{plain_pack, HasUnit, program_of, known_in, taken_at};
+ghost use Rattle.diff_layer.specs.PackWriting.{amount_items, are_written};
 ghost use Rattle.diff_layer.specs.Changes.{decimal_in, cell_stored, fitting_stored, store_changed};
 
+use crate::amounts::amount_form;
+use crate::cells::{PackCell, unit_of};
 use crate::gone::{Gone, forget};
+use crate::operands::has_operands;
+use crate::pack::{PackView, cell_in};
+use crate::pack_stores::store_at;
 use cell_layer::{Kept, KnownItems};
 use dec_num::Mode;
 use diff_bounds::set_least_matrix;
 use edge_amounts::{Amount, receiver_at};
-use pack_forms::{PackCell, PackView, amount_form, cell_in, has_operands, store_at, unit_of};
 use transfer_ranges::{AmountRange, Taken};
 
 // the range of an amount that is a decimal, by what it is worked out of

@@ -13,7 +13,7 @@ ghost use Rattle.cell_layer.specs.NumberedStatements.{act_in};
 ghost use Rattle.cell_layer.specs.Walks.{CanStep};
 ghost use Rattle.cell_layer.specs.Edges.{CanWalk};
 ghost use Rattle.diff_steps.specs.Moments.{Bytes};
-ghost use Rattle.pack_forms.specs.Writing.{are_written};
+ghost use Rattle.diff_layer.specs.PackWriting.{are_written};
 ghost use Rattle.diff_layer.specs.Closed.{IsClosedRow};
 ghost use Rattle.diff_layer.specs.Parts.{IsOfEdge};
 ghost use Rattle.diff_layer.specs.Plans.{plain_plans, ArePlansOf, matrices_for, IsRowFor};

@@ -8,7 +8,7 @@ ghost use Rattle.cob_program.specs.SumView.{plain_sum, plain_part as plain_produ
 ghost use Rattle.cob_runs.specs.Computing.{items_in, items_in_parts, items_in_factors, items_in_atom};
 ghost use Rattle.edge_amounts.specs.PartView.{plain_amount, plain_part};
 ghost use Rattle.diff_steps.specs.Moments.{is_written, item_bytes};
-ghost use Rattle.pack_forms.specs.Writing.{sender_items, are_written};
+ghost use Rattle.diff_layer.specs.PackWriting.{sender_items, are_written};
 ghost use Rattle.diff_layer.specs.Writing.{bytes, product_items, items_of_amount, edge_items, part_bytes};
 
 use crate::gone::item_at;

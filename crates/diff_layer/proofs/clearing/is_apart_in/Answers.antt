@@ -2,7 +2,7 @@ use Rattle.std.proofs.Common.{sym, ap, subst, arith, ◌∙◌}
 use Rattle.std.proofs.lemmas.List.{length-map}
 use Rattle.diff_bounds.specs.Matrix.{IsMatrix}
 use Rattle.diff_steps.specs.Packs.{size_of}
-use Rattle.pack_forms.specs.Cells.{plain_cell}
+use Rattle.diff_layer.specs.Cells.{plain_cell}
 use Rattle.cob_program.specs.ActView.{plain_program}
 use Rattle.edge_amounts.specs.PartView.{plain_divisor}
 use Rattle.interval_domain.specs.Rows.{cells_of}

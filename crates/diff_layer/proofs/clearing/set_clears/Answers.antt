@@ -4,7 +4,7 @@ use Rattle.edge_amounts.specs.PartView.{plain_part}
 use Rattle.interval_domain.specs.Rows.{cells_of}
 use Rattle.cell_steps.specs.Seen.{Seen}
 use Rattle.cell_layer.specs.Kept.{seen}
-use Rattle.pack_forms.proofs.KeptSmall.{kept_small}
+use Rattle.diff_layer.proofs.KeptSmall.{kept_small}
 use Rattle.diff_layer.specs.Clears.{count_shown}
 use Rattle.diff_layer.specs.Plans.{plain_plans, matrices_for}
 use Rattle.diff_layer.proofs.Stepped.{set_can}

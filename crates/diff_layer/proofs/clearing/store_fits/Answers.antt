@@ -5,7 +5,7 @@ use Rattle.edge_amounts.specs.PartView.{plain_amount}
 use Rattle.transfer_ranges.specs.Sizes.{IsSmallAmount}
 use Rattle.cell_layer.specs.Kept.{seen}
 use Rattle.cell_layer.proofs.Stepping.{can_work, small_amounts}
-use Rattle.pack_forms.proofs.KeptSmall.{kept_small}
+use Rattle.diff_layer.proofs.KeptSmall.{kept_small}
 use Rattle.diff_layer.proofs.clearing.store_fits.Goals as goal
 
 pub amount_for-found-requires-clause-can : goal.amount_for-found-requires-clause-can

@@ -4,10 +4,10 @@ use Rattle.diff_bounds.specs.Matrix.{IsMatrix}
 use Rattle.cob_program.specs.ActView.{plain_program}
 use Rattle.interval_domain.specs.Rows.{cells_of}
 use Rattle.cell_steps.specs.Homes.{homes_of}
-use Rattle.pack_forms.specs.KnownCells.{HaveEnds}
-use Rattle.pack_forms.specs.Tight.{IsTightIfSettled}
-use Rattle.pack_forms.specs.declared.cells.PackCell.{PackCell}
-use Rattle.pack_forms.specs.Cells.{plain_cell}
+use Rattle.diff_layer.specs.KnownCells.{HaveEnds}
+use Rattle.diff_layer.specs.Tight.{IsTightIfSettled}
+use Rattle.diff_layer.specs.declared.cells.PackCell.{PackCell}
+use Rattle.diff_layer.specs.Cells.{plain_cell}
 use Rattle.diff_layer.specs.Plans.{plain_plan}
 use Rattle.diff_layer.proofs.KnownEnds.{known_cells_end}
 use Rattle.diff_layer.proofs.Staying.{stays_closed, closed_is_tight}

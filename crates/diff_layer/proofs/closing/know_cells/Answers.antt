@@ -1,8 +1,8 @@
 use Rattle.std.proofs.Common.{rules, arith, get_or, refl, ◌∙◌, ap}
 use Rattle.cob_program.specs.ActView.{plain_program}
 use Rattle.interval_domain.specs.Rows.{cells_of}
-use Rattle.pack_forms.specs.declared.cells.PackCell.TheVariants.{Item}
-use Rattle.pack_forms.specs.Cells.{plain_cell}
+use Rattle.diff_layer.specs.declared.cells.PackCell.TheVariants.{Item}
+use Rattle.diff_layer.specs.Cells.{plain_cell}
 use Rattle.diff_layer.specs.Plans.{plain_plan}
 use Rattle.diff_layer.proofs.Filling.{fill_goes_on, fill_ends, map_twice}
 use Rattle.diff_layer.proofs.KnownEnds.{few_decimals, known_by, all_known}

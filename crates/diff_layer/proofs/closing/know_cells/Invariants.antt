@@ -1,6 +1,6 @@
 use Rattle.cob_program.specs.ActView.{plain_program}
 use Rattle.interval_domain.specs.Rows.{cells_of}
-use Rattle.pack_forms.specs.Cells.{plain_cell}
+use Rattle.diff_layer.specs.Cells.{plain_cell}
 use Rattle.diff_layer.proofs.Filling.{IsFilledTo}
 use Rattle.diff_layer.proofs.KnownEnds.{known_by}
 use Rattle.diff_layer.proofs.closing.know_cells.Given as goal

@@ -1,7 +1,7 @@
 use Rattle.std.proofs.Common.{length, ◌∙◌, ap}
 use Rattle.cell_steps.specs.Homes.{of_count}
 use Rattle.diff_steps.specs.Packs.{cell_of}
-use Rattle.pack_forms.specs.Views.{plain_pack}
+use Rattle.diff_layer.specs.Views.{plain_pack}
 use Rattle.diff_layer.specs.Changes.{cell_assigned}
 use Rattle.diff_layer.proofs.counters.count_down.Goals as goal
 

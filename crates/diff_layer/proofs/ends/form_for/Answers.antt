@@ -1,6 +1,6 @@
 use Rattle.std.proofs.Common.{◌∙◌, sym, ap}
 use Rattle.edge_amounts.specs.PartView.{plain_part}
-use Rattle.pack_forms.specs.Views.{plain_pack, program_of, known_in}
+use Rattle.diff_layer.specs.Views.{plain_pack, program_of, known_in}
 use Rattle.diff_layer.specs.Ends.{part_form}
 use Rattle.diff_layer.proofs.ends.form_for.Goals as goal
 

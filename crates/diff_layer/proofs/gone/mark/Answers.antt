@@ -1,5 +1,5 @@
 use Rattle.std.proofs.Common.{rules, refl, ◌∙◌}
-use Rattle.pack_forms.specs.Cells.{plain_cell}
+use Rattle.diff_layer.specs.Cells.{plain_cell}
 use Rattle.diff_layer.specs.Gone.{is_gone}
 use Rattle.diff_layer.proofs.Filling.{fill_goes_on, fill_ends, map_twice}
 use Rattle.diff_layer.proofs.gone.mark.Goals as goal

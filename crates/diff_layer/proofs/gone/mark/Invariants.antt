@@ -1,4 +1,4 @@
-use Rattle.pack_forms.specs.Cells.{plain_cell}
+use Rattle.diff_layer.specs.Cells.{plain_cell}
 use Rattle.diff_layer.specs.Gone.{is_gone}
 use Rattle.diff_layer.proofs.Filling.{IsFilledTo}
 use Rattle.diff_layer.proofs.gone.mark.Given as goal

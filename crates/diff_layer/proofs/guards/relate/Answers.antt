@@ -1,7 +1,7 @@
 use Rattle.std.proofs.Common.{length, ◌∙◌}
 use Rattle.cob_program.specs.SumView.{plain_sum}
 use Rattle.cell_steps.specs.Stores.{range_at}
-use Rattle.pack_forms.specs.Views.{item_cell, program_of, known_in}
+use Rattle.diff_layer.specs.Views.{item_cell, program_of, known_in}
 use Rattle.diff_layer.proofs.Related.{related_is}
 use Rattle.diff_layer.proofs.guards.relate.Goals as goal
 

@@ -3,7 +3,7 @@ use Rattle.cob_program.specs.ActView.{plain_program}
 use Rattle.interval_domain.specs.Rows.{cells_of}
 use Rattle.cell_layer.specs.ProgramRows.{known_in}
 use Rattle.cell_layer.proofs.CellNumbers.{number_fits, known_by_number}
-use Rattle.pack_forms.specs.Cells.{plain_cell}
+use Rattle.diff_layer.specs.Cells.{plain_cell}
 use Rattle.diff_layer.proofs.passing.is_known_alike.Goals as goal
 
 pub is_numbered_alike-requires-clause-within : goal.is_numbered_alike-requires-clause-within

@@ -1,7 +1,7 @@
 use Rattle.std.proofs.Common.{sym, ap, ◌∙◌}
 use Rattle.cob_program.specs.ActView.{plain_program}
 use Rattle.edge_amounts.specs.Numbers.{number_of}
-use Rattle.pack_forms.specs.Cells.{plain_cell}
+use Rattle.diff_layer.specs.Cells.{plain_cell}
 use Rattle.diff_layer.proofs.passing.number_of.Goals as goal
 
 pub returns-in-Item : goal.returns-in-Item

@@ -1,6 +1,6 @@
 use Rattle.std.proofs.Common.{ap, ◌∙◌}
 use Rattle.std.proofs.lemmas.List.{get_or_default, take_all}
-use Rattle.pack_forms.specs.Cells.{plain_cells}
+use Rattle.diff_layer.specs.Cells.{plain_cells}
 use Rattle.pack_laws.specs.Packs.{pack_in}
 use Rattle.diff_layer.proofs.Steps.{cell_pushed}
 use Rattle.diff_layer.proofs.planning.cells_with.Goals as goal

@@ -1,5 +1,5 @@
 use Rattle.std.proofs.Common.{◌≡◌, take}
-use Rattle.pack_forms.specs.Cells.{plain_cells}
+use Rattle.diff_layer.specs.Cells.{plain_cells}
 use Rattle.pack_laws.specs.Packs.{pack_in}
 use Rattle.diff_layer.proofs.planning.cells_with.Given as goal
 

@@ -1,6 +1,6 @@
 use Rattle.std.proofs.Common.{subst}
 use Rattle.std.proofs.lemmas.List.{take_all}
-use Rattle.pack_forms.specs.Cells.{plain_cells}
+use Rattle.diff_layer.specs.Cells.{plain_cells}
 use Rattle.diff_layer.specs.Planning.{ArePlansFor}
 use Rattle.diff_layer.proofs.Steps.{plan_pushed}
 use Rattle.diff_layer.proofs.planning.plans_for.Goals as goal

@@ -1,5 +1,5 @@
 use Rattle.std.proofs.Common.{take}
-use Rattle.pack_forms.specs.Cells.{plain_cells}
+use Rattle.diff_layer.specs.Cells.{plain_cells}
 use Rattle.diff_layer.specs.Planning.{ArePlansFor}
 use Rattle.diff_layer.proofs.planning.plans_for.Given as goal
 

@@ -2,7 +2,7 @@ use Rattle.std.proofs.Common.{◌≡◌, ◌∙◌, ap, subst}
 use Rattle.std.specs.Prelude.{IfOk}
 use Rattle.cob_program.specs.ActView.{plain_program}
 use Rattle.cell_steps.specs.Homes.{homes_of}
-use Rattle.pack_forms.specs.Cells.{plain_cells}
+use Rattle.diff_layer.specs.Cells.{plain_cells}
 use Rattle.diff_layer.specs.Planning.{ArePlansFor}
 use Rattle.diff_layer.proofs.Steps.{homes_back}
 use Rattle.diff_layer.proofs.planning.plans_of.Goals as goal

@@ -3,7 +3,7 @@ use Rattle.std.specs.Option.{option_map, option_map_or}
 use Rattle.cob_program.specs.ActView.{plain_stmt}
 use Rattle.edge_amounts.specs.PartView.{plain_part}
 use Rattle.cell_layer.specs.NumberedStatements.{act_in}
-use Rattle.pack_forms.specs.Writing.{are_written}
+use Rattle.diff_layer.specs.PackWriting.{are_written}
 use Rattle.diff_layer.specs.Writing.{edge_items, part_bytes}
 use Rattle.diff_layer.proofs.Items.{written_more}
 use Rattle.diff_layer.proofs.walking.step.Goals as goal

@@ -1,7 +1,7 @@
 use Rattle.std.proofs.Common.{◌≡◌, ◌∷◌, []}
 use Rattle.cob_runs.specs.Computing.{items_in_parts, items_in_factors}
 use Rattle.edge_amounts.proofs.SumLoops.{factors_from, products_from}
-use Rattle.pack_forms.specs.Writing.{are_written}
+use Rattle.diff_layer.specs.PackWriting.{are_written}
 use Rattle.diff_layer.specs.Writing.{bytes}
 use Rattle.diff_layer.proofs.writing.+written.Given as goal
 

@@ -1,0 +1,135 @@
+//! Stores of forms at cells.
+ghost use Rattle.std.specs.Prelude.{◌≡◌, ◌<◌, ◌≤◌, ◌≤ℤ◌, true, pos, unsigned_abs, IfSome};
+ghost use Rattle.diff_bounds.specs.Matrix.{IsMatrix};
+ghost use Rattle.diff_steps.specs.Stores.{absolute_stored, value_stored, form_stored};
+ghost use Rattle.diff_layer.specs.Forms.{IsFormOf};
+ghost use Rattle.diff_layer.specs.Receiving.{stored_at};
+
+use super::bounds::known_of_amount;
+use super::forms::{turned, widened};
+use super::images::{assign_or_forget, forget_cell, lower_to};
+use dec_num::Mode;
+use diff_bounds::{Known, Lin, error_of};
+use transfer_ranges::{AmountRange, Receiver};
+
+// stores a value that is 0: by the form or by the negated one, whichever says more
+fn store_either(size: usize, m: &mut [i128], to: usize, form: Option<Lin>)
+    requires size { size ≤ 8 }
+    requires m { IsMatrix size m.old }
+    requires first { 1 ≤ to }
+    requires last { to ≤ size }
+    requires form { IfSome form (IsFormOf size) }
+    ensures value { m.new ≡ absolute_stored size to form true true m.old }
+    ensures matrix { IsMatrix size m.new }
+{
+    let mut room = [0; 81];
+    let other = &mut room[..m.len()];
+    other.copy_from_slice(m);
+    assign_or_forget(size, other, to, turned(form));
+    assign_or_forget(size, m, to, form);
+    lower_to(size, m, other);
+}
+
+/// Stores the absolute value of a form, by whether it surely isn't negative and surely isn't positive. Nothing is known
+/// of the cell behind it where neither is sure.
+pub fn store_absolute(
+    size: usize,
+    m: &mut [i128],
+    to: usize,
+    form: Option<Lin>,
+    not_negative: bool,
+    not_positive: bool,
+)
+    requires size { size ≤ 8 }
+    requires m { IsMatrix size m.old }
+    requires first { 1 ≤ to }
+    requires last { to ≤ size }
+    requires form { IfSome form (IsFormOf size) }
+    ensures value { m.new ≡ absolute_stored size to form not_negative not_positive m.old }
+    ensures matrix { IsMatrix size m.new }
+{
+    match (not_negative, not_positive) {
+        (true, true) => store_either(size, m, to, form),
+        (true, false) => assign_or_forget(size, m, to, form),
+        (false, true) => assign_or_forget(size, m, to, turned(form)),
+        (false, false) => forget_cell(size, m, to),
+    }
+}
+
+/// Stores a form at a cell, with its sign or, where the cell has none, its absolute value.
+pub fn store_value(
+    size: usize,
+    m: &mut [i128],
+    to: usize,
+    signed: bool,
+    known: Known,
+    form: Option<Lin>,
+)
+    requires size { size ≤ 8 }
+    requires m { IsMatrix size m.old }
+    requires first { 1 ≤ to }
+    requires last { to ≤ size }
+    requires form { IfSome form (IsFormOf size) }
+    ensures value { m.new ≡ value_stored size to signed known form m.old }
+    ensures matrix { IsMatrix size m.new }
+{
+    if signed {
+        assign_or_forget(size, m, to, form);
+    } else {
+        store_absolute(size, m, to, form, known.not_negative, known.not_positive);
+    }
+}
+
+/// Stores a form, cut or rounded, at a cell whose unit is so many of the pack's.
+pub fn store_form(
+    size: usize,
+    m: &mut [i128],
+    to: usize,
+    signed: bool,
+    mode: Mode,
+    unit: i128,
+    known: Known,
+    form: &Lin,
+)
+    requires size { size ≤ 8 }
+    requires m { IsMatrix size m.old }
+    requires first { 1 ≤ to }
+    requires last { to ≤ size }
+    requires unit { pos 0 ≤ℤ unit }
+    requires form { IsFormOf size form.now }
+    ensures value { m.new ≡ form_stored size to signed mode (unsigned_abs unit) known form.now m.old }
+    ensures matrix { IsMatrix size m.new }
+{
+    let stored = widened(form, error_of(known, mode, unit));
+    store_value(size, m, to, signed, known, stored);
+}
+
+/// Stores an amount at a cell of a receiver whose unit is so many of the pack's: a form of the amount, by what is
+/// surely known of its range. Where there is no form, nothing is known of the cell behind it.
+pub fn store_at(
+    size: usize,
+    m: &mut [i128],
+    to: usize,
+    form: Option<Lin>,
+    receiver: Receiver,
+    mode: Mode,
+    unit: i128,
+    amount: Option<AmountRange>,
+)
+    requires size { size ≤ 8 }
+    requires m { IsMatrix size m.old }
+    requires first { 1 ≤ to }
+    requires last { to ≤ size }
+    requires form { IfSome form (IsFormOf size) }
+    requires unit { pos 0 ≤ℤ unit }
+    ensures value { m.new ≡ stored_at size to receiver mode (unsigned_abs unit) amount form m.old }
+    ensures matrix { IsMatrix size m.new }
+{
+    match form {
+        Some(form) => {
+            let known = known_of_amount(size, m, &form, receiver.scale, amount);
+            store_form(size, m, to, receiver.signed, mode, unit, known, &form);
+        }
+        None => forget_cell(size, m, to),
+    }
+}

@@ -1,7 +1,0 @@
-use Rattle.std.proofs.Common.{◌≡◌, drop}
-use Rattle.diff_steps.specs.Packs as packs
-use Rattle.pack_forms.specs.Cells.{plain_cells}
-use Rattle.pack_forms.proofs.cells.pack_decimals.Given as goal
-
-abbrev pub invariant-loop-k : goal.invariant-loop-k
-invariant-loop-k l = l.most ≡ packs.pack_decimals l.layout (plain_cells (drop l.k l.cells))
