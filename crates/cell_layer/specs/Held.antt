@@ -14,7 +14,7 @@ use Rattle.graph_runs.specs.Sources.{IsSourceGraph}
 use Rattle.cell_laws.specs.Layer.{left}
 use Rattle.cell_layer.specs.NumberedStatements.{number_in, act_in}
 
--- The parts of an edge can be counted by a `u32`.
+-- The parts of an edge and one more can be counted by a `u32`.
 abbrev pub HasFewAt : Program → Graph → Edge → Type 0
 HasFewAt p g x = (a : Act) → act_at p (left g x) ≡ Some a → length (parts_of p (left g x) a x.action) < 2 ^ 32 - 1
 

@@ -9,7 +9,7 @@ use Rattle.interval_domain.specs.declared.bounds.Interval.{Interval}
 use Rattle.interval_domain.specs.Corners.{interval}
 use Rattle.diff_bounds.specs.declared.known.Known.{Known}
 
--- where something is cut off: less than a unit, towards zero, or at most half a unit in either direction
+-- where something is cut off: at most the unit, towards zero, or in either direction where it is rounded
 abbrev pub one_sided : Mode → Bool → Bool → ℤ → Interval
 one_sided Trunc true not_positive unit = interval (neg_ℤ unit) (pos 0)
 one_sided Trunc false true unit = interval (pos 0) unit
