@@ -12,7 +12,7 @@ ghost use Rattle.diff_layer.specs.KnownCells.{put_cells, closed_with, known_cell
 ghost use Rattle.diff_layer.specs.PackEnds.{IsNumber};
 ghost use Rattle.diff_layer.specs.Tight.{IsTightIfSettled};
 
-use super::changes::changed_place;
+use crate::pack_changes::changed_place;
 use diff_bounds::{add_bound, close, close_row, settled};
 use interval_domain::Interval;
 
