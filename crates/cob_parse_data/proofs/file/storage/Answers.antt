@@ -1,0 +1,15 @@
+use Rattle.std.proofs.Common.{refl, arith}
+use Rattle.cob_parse_expr.proofs.LexemeSteps.{fails_first, fails_second}
+use Rattle.cob_parse_data.proofs.file.storage.Goals as goal
+
+pub returns-in-Err-clause-gives : goal.returns-in-Err-clause-gives
+returns-in-Err-clause-gives c = fails_first _ _ _ (fails_first _ _ _ c.in-Err.ensures.gives)
+
+pub returns-in-Err-entries-clause-gives : goal.returns-in-Err-entries-clause-gives
+returns-in-Err-entries-clause-gives c = fails_first _ _ _ (fails_second _ _ _ _ c.in-Ok.ensures.gives (fails_first _ _ _ c.in-Err-entries.ensures.gives))
+
+pub returns-clause-gives : goal.returns-clause-gives
+returns-clause-gives c = rw (c.in-Ok.ensures.gives, c.in-Ok-entries.ensures.gives, c.of.ensures) refl
+
+pub returns-clause-rest : goal.returns-clause-rest
+returns-clause-rest c = omega (arith, c.in-Ok.ensures.rest, c.in-Ok-entries.ensures.rest)
