@@ -1,19 +1,8 @@
-use Rattle.std.proofs.Common.{refl}
 use Rattle.cob_tree.specs.CondView.{plain_cond}
 use Rattle.cob_tree.specs.StmtView.{plain_verb}
-use Rattle.cob_parse_expr.proofs.LexemeSteps.{fails_first}
 use Rattle.cob_parse_proc.specs.StmtSteps.{plain_branches}
 use Rattle.cob_parse_proc.proofs.StmtAnswers.{if_takes}
 use Rattle.cob_parse_proc.proofs.verb.with_branches.Goals as goal
-
-pub returns-in-Ok-clause-gives : goal.returns-in-Ok-clause-gives
-returns-in-Ok-clause-gives c = λ r ts e. rw (rw c.in-Ok.is at e, c.conditional.ensures) refl
-
-pub returns-in-Ok-clause-rest : goal.returns-in-Ok-clause-rest
-returns-in-Ok-clause-rest c = λ n e. rw c.in-Ok.is at e
-
-pub returns-in-Err-clause-gives : goal.returns-in-Err-clause-gives
-returns-in-Err-clause-gives c = λ r ts e. fails_first _ _ _ (rw c.in-Err.is at e)
 
 pub returns-in-Ok-clause-takes : goal.returns-in-Ok-clause-takes
 returns-in-Ok-clause-takes c = λ e. if_takes (plain_cond c.args.test) (plain_branches c.in-Ok.branches) (plain_verb c.conditional.result) c.in-Ok.takes_not c.conditional.ensures (rw c.in-Ok.is at e)
