@@ -1,0 +1,24 @@
+use Rattle.std.proofs.Common.{refl, arith}
+use Rattle.cob_parse_expr.proofs.LexemeSteps.{fails_first, fails_second}
+use Rattle.cob_parse_data.proofs.file.fd.Goals as goal
+
+pub returns-in-Err-clause-gives : goal.returns-in-Err-clause-gives
+returns-in-Err-clause-gives c = fails_first _ _ _ (fails_first _ _ _ c.in-Err.ensures.gives)
+
+pub returns-in-Err-name_at-clause-gives : goal.returns-in-Err-name_at-clause-gives
+returns-in-Err-name_at-clause-gives c = fails_first _ _ _ (fails_second _ _ _ _ c.in-Ok.ensures.gives (fails_first _ _ _ (fails_first _ _ _ c.in-Err-name_at.ensures.gives)))
+
+pub returns-in-Err-clauses-clause-gives : goal.returns-in-Err-clauses-clause-gives
+returns-in-Err-clauses-clause-gives c = fails_first _ _ _ (fails_second _ _ _ _ c.in-Ok.ensures.gives (fails_first _ _ _ (fails_second _ _ _ _ c.in-Ok-name_at.ensures.gives (fails_first _ _ _ (fails_first _ _ _ c.in-Err-clauses.ensures.gives)))))
+
+pub returns-in-Err-stop-clause-gives : goal.returns-in-Err-stop-clause-gives
+returns-in-Err-stop-clause-gives c = fails_first _ _ _ (fails_second _ _ _ _ c.in-Ok.ensures.gives (fails_first _ _ _ (fails_second _ _ _ _ c.in-Ok-name_at.ensures.gives (fails_first _ _ _ (fails_second _ _ _ _ c.in-Ok-clauses.ensures.gives (fails_first _ _ _ (fails_first _ _ _ c.in-Err-stop.ensures.gives)))))))
+
+pub returns-in-Err-entries-clause-gives : goal.returns-in-Err-entries-clause-gives
+returns-in-Err-entries-clause-gives c = fails_first _ _ _ (fails_second _ _ _ _ c.in-Ok.ensures.gives (fails_first _ _ _ (fails_second _ _ _ _ c.in-Ok-name_at.ensures.gives (fails_first _ _ _ (fails_second _ _ _ _ c.in-Ok-clauses.ensures.gives (fails_first _ _ _ (fails_second _ _ _ _ c.in-Ok-stop.ensures.gives (fails_first _ _ _ c.in-Err-entries.ensures.gives))))))))
+
+pub returns-clause-gives : goal.returns-clause-gives
+returns-clause-gives c = rw (c.in-Ok.ensures.gives, c.in-Ok-name_at.ensures.gives, c.in-Ok-clauses.ensures.gives, c.in-Ok-stop.ensures.gives, c.in-Ok-entries.ensures.gives, c.of-clauses.ensures, c.of-entries.ensures) refl
+
+pub returns-clause-rest : goal.returns-clause-rest
+returns-clause-rest c = omega (arith, c.in-Ok.ensures.rest, c.in-Ok-name_at.ensures.rest, c.in-Ok-clauses.ensures.rest, c.in-Ok-stop.ensures.rest, c.in-Ok-entries.ensures.rest)
