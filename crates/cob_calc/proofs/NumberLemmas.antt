@@ -1,6 +1,6 @@
 -- Sums, products and quotients of small numbers.
 use Rattle.std.proofs.Common.{◌≡◌, ℕ, suc, ◌+◌, ◌-◌, ◌*◌, ◌/◌, ◌^◌, ◌<◌, ◌≤◌, ◌==◌, ℤ, pos, negsuc, max, Bool, true, false, List, length, get_or, drop, Some, None, ◌⊎◌, inl, inr, refl, sym, ap, subst, ◌∙◌, arith}
-use Rattle.std.specs.Prelude.{if◌then◌else◌, unsigned_abs, ◌+ℤ◌, ◌≢◌, nat_le, nat_lt}
+use Rattle.std.specs.Prelude.{if◌then◌else◌, unsigned_abs, ◌+ℤ◌, ◌≤ℤ◌, neg_ℤ, ◌≢◌, nat_le, nat_lt}
 use Rattle.std.specs.declared.cmp.Ordering.TheVariants.{Less, Equal, Greater}
 use Rattle.std.specs.Ordering.{nat_cmp, is_lt, ord_max}
 use Rattle.std.proofs.lemmas.Bool.Decides.{nat_tests}
@@ -116,6 +116,13 @@ greater_of m n = greater_by m n (nat_lt n m) (n == m) refl
 
 pub scale_of_words : (a b : Scaled) (m s : ℕ) → m ≡ max a.scale b.scale → s ≡ ord_max nat_cmp 6 m → s ≡ quotient_scale a.scale b.scale
 scale_of_words a b m s em es = es ∙ greater_of 6 m ∙ ap (max 6) em
+
+pub places_of_words : (a b : Scaled) (v up : ℤ) (s : ℕ) → CanDivide a b → a.units ≢ pos 0 → v ≡ up → s ≡ quotient_scale a.scale b.scale → up ≡ pos (s + b.scale - a.scale) →
+    (neg_ℤ (pos 37) ≤ℤ v) × (v ≤ℤ pos 55)
+places_of_words a b v up s can h ev es eu =
+    let e : v ≡ pos (quotient_scale a.scale b.scale + b.scale - a.scale) = rw (ev, eu, es) refl in
+    let few = can.digits h in
+    (omega (arith, ints, e), omega (arith, ints, e, few))
 
 near_of_words : (a b : Scaled) (x y v up : ℤ) → x ≡ a.units → y ≡ b.units → v ≡ up → near Trunc (ratio_of x y) v ≡ near Trunc (ratio_of a.units b.units) up
 near_of_words a b x y v up ex ey ev = rw (ex, ey, ev) refl
