@@ -1,6 +1,8 @@
 -- Sums, products and quotients of small numbers.
 use Rattle.std.proofs.Common.{◌≡◌, ℕ, suc, ◌+◌, ◌-◌, ◌*◌, ◌/◌, ◌^◌, ◌<◌, ◌≤◌, ◌==◌, ℤ, pos, negsuc, max, Bool, true, false, List, length, get_or, drop, Some, None, ◌⊎◌, inl, inr, refl, sym, ap, subst, ◌∙◌, arith}
-use Rattle.std.specs.Prelude.{unsigned_abs, ◌+ℤ◌, ◌≢◌, nat_le}
+use Rattle.std.specs.Prelude.{if◌then◌else◌, unsigned_abs, ◌+ℤ◌, ◌≤ℤ◌, neg_ℤ, ◌≢◌, nat_le, nat_lt}
+use Rattle.std.specs.declared.cmp.Ordering.TheVariants.{Less, Equal, Greater}
+use Rattle.std.specs.Ordering.{nat_cmp, is_lt, ord_max}
 use Rattle.std.proofs.lemmas.Bool.Decides.{nat_tests}
 use Rattle.std.proofs.lemmas.List.{drop_more, drop_all}
 use Rattle.dec_num.specs.declared.types.Mode.TheVariants.{Trunc}
@@ -75,7 +77,7 @@ some_quotient : (a b : Scaled) → b.units ≢ pos 0 → quotient a b ≡ Some (
 })
 some_quotient a b h = rw (not_zero b.units h) refl
 
-pub quotient_is : (a b r : Scaled) (u up : ℤ) (s : ℕ) → b.units ≢ pos 0 → s ≡ quotient_scale a.scale b.scale → up ≡ pos (s + b.scale - a.scale) →
+quotient_is : (a b r : Scaled) (u up : ℤ) (s : ℕ) → b.units ≢ pos 0 → s ≡ quotient_scale a.scale b.scale → up ≡ pos (s + b.scale - a.scale) →
     u ≡ near Trunc (ratio_of a.units b.units) up → r ≡ record { units = u; scale = s } → Some r ≡ quotient a b
 quotient_is a b r u up s h es eu en er = rw (er, en, eu, es, some_quotient a b h) refl
 
@@ -94,13 +96,46 @@ pub zero_divisor : (a b : Scaled) → b.units ≡ pos 0 → (b.units ≢ pos 0) 
 zero_divisor a b e h = absurd (h e)
 
 -- no quotient has too many digits
-pub no_overflow : (a b : Scaled) (up : ℤ) (s : ℕ) → CanDivide a b → s ≡ quotient_scale a.scale b.scale → up ≡ pos (s + b.scale - a.scale) →
+no_overflow : (a b : Scaled) (up : ℤ) (s : ℕ) → CanDivide a b → s ≡ quotient_scale a.scale b.scale → up ≡ pos (s + b.scale - a.scale) →
     (b.units ≢ pos 0) × (10 ^ 37 ≤ unsigned_abs (near Trunc (ratio_of a.units b.units) up)) → None ≡ quotient a b
 no_overflow a b up s can es eu h =
     let e : up ≡ pos (quotient_scale a.scale b.scale + b.scale - a.scale) = rw (eu, es) refl in
     let most = can.result h.0 in
     let over = subst (λ u. 10 ^ 37 ≤ unsigned_abs (near Trunc (ratio_of a.units b.units) u)) e h.1 in
     absurd (omega (arith, over, most))
+
+-- ---- quotients as the code has them, where a number stands for its word
+
+greater_by : (m n : ℕ) (below same : Bool) → nat_lt n m ≡ below → (if is_lt (if below then Less else (if same then Equal else Greater)) then m else n) ≡ max m n
+greater_by m n true same e = let h : n < m = grind (arith, nat_tests) in omega (arith, h)
+greater_by m n false true e = let h : m ≤ n = grind (arith, nat_tests) in omega (arith, h)
+greater_by m n false false e = let h : m ≤ n = grind (arith, nat_tests) in omega (arith, h)
+
+greater_of : (m n : ℕ) → ord_max nat_cmp m n ≡ max m n
+greater_of m n = greater_by m n (nat_lt n m) (n == m) refl
+
+pub scale_of_words : (a b : Scaled) (m s : ℕ) → m ≡ max a.scale b.scale → s ≡ ord_max nat_cmp 6 m → s ≡ quotient_scale a.scale b.scale
+scale_of_words a b m s em es = es ∙ greater_of 6 m ∙ ap (max 6) em
+
+pub places_of_words : (a b : Scaled) (v up : ℤ) (s : ℕ) → CanDivide a b → a.units ≢ pos 0 → v ≡ up → s ≡ quotient_scale a.scale b.scale → up ≡ pos (s + b.scale - a.scale) →
+    (neg_ℤ (pos 37) ≤ℤ v) × (v ≤ℤ pos 55)
+places_of_words a b v up s can h ev es eu =
+    let e : v ≡ pos (quotient_scale a.scale b.scale + b.scale - a.scale) = rw (ev, eu, es) refl in
+    let few = can.digits h in
+    (omega (arith, ints, e), omega (arith, ints, e, few))
+
+near_of_words : (a b : Scaled) (x y v up : ℤ) → x ≡ a.units → y ≡ b.units → v ≡ up → near Trunc (ratio_of x y) v ≡ near Trunc (ratio_of a.units b.units) up
+near_of_words a b x y v up ex ey ev = rw (ex, ey, ev) refl
+
+pub quotient_of_words : (a b r : Scaled) (x y u w v up : ℤ) (s : ℕ) → x ≡ a.units → y ≡ b.units → v ≡ up → w ≡ u → s ≡ quotient_scale a.scale b.scale → up ≡ pos (s + b.scale - a.scale) →
+    (y ≢ pos 0) × (u ≡ near Trunc (ratio_of x y) v) × (unsigned_abs u < 10 ^ 37) → r ≡ record { units = w; scale = s } → Some r ≡ quotient a b
+quotient_of_words a b r x y u w v up s ex ey ev ew es eu h er =
+    quotient_is a b r u up s (subst (λ z. z ≢ pos 0) ey h.0) es eu (h.1 ∙ near_of_words a b x y v up ex ey ev) (er ∙ ap (λ z. record { units = z; scale = s }) ew)
+
+pub no_overflow_of_words : (a b : Scaled) (x y v up : ℤ) (s : ℕ) → CanDivide a b → x ≡ a.units → y ≡ b.units → v ≡ up → s ≡ quotient_scale a.scale b.scale → up ≡ pos (s + b.scale - a.scale) →
+    (y ≢ pos 0) × (10 ^ 37 ≤ unsigned_abs (near Trunc (ratio_of x y) v)) → None ≡ quotient a b
+no_overflow_of_words a b x y v up s can ex ey ev es eu h =
+    no_overflow a b up s can es eu (subst (λ z. z ≢ pos 0) ey h.0, subst (λ z. 10 ^ 37 ≤ unsigned_abs z) (near_of_words a b x y v up ex ey ev) h.1)
 
 -- ---- literals
 
@@ -141,4 +176,4 @@ literal_is_small n v e is = subst IsSmall (sym is) (small_of (literal n) (litera
 
 pub ruleset literals = (literal_digits, literal_small, literal_is_small)
 
-pub ruleset quotients = (no_quotient, quotient_is, zero_quotient, zero_divisor, no_overflow)
+pub ruleset quotients = (no_quotient, zero_quotient, zero_divisor)
