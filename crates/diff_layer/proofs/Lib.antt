@@ -1,5 +1,5 @@
 pub mod AtCell
-pub mod Closing
+pub mod ClosedPacks
 pub mod KnownWords
 pub mod Marks
 pub mod PackForms
@@ -47,5 +47,5 @@ pub mod EdgesWalked
 pub mod Facts
 pub mod Beginning
 pub mod Layers
-pub mod Operands
+pub mod EdgeOperands
 pub mod ClearedByCells

@@ -3,7 +3,7 @@ use Rattle.cob_program.specs.ActView.{plain_program}
 use Rattle.interval_domain.specs.Rows.{cells_of}
 use Rattle.cell_layer.proofs.Leaving.{can_walk}
 use Rattle.diff_layer.specs.Plans.{plain_plans, matrices_for}
-use Rattle.diff_layer.proofs.Operands.{of_edge}
+use Rattle.diff_layer.proofs.EdgeOperands.{of_edge}
 use Rattle.diff_layer.proofs.EdgesWalked.{walks_it, walks_none}
 use Rattle.diff_layer.proofs.edges.walk_edge.Goals as goal
 

@@ -1,5 +1,5 @@
 use Rattle.diff_bounds.proofs.Tight.{tight_of_closure}
-use Rattle.diff_layer.proofs.Closing.{closed_by}
+use Rattle.diff_layer.proofs.ClosedPacks.{closed_by}
 use Rattle.diff_layer.proofs.pack_closings.close_whole.Goals as goal
 
 pub returns-clause-closed : goal.returns-clause-closed
