@@ -8,28 +8,30 @@ use Rattle.std.proofs.lemmas.List.Sums.{fold-append}
 use Rattle.cob_program.specs.Act.{Program}
 use Rattle.cob_runs.specs.declared.action.Cell.{Cell}
 use Rattle.cob_graph.specs.Graphs.{cells_of}
-use Rattle.cell_steps.specs.Homes.{of_item, homes_of}
+use Rattle.cob_graph.specs.declared.homes.Home.TheVariants.{Item as of_item}
+use Rattle.cob_graph.specs.Homes.{homes_of}
+use Rattle.cob_graph.specs.Limits.{most_cells}
 use Rattle.edge_amounts.specs.Numbers.{item_of, number_of}
 use Rattle.edge_amounts.proofs.NumberLemmas.{number_within}
 use Rattle.edge_amounts.proofs.Parallel.{cells_same}
 use Rattle.analyse_core.specs.declared.mention.Mention.{Mention}
 use Rattle.analyse_core.specs.Mentions.{texts_of}
 use Rattle.analyse_core.specs.Firsts.{noted}
-use Rattle.analyse_core.specs.Choice.{numeric_cell, most_cells, first_cells, cells_together, same_cells, is_pack, most_packs, packs_among, packs_of, all_loops, noted_if, noted_mention, noted_pack}
+use Rattle.analyse_core.specs.Choice.{numeric_cell, most_pack_cells, first_cells, cells_together, same_cells, is_pack, most_packs, packs_among, packs_of, all_loops, noted_if, noted_mention, noted_pack}
 use Rattle.analyse_core.proofs.MentionNoting.{first_noted, passing_over}
 
-one : (o : Option ℕ) (cells ys : List ℕ) → fold (noted (λ a b. a == b) most_cells) cells (cons_option o ys) ≡ fold (noted (λ a b. a == b) most_cells) (noted_if cells o) ys
+one : (o : Option ℕ) (cells ys : List ℕ) → fold (noted (λ a b. a == b) most_pack_cells) cells (cons_option o ys) ≡ fold (noted (λ a b. a == b) most_pack_cells) (noted_if cells o) ys
 one None cells ys = refl
 one (Some number) cells ys = refl
 
 module _ (p : Program) where
-  pub cells_noted : (cells : List ℕ) (xs : List Mention) → fold (noted_mention p) cells xs ≡ fold (noted (λ a b. a == b) most_cells) cells (filter_map (numeric_cell p) xs)
+  pub cells_noted : (cells : List ℕ) (xs : List Mention) → fold (noted_mention p) cells xs ≡ fold (noted (λ a b. a == b) most_pack_cells) cells (filter_map (numeric_cell p) xs)
   cells_noted cells [] = refl
   cells_noted cells (x ∷ xs) =
       cells_noted (noted_mention p cells x) xs ∙ sym (one (numeric_cell p x) cells (filter_map (numeric_cell p) xs))
 
   pub first_are : (xs : List Mention) → fold (noted_mention p) [] xs ≡ first_cells p xs
-  first_are xs = cells_noted [] xs ∙ sym (first_noted (λ a b. a == b) most_cells (filter_map (numeric_cell p) xs))
+  first_are xs = cells_noted [] xs ∙ sym (first_noted (λ a b. a == b) most_pack_cells (filter_map (numeric_cell p) xs))
 
   -- the packs of loops are noted first, and then those of paragraphs
   pub both_noted : (loops texts : List (List Mention)) →
@@ -53,8 +55,8 @@ packs_are p texts loops some all e f g h =
     ∙ ap (λ ts. packs_among (map (cells_together p) (all_loops (texts_of p.paras) 0 p.paras ++ ts))) e
 
 -- a cell's number is one of so many
-pub number_is_small : (p : Program) (cells : List Cell) (place : ℕ) (o : Option ℕ) → cells ≡ cells_of p → length cells ≤ 512 →
-    o ≡ number_of p (of_item place) → IfSome o (λ k. k < 512)
+pub number_is_small : (p : Program) (cells : List Cell) (place : ℕ) (o : Option ℕ) → cells ≡ cells_of p → length cells ≤ most_cells →
+    o ≡ number_of p (of_item place) → IfSome o (λ k. k < most_cells)
 number_is_small p cells place None same few e = tt
 number_is_small p cells place (Some k) same few e =
     let within = number_within (of_item place) (homes_of p) k (sym e) in

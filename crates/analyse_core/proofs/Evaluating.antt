@@ -14,7 +14,7 @@ use Rattle.interval_domain.specs.Elements.{Element, ElementFits, ElementBelow, j
 use Rattle.interval_domain.specs.Rows.{cells_lattice, element_of, row_from, width_of}
 use Rattle.interval_domain.proofs.AllCells.{element_reflexive, element_transitive, element_join_fits, element_join_left, element_join_right}
 use Rattle.interval_domain.proofs.Rows.{element_back}
-use Rattle.cell_steps.specs.Homes.{owns}
+use Rattle.cell_steps.specs.OwnRanges.{owns}
 use Rattle.cell_laws.specs.Entry.{entry_cells}
 use Rattle.cell_laws.specs.Layer.{cell_flow, post_at, row_for}
 use Rattle.cert_text.specs.View.{Place, Certificate}

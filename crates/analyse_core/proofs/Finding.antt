@@ -10,12 +10,13 @@ use Rattle.cob_tree.specs.declared.fault.Open.{Open}
 use Rattle.cob_program.specs.Act.{Program}
 use Rattle.cob_graph.specs.declared.graph.Graph.{Graph}
 use Rattle.cob_graph.specs.Graphs.{cells_of}
+use Rattle.cob_graph.specs.Limits.{most_cells, most_nodes}
 use Rattle.graph_runs.specs.Sources.{IsSourceGraph}
 use Rattle.dom_laws.specs.Lattice.{Lattice, IsElement}
 use Rattle.dom_laws.specs.Flow.{Flow, IsNode, IsHead, IsInductive}
 use Rattle.interval_domain.specs.Elements.{Element}
 use Rattle.interval_domain.specs.Rows.{cells_lattice, element_of}
-use Rattle.cell_steps.specs.Homes.{owns}
+use Rattle.cell_steps.specs.OwnRanges.{owns}
 use Rattle.cell_laws.specs.Layer.{cell_flow, clears_at, statement_at}
 use Rattle.cert_text.specs.View.{Certificate}
 use Rattle.cert_text.specs.Allowed.{IsAllowed}
@@ -27,7 +28,8 @@ use Rattle.pack_laws.proofs.Clears.{cleared_stays}
 use Rattle.pack_laws.proofs.Flow.{posts_fall}
 use Rattle.analyse_core.specs.Choice.{packs_of}
 use Rattle.cert_text.proofs.Fitting.{bounds_are_fit}
-use Rattle.cert_check.specs.OpenPairs.{all_kinds, if_open, is_cleared_by, node_clears_by, open_at}
+use Rattle.cob_tree.specs.Kinds.{all_kinds}
+use Rattle.cert_check.specs.OpenPairs.{if_open, is_cleared_by, node_clears_by, open_at}
 use Rattle.cert_check.specs.Claims.{bounds_at, cells_clear, claims_at, claims_clear, clears_with, is_cleared, open_of, open_pairs, opens_of, pack_leaks, row_at}
 use Rattle.cert_check.specs.Checking.{Accepts}
 use Rattle.cert_check.proofs.Accepting.{claimed, claimed_back}
@@ -84,7 +86,7 @@ module _ (p : Program) (g : Graph) (source : ∥ IsSourceGraph p g ∥₁) (read
   row_fits node is =
       subst (λ (ns : List ℕ). IsElement (packs_lattice ns (pack_lists p)) (bounds node)) (kept.sizes_are p g c) (beside.inductive.elements node is)
 
-  allowed : length (cells_of p) ≤ 512 → length g.nodes ≤ 4096 → IsAllowed c
+  allowed : length (cells_of p) ≤ most_cells → length g.nodes ≤ most_nodes → IsAllowed c
   allowed few_cells few_nodes =
       let count = (shape p g (packs_of p) rows bounds source found.inductive).nodes in
       record {
@@ -262,7 +264,7 @@ module _ (p : Program) (g : Graph) (c : Certificate) (source : ∥ IsSourceGraph
   abbrev its : Certificate
   its = certificate p g (packs_of p) found.rows found.bounds
 
-  pub is_allowed : length (cells_of p) ≤ 512 → length g.nodes ≤ 4096 → IsAllowed c
+  pub is_allowed : length (cells_of p) ≤ most_cells → length g.nodes ≤ most_nodes → IsAllowed c
   is_allowed few_cells few_nodes =
       subst IsAllowed (sym found.is)
       (allowed p g source found.ready found.rows found.bounds found.cells_found found.bounds_found few_cells few_nodes)

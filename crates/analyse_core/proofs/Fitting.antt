@@ -14,7 +14,7 @@ use Rattle.cert_text.specs.Allowed.{cells_rise, pack_fits, packs_fit}
 use Rattle.diff_bounds.specs.declared.Pack as declared
 use Rattle.analyse_core.specs.declared.mention.Mention.{Mention}
 use Rattle.analyse_core.specs.Firsts.{holds, added, distinct}
-use Rattle.analyse_core.specs.Choice.{numeric_cell, most_cells, first_cells, cells_together, same_cells, is_pack, most_packs, packs_of, all_mentions, numbers_of}
+use Rattle.analyse_core.specs.Choice.{numeric_cell, most_pack_cells, first_cells, cells_together, same_cells, is_pack, most_packs, packs_of, all_mentions, numbers_of}
 
 abbrev same : ℕ → ℕ → Bool
 same a b = a == b
@@ -127,7 +127,7 @@ module _ (p : Program) where
   few_together : (xs : List Mention) → length (cells_together p xs) ≤ 8
   few_together xs =
       let most : length (cells_together p xs) ≤ length (first_cells p xs) = few_held (first_cells p xs) 1 count in
-      let first : length (first_cells p xs) ≤ 8 = taken_length most_cells (distinct same (filter_map (numeric_cell p) xs)) in
+      let first : length (first_cells p xs) ≤ 8 = taken_length most_pack_cells (distinct same (filter_map (numeric_cell p) xs)) in
       omega (arith, most, first)
 
   fits : (xs : List Mention) → is_pack (cells_together p xs) ≡ true → pack_fits count (cells_together p xs) ≡ true

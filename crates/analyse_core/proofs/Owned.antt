@@ -16,7 +16,7 @@ use Rattle.interval_domain.specs.declared.bounds.Interval.{Interval}
 use Rattle.dom_laws.specs.Flow.{IsInductive}
 use Rattle.interval_domain.specs.Elements.{AreThresholds}
 use Rattle.interval_domain.specs.Rows.{cells_lattice}
-use Rattle.cell_steps.specs.Homes.{own_range, picture_range, owns}
+use Rattle.cell_steps.specs.OwnRanges.{own_range, picture_range, owns}
 use Rattle.cell_laws.proofs.Homes.{homes_have_own_ranges}
 use Rattle.cell_laws.specs.Layer.{cell_flow}
 use Rattle.cert_text.specs.Gaps.{IsSmall}
@@ -43,7 +43,7 @@ ranges_small (c ∷ cells) (h, hs) = (range_small c.digits c.signed h.digits, ra
 
 module _ (p : Program) (g : Graph) (source : ∥ IsSourceGraph p g ∥₁) where
   pub own_is : owns p ≡ map own_range (cells_of p)
-  own_is = ∥∥₁_elim source (hlevel props) (λ (s : IsSourceGraph p g). homes_have_own_ranges p s.whole)
+  own_is = homes_have_own_ranges p
 
   pub thresholds_are : AreThresholds (owns p) (thresholds_of p)
   thresholds_are = subst (λ (os : List Interval). AreThresholds os (thresholds_of p)) (sym own_is) (are_thresholds (program_literals p) (cells_of p))

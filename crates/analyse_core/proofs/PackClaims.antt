@@ -16,7 +16,8 @@ use Rattle.dom_laws.specs.Flow.{Flow, IsNode, IsEdge, IsFlow, IsInductive}
 use Rattle.interval_domain.specs.Elements.{Element, ElementBelow, ElementFits}
 use Rattle.interval_domain.specs.Rows.{element_of}
 use Rattle.interval_domain.proofs.Rows.{element_back}
-use Rattle.cell_steps.specs.Homes.{homes_of, owns}
+use Rattle.cob_graph.specs.Homes.{homes_of}
+use Rattle.cell_steps.specs.OwnRanges.{owns}
 use Rattle.cell_layer.proofs.FirstCells.{homes_many}
 use Rattle.cell_laws.specs.Entry.{entry_cells}
 use Rattle.cell_laws.specs.Layer.{cell_flow, post_at}

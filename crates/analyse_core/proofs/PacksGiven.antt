@@ -11,9 +11,10 @@ use Rattle.cob_program.specs.Act.{Program}
 use Rattle.cob_runs.specs.declared.action.Cell.{Cell}
 use Rattle.cob_graph.specs.declared.graph.Graph.{Graph}
 use Rattle.cob_graph.specs.Graphs.{cells_of}
+use Rattle.cob_graph.specs.Limits.{most_cells}
 use Rattle.graph_runs.specs.Sources.{IsSourceGraph}
 use Rattle.interval_domain.specs.declared.bounds.Interval.{Interval}
-use Rattle.cell_steps.specs.Homes.{owns}
+use Rattle.cell_steps.specs.OwnRanges.{owns}
 use Rattle.cert_text.specs.Allowed.{packs_fit}
 use Rattle.cert_text.specs.Gaps.{IsSmall}
 use Rattle.cert_text.specs.MatrixClaims.{cells_in, sizes_of}
@@ -40,13 +41,13 @@ few_each [] few = tt
 few_each (ns ∷ packs) few = (few.0, few_each packs few.1)
 
 -- packs of a certificate have 8 cells at most
-pub small_sizes : (cells : ℕ) (packs : List (List ℕ)) → cells ≤ 512 → length packs ≤ 32 → IsTrue (packs_fit cells packs) →
+pub small_sizes : (cells : ℕ) (packs : List (List ℕ)) → cells ≤ most_cells → length packs ≤ 32 → IsTrue (packs_fit cells packs) →
     AllByRecursion (λ n. n ≤ 8) (sizes_of packs)
 small_sizes cells packs few many fit =
     (claims_fit_there (record { cells = cells; packs = packs; nodes = [] })
     (record { cells = omega (arith, few); nodes = omega arith; packs = many; each_pack = fit; each_node = refl })).0
 
-pub few_cells : (cells : ℕ) (packs : List (List ℕ)) → cells ≤ 512 → length packs ≤ 32 → IsTrue (packs_fit cells packs) → AllByRecursion HasFewCells packs
+pub few_cells : (cells : ℕ) (packs : List (List ℕ)) → cells ≤ most_cells → length packs ≤ 32 → IsTrue (packs_fit cells packs) → AllByRecursion HasFewCells packs
 few_cells cells packs few many fit = few_each packs (small_sizes cells packs few many fit)
 
 -- ---- what is given of them
@@ -58,7 +59,7 @@ module _ (p : Program) (packs : List declared.Pack) (lists : List (Vec ℤ Globa
   pub given_few : length packs ≤ 32
   given_few = let few = given.ready.few in let same = given_count in omega (arith, few, same)
 
-  pub given_small : length (cells_of p) ≤ 512 → AllByRecursion (λ n. n ≤ 8) (sizes_of (cells_in packs))
+  pub given_small : length (cells_of p) ≤ most_cells → AllByRecursion (λ n. n ≤ 8) (sizes_of (cells_in packs))
   given_small few =
       subst (λ (ps : List (List ℕ)). AllByRecursion (λ n. n ≤ 8) (sizes_of ps)) (sym given.packs_are)
       (small_sizes (length (cells_of p)) (packs_of p) few given.ready.few given.ready.fit)

@@ -10,7 +10,7 @@ use Rattle.graph_runs.specs.Sources.{IsSourceGraph}
 use Rattle.dom_laws.specs.Lattice.{Lattice}
 use Rattle.dom_laws.specs.Flow.{Flow, IsNode, IsInductive}
 use Rattle.interval_domain.specs.Rows.{cells_lattice, element_of}
-use Rattle.cell_steps.specs.Homes.{owns}
+use Rattle.cell_steps.specs.OwnRanges.{owns}
 use Rattle.cell_laws.specs.Layer.{cell_flow}
 use Rattle.cert_text.specs.View.{Certificate}
 use Rattle.cert_text.specs.Claims.{claimed_row, place_at}

@@ -7,7 +7,9 @@ use Rattle.std.proofs.lemmas.List.{length-map}
 use Rattle.cob_program.specs.Act.{Program}
 use Rattle.cob_graph.specs.declared.graph.Graph.{Graph}
 use Rattle.cob_graph.specs.Graphs.{cells_of}
-use Rattle.cell_steps.specs.Homes.{homes_of, owns}
+use Rattle.cob_graph.specs.Homes.{homes_of}
+use Rattle.cob_graph.specs.Limits.{most_cells, most_nodes}
+use Rattle.cell_steps.specs.OwnRanges.{owns}
 use Rattle.graph_runs.specs.Places.{edge_at}
 use Rattle.dom_laws.specs.Lattice.{Lattice}
 use Rattle.dom_laws.specs.Flow.{Flow, goes_back_to, heads_up_to, head_count, IsDominated, IsInductive}
@@ -116,7 +118,7 @@ module _ (p : Program) (g : Graph) (packs : List declared.Pack) (lists : List (V
       let more = some_words (sizes_of (cells_in packs)) (omega (arith, many, some)) in
       omega (arith, same, more)
 
-  pub rows_fit : (nodes words : ℕ) → words ≡ lattice_there.width → nodes ≤ 4096 → length (cells_of p) ≤ 512 → (nodes + 2) * words ≤ 2 ^ 32
+  pub rows_fit : (nodes words : ℕ) → words ≡ lattice_there.width → nodes ≤ most_nodes → length (cells_of p) ≤ most_cells → (nodes + 2) * words ≤ 2 ^ 32
   rows_fit nodes words e few small =
       let same = words_there words e in
       let many = sizes_many in

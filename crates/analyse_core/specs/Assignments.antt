@@ -11,7 +11,7 @@ use Rattle.interval_domain.specs.Known.{Known}
 use Rattle.interval_domain.specs.Elements.{Element, height_of}
 use Rattle.cert_text.specs.View.{Certificate}
 use Rattle.cert_text.specs.Claims.{place_at, written_element}
-use Rattle.cell_steps.specs.Homes.{owns}
+use Rattle.cell_steps.specs.OwnRanges.{owns}
 use Rattle.cell_laws.specs.Layer.{cell_flow}
 use Rattle.diff_bounds.specs.Matrix.{none}
 use Rattle.diff_bounds.specs.Widening as words

@@ -8,7 +8,7 @@ use Rattle.cob_program.specs.Act.{Turns, once, Stmt, MkStmt, Act, perform, Para,
 use Rattle.cob_program.specs.Statements.{para_statements}
 use Rattle.cob_runs.specs.Contents.{form_at}
 use Rattle.cob_graph.specs.Graphs.{cells_of}
-use Rattle.cell_steps.specs.Homes.{of_item}
+use Rattle.cob_graph.specs.declared.homes.Home.TheVariants.{Item as of_item}
 use Rattle.edge_amounts.specs.Numbers.{number_of}
 use Rattle.diff_bounds.specs.declared.Pack as declared
 use Rattle.analyse_core.specs.declared.mention.Mention.{Mention}
@@ -54,12 +54,12 @@ abbrev pub numeric_cell : Program → Mention → Option ℕ
 numeric_cell p (mention.Item place) = if is_numeric_at p place then option_map suc (number_of p (of_item place)) else None
 numeric_cell p (mention.Range first last) = None
 
-abbrev pub most_cells : ℕ
-most_cells = 8
+abbrev pub most_pack_cells : ℕ
+most_pack_cells = 8
 
 -- the first numeric cells that are mentioned
 abbrev pub first_cells : Program → List Mention → List ℕ
-first_cells p xs = first_distinct (λ a b. a == b) most_cells (filter_map (numeric_cell p) xs)
+first_cells p xs = first_distinct (λ a b. a == b) most_pack_cells (filter_map (numeric_cell p) xs)
 
 -- the numbers of so many cells that are among these, in rising order
 abbrev pub rising : ℕ → List ℕ → List ℕ
@@ -93,7 +93,7 @@ packs_of p = packs_among (map (cells_together p) (all_mentions p))
 
 abbrev pub noted_if : List ℕ → Option ℕ → List ℕ
 noted_if cells None = cells
-noted_if cells (Some number) = noted (λ a b. a == b) most_cells cells number
+noted_if cells (Some number) = noted (λ a b. a == b) most_pack_cells cells number
 
 abbrev pub noted_mention : Program → List ℕ → Mention → List ℕ
 noted_mention p cells x = noted_if cells (numeric_cell p x)

@@ -5,7 +5,7 @@ use Rattle.cob_graph.specs.declared.graph.Graph.{Graph}
 use Rattle.cob_graph.specs.Graphs.{cells_of}
 use Rattle.dom_laws.specs.Flow.{IsInductive, IsDominated}
 use Rattle.interval_domain.specs.Rows.{cells_lattice, element_of}
-use Rattle.cell_steps.specs.Homes.{owns}
+use Rattle.cell_steps.specs.OwnRanges.{owns}
 use Rattle.cell_laws.specs.Layer.{cell_flow}
 use Rattle.cert_text.specs.View.{Certificate}
 use Rattle.analyse_core.specs.Choice.{packs_of}

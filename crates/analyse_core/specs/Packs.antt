@@ -7,7 +7,7 @@ use Rattle.cob_graph.specs.declared.graph.Graph.{Graph}
 use Rattle.cob_graph.specs.Graphs.{cells_of}
 use Rattle.dom_laws.specs.Lattice.{Lattice}
 use Rattle.dom_laws.specs.Flow.{Flow}
-use Rattle.cell_steps.specs.Homes.{homes_of}
+use Rattle.cob_graph.specs.Homes.{homes_of}
 use Rattle.cert_text.specs.Allowed.{packs_fit}
 use Rattle.diff_bounds.specs.declared.Pack as declared
 use Rattle.diff_bounds.specs.Widening.{AreThresholds}

@@ -9,7 +9,7 @@ use Rattle.cob_program.specs.Values.{literal}
 use Rattle.cob_runs.specs.declared.action.Cell.{Cell}
 use Rattle.cob_graph.specs.Graphs.{cells_of}
 use Rattle.interval_domain.specs.declared.bounds.Interval.{Interval}
-use Rattle.cell_steps.specs.Homes.{own_range}
+use Rattle.cell_steps.specs.OwnRanges.{own_range}
 use Rattle.analyse_core.specs.Literals.{program_literals}
 
 -- ---- a literal in a cell's units

@@ -6,7 +6,8 @@ ghost use Rattle.cob_data.specs.ItemRules.{is_numeric};
 ghost use Rattle.cob_program.specs.ActView.{plain_act, plain_paras, plain_program, plain_stmt};
 ghost use Rattle.cob_program.specs.Statements.{plain_references};
 ghost use Rattle.cob_graph.specs.Graphs.{cells_of};
-ghost use Rattle.cell_steps.specs.Homes.{of_item};
+ghost use Rattle.cob_graph.specs.declared.homes.Home.TheVariants.{Item as of_item};
+ghost use Rattle.cob_graph.specs.Limits.{most_cells};
 ghost use Rattle.edge_amounts.specs.Numbers.{number_of};
 ghost use Rattle.graph_runs.specs.Sources.{IsSourceGraph};
 ghost use Rattle.cert_text.specs.Allowed.{packs_fit};
@@ -128,7 +129,7 @@ fn is_number_at(program: &Program, place: u32) -> bool
 
 // A number that counts from 0, counted from 1.
 fn from_one(number: Option<usize>) -> Option<u32>
-    requires { IfSome number (λ k. k < 512) }
+    requires { IfSome number (λ k. k < most_cells) }
     ensures { result ≡ option_map suc number }
 {
     match number {
@@ -139,7 +140,7 @@ fn from_one(number: Option<usize>) -> Option<u32>
 
 fn cell_number(program: &Program, cells: &[Cell], place: u32) -> Option<u32>
     requires cells { cells.now ≡ cells_of (plain_program program.now) }
-    requires few { length cells.now ≤ 512 }
+    requires few { length cells.now ≤ most_cells }
     ensures { result ≡ option_map suc (number_of (plain_program program.now) (of_item place)) }
 {
     from_one(cell_of(cells, place))
@@ -148,7 +149,7 @@ fn cell_number(program: &Program, cells: &[Cell], place: u32) -> Option<u32>
 // The number of a numeric item's cell.
 fn numeric_cell(program: &Program, cells: &[Cell], mention: Mention) -> Option<u32>
     requires cells { cells.now ≡ cells_of (plain_program program.now) }
-    requires few { length cells.now ≤ 512 }
+    requires few { length cells.now ≤ most_cells }
     ensures { result ≡ numeric_cell (plain_program program.now) mention }
 {
     match mention {
@@ -179,7 +180,7 @@ fn note_mention(
     mention: Mention,
 ) -> Result<(), AllocError>
     requires cells { cells.now ≡ cells_of (plain_program program.now) }
-    requires few { length cells.now ≤ 512 }
+    requires few { length cells.now ≤ most_cells }
     ensures { OnOk result (list.new.items ≡ noted_mention (plain_program program.now) list.old.items mention) }
 {
     note_cell(list, numeric_cell(program, cells, mention))
@@ -194,7 +195,7 @@ fn first_cells(
     mentions: &[Mention],
 ) -> Result<Vec<u32>, AllocError>
     requires cells { cells.now ≡ cells_of (plain_program program.now) }
-    requires few { length cells.now ≤ 512 }
+    requires few { length cells.now ≤ most_cells }
     ensures { IfOk result (λ list. list.items ≡ first_cells (plain_program program.now) mentions.now) }
 {
     let mut list = Vec::new(alloc);
@@ -217,7 +218,7 @@ fn add_held(list: &mut Vec<u32>, cells: &[u32], number: u32) -> Result<(), Alloc
 // The numbers of the first cells that are among some, in rising order.
 #[tactic(auto, using(crate::proofs::Chosen::held_more))]
 fn rising(alloc: Global, count: usize, cells: &[u32]) -> Result<Vec<u32>, AllocError>
-    requires { count ≤ 512 }
+    requires { count ≤ most_cells }
     ensures { IfOk result (λ list. list.items ≡ rising count cells.now) }
 {
     let mut list = Vec::new(alloc);
@@ -235,7 +236,7 @@ fn cells_together(
     mentions: &[Mention],
 ) -> Result<Vec<u32>, AllocError>
     requires cells { cells.now ≡ cells_of (plain_program program.now) }
-    requires few { length cells.now ≤ 512 }
+    requires few { length cells.now ≤ most_cells }
     ensures { IfOk result (λ list. list.items ≡ cells_together (plain_program program.now) mentions.now) }
 {
     let first = first_cells(alloc, program, cells, mentions)?;
@@ -283,7 +284,7 @@ fn note_all(
     lists: &[Vec<Mention>],
 ) -> Result<(), AllocError>
     requires cells { cells.now ≡ cells_of (plain_program program.now) }
-    requires few { length cells.now ≤ 512 }
+    requires few { length cells.now ≤ most_cells }
     ensures { OnOk result (numbers_of packs.new.items
         ≡ fold noted_pack (numbers_of packs.old.items) (map (cells_together (plain_program program.now)) (lists_of lists.now))) }
 {
@@ -303,7 +304,7 @@ fn noted(
     texts: &[Vec<Mention>],
 ) -> Result<Vec<Pack>, AllocError>
     requires cells { cells.now ≡ cells_of (plain_program program.now) }
-    requires few { length cells.now ≤ 512 }
+    requires few { length cells.now ≤ most_cells }
     ensures { IfOk result (λ packs. numbers_of packs.items
         ≡ fold noted_pack (fold noted_pack [] (map (cells_together (plain_program program.now)) (lists_of loops.now)))
         (map (cells_together (plain_program program.now)) (lists_of texts.now))) }
@@ -316,7 +317,7 @@ fn noted(
 
 fn packs_of(alloc: Global, program: &Program, cells: &[Cell]) -> Result<Vec<Pack>, AllocError>
     requires cells { cells.now ≡ cells_of (plain_program program.now) }
-    requires few { length cells.now ≤ 512 }
+    requires few { length cells.now ≤ most_cells }
     ensures { IfOk result (λ packs. numbers_of packs.items ≡ packs_of (plain_program program.now)) }
 {
     let paras = program.paras.get();
@@ -330,7 +331,7 @@ fn packs_of(alloc: Global, program: &Program, cells: &[Cell]) -> Result<Vec<Pack
 /// relations. At most 32, each of 2 to 8 cells, in rising order.
 pub fn packs(alloc: Global, program: &Program, graph: &Graph) -> Result<Vec<Pack>, AllocError>
     requires source { ∥ IsSourceGraph (plain_program program.now) graph.now ∥₁ }
-    requires cells { length graph.now.cells ≤ 512 }
+    requires cells { length graph.now.cells ≤ most_cells }
     ensures value { IfOk result (λ packs. numbers_of packs.items ≡ packs_of (plain_program program.now)) }
     ensures few { IfOk result (λ packs. length packs.items ≤ 32) }
     ensures fit { IfOk result (λ packs. IsTrue (packs_fit (length graph.now.cells) (numbers_of packs.items))) }

@@ -5,7 +5,7 @@ ghost use Rattle.cob_program.specs.ActView.{plain_program};
 ghost use Rattle.cob_program.specs.Values.{literal};
 ghost use Rattle.cert_text.specs.Gaps.{IsSmall};
 ghost use Rattle.interval_domain.specs.Rows.{lists_of};
-ghost use Rattle.cell_steps.specs.Homes.{own_range};
+ghost use Rattle.cell_steps.specs.OwnRanges.{own_range};
 ghost use Rattle.graph_runs.specs.Sources.{IsSourceGraph};
 ghost use Rattle.analyse_core.specs.Literals.{numbers_of};
 ghost use Rattle.analyse_core.specs.Thresholds.{

@@ -2,11 +2,12 @@
 ghost use Rattle.std.specs.Prelude.{◌≡◌, ◌≤◌, ◌+◌, [], length, IfOk, OnOk};
 ghost use Rattle.cob_program.specs.ActView.{plain_program};
 ghost use Rattle.cob_graph.specs.Graphs.{cells_of};
+ghost use Rattle.cob_graph.specs.Limits.{most_cells, most_nodes};
 ghost use Rattle.cob_graph_build.specs.Limits.{IsWithinLimits};
 ghost use Rattle.graph_runs.specs.Sources.{IsSourceGraph};
 ghost use Rattle.interval_domain.specs.Elements.{height_of};
 ghost use Rattle.interval_domain.specs.Rows.{lists_of};
-ghost use Rattle.cell_steps.specs.Homes.{owns};
+ghost use Rattle.cell_steps.specs.OwnRanges.{owns};
 ghost use Rattle.analyse_core.specs.Choice.{packs_of};
 ghost use Rattle.widen_solver.specs.Stored.{row_at};
 ghost use Rattle.analyse_core.specs.Thresholds.{thresholds_of};
@@ -49,8 +50,8 @@ pub fn solve_cells<L: Ledger>(
     layer: &CellLayer,
     steps: &mut Steps<L>,
 ) -> Result<Store, AllocError>
-    requires nodes { length layer.now.graph.now.nodes ≤ 4096 }
-    requires cells { length (owns (plain_program layer.now.program.now)) ≤ 512 }
+    requires nodes { length layer.now.graph.now.nodes ≤ most_nodes }
+    requires cells { length (owns (plain_program layer.now.program.now)) ≤ most_cells }
     requires thresholds { lists_of layer.now.thresholds.now ≡ thresholds_of (plain_program layer.now.program.now) }
     ensures nodes { IfOk result (λ rows. length rows.rows ≡ length layer.now.graph.now.nodes) }
     ensures found { IfOk result (λ rows. AreFoundCells (plain_program layer.now.program.now) layer.now.graph.now (row_at rows.rows)) }
@@ -71,8 +72,8 @@ fn solve_bounds<R: Rows, L: Ledger>(
 ) -> Result<Store, AllocError>
     requires packs { ArePacksGiven (plain_program layer.now.program.now) layer.now.packs.now layer.now.thresholds.now }
     requires some { 1 ≤ length layer.now.packs.now }
-    requires nodes { length layer.now.graph.now.nodes ≤ 4096 }
-    requires cells { length (cells_of (plain_program layer.now.program.now)) ≤ 512 }
+    requires nodes { length layer.now.graph.now.nodes ≤ most_nodes }
+    requires cells { length (cells_of (plain_program layer.now.program.now)) ≤ most_cells }
     ensures nodes { IfOk result (λ bounds. length bounds.rows ≡ length layer.now.graph.now.nodes) }
     ensures found { IfOk result (λ bounds. AreFoundBounds (plain_program layer.now.program.now) layer.now.graph.now
         (R.row_at layer.now.facts.now) (row_at bounds.rows)) }

@@ -10,6 +10,7 @@ use Rattle.cob_tree.specs.declared.fault.Open.{Open}
 use Rattle.cob_program.specs.Act.{Program}
 use Rattle.cob_graph.specs.declared.graph.Graph.{Graph}
 use Rattle.cob_graph.specs.Graphs.{OneGraph, cells_of}
+use Rattle.cob_graph.specs.Limits.{most_cells}
 use Rattle.cert_text.specs.Allowed.{IsAllowed}
 use Rattle.cert_text.specs.Lengths.{most_bounds, most_bytes}
 use Rattle.commands.specs.Choice.{packs_of}
@@ -288,7 +289,7 @@ module _ (short : (c : Certificate) → IsAllowed c → c.cells < 1000 → lengt
       let c = a.claims in
       let shape = found.accepts.shape in
       let limits = within_limits a.program is.within a.graph is.is_graph in
-      let cells : length (cells_of a.program) ≤ 512 = omega (arith, limits.cells, ap length is.is_graph.cells) in
+      let cells : length (cells_of a.program) ≤ most_cells = omega (arith, limits.cells, ap length is.is_graph.cells) in
       let fits = short c found.allowed (omega (arith, shape.cells, cells)) (omega (arith, shape.nodes, limits.nodes)) in
       let places = most_bounds (packs_of a.program) in
       let same : most_bytes c ≡ 2000 + length a.graph.nodes * (10 + 46 * length (cells_of a.program) + 49 * places) =

@@ -3,9 +3,7 @@ ghost use Rattle.std.specs.Prelude.{◌≡◌, ◌≢◌, ◌⊎◌, ◌+◌, �
 ghost use Rattle.diff_bounds.specs.Matrix.{word, IsMatrix};
 ghost use Rattle.diff_bounds.specs.Settled.{IsTightBut};
 
-use diff_bounds::{add_bound, close, closed_words_are_tight, settled};
-
-const NONE: i128 = 100_000_000_000_000_000_000_000_000_000_000_000_000;
+use diff_bounds::{NONE, add_bound, close, closed_words_are_tight, settled};
 
 /// The words of a matrix for eight cells.
 #[derive(Clone, Copy)]

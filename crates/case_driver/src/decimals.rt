@@ -1,9 +1,6 @@
 //! Cases of exact decimals.
-use dec_num::{Fit, Mode, Quot, Scaled, fit, pow10, quot};
+use dec_num::{Fit, Mode, Quot, SIZE_LIMIT, Scaled, fit, pow10, quot};
 use std::alloc::{AllocError, Global};
-
-/// The least number of 38 digits.
-const LIMIT: u128 = 10_000_000_000_000_000_000_000_000_000_000_000_000;
 
 fn mode_of(word: &str) -> Option<Mode> {
     match word {
@@ -37,7 +34,7 @@ fn divide(
     up: i32,
     mode: Mode,
 ) -> Result<Option<String>, AllocError> {
-    if LIMIT <= n.unsigned_abs() || LIMIT <= d.unsigned_abs() || up < -37 || 55 < up {
+    if SIZE_LIMIT <= n.unsigned_abs() || SIZE_LIMIT <= d.unsigned_abs() || up < -37 || 55 < up {
         return Ok(None);
     }
     match quot(n, d, up, mode) {
@@ -74,7 +71,7 @@ fn fit_in(
     scale: u32,
     mode: Mode,
 ) -> Result<Option<String>, AllocError> {
-    if LIMIT <= value.units.unsigned_abs() || 37 < value.scale {
+    if SIZE_LIMIT <= value.units.unsigned_abs() || 37 < value.scale {
         return Ok(None);
     }
     if digits < 1 || 18 < digits || digits < scale {

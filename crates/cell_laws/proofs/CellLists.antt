@@ -8,7 +8,10 @@ use Rattle.interval_domain.specs.Known.{Known, KnownFits, KnownBelow, joined_kno
 use Rattle.interval_domain.specs.Elements.{Element, CellsFit, ElementFits, CellsBelow, ElementBelow, joined}
 use Rattle.interval_domain.proofs.OneKnown.{known_reflexive, known_transitive, known_join_left, known_join_right, known_join_least}
 use Rattle.interval_domain.proofs.AllCells.{element_reflexive, element_transitive, element_join_fits}
-use Rattle.cell_steps.specs.Homes.{Home, of_item, of_count, is_home, home_range}
+use Rattle.cob_graph.specs.declared.homes.Home.{Home}
+use Rattle.cob_graph.specs.declared.homes.Home.TheVariants.{Item as of_item, Count as of_count}
+use Rattle.cob_graph.specs.Homes.{is_home}
+use Rattle.cell_steps.specs.OwnRanges.{home_range}
 use Rattle.cell_steps.specs.Storages.{known_of}
 use Rattle.cell_steps.specs.Cells.{known_or, with_known, forgotten}
 use Rattle.cell_steps.specs.Stores.{stored_element}

@@ -12,7 +12,7 @@ use Rattle.cob_graph.specs.declared.graph.Graph.{Graph}
 use Rattle.interval_domain.specs.Known.{Known}
 use Rattle.interval_domain.specs.Elements.{Element, CellsFit, ElementFits, CellsBelow, ElementBelow}
 use Rattle.graph_runs.specs.Places.{no_edge, edge_at, Leaves}
-use Rattle.cell_steps.specs.Homes.{owns}
+use Rattle.cell_steps.specs.OwnRanges.{owns}
 use Rattle.cell_steps.specs.Edges.{clears_edge}
 use Rattle.cell_laws.proofs.EachEdge.{all_clears_stay}
 use Rattle.cell_laws.specs.Layer.{left, edge_clears, leaves_clear, clears_at}

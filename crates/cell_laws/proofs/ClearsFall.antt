@@ -20,7 +20,8 @@ use Rattle.transfer_ranges.specs.declared.amounts.AmountRange.{AmountRange}
 use Rattle.transfer_ranges.specs.Receivers.{receiver_of, counter}
 use Rattle.transfer_ranges.specs.Amounts.{IsNarrowerTakenIfAny}
 use Rattle.transfer_ranges.specs.ResultRanges.{may_fail, lowered, count_may_fail}
-use Rattle.cell_steps.specs.Homes.{of_count, homes_of}
+use Rattle.cob_graph.specs.declared.homes.Home.TheVariants.{Count as of_count}
+use Rattle.cob_graph.specs.Homes.{homes_of}
 use Rattle.cell_steps.specs.Cells.{units_of}
 use Rattle.cell_steps.specs.Operands.{amount_of}
 use Rattle.cell_steps.specs.Seen.{Seen}

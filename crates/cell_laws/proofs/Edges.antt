@@ -1,16 +1,16 @@
 -- What an analysis of cells needs of an edge holds of each source's.
 use Rattle.std.proofs.Common.{◌≡◌, ℕ, List, [], ◌∷◌, ◌++◌, refl, sym, subst}
-use Rattle.std.specs.List.{AllByRecursion, AllZip, Contains}
+use Rattle.std.specs.List.{AllByRecursion, Contains}
 use Rattle.std.proofs.lemmas.List.Elements.{All-contains, All-from_recursion}
 use Rattle.cob_program.specs.Act.{times, perform, Program}
-use Rattle.cob_runs.specs.declared.action.Cell.{Cell}
-use Rattle.cob_graph.specs.Graphs.{cells_of}
 use Rattle.cob_graph.specs.WellFormed.{IsWellFormed}
 use Rattle.cob_edge_parts.specs.Parts.{Part, store, bytes_in, parts_of}
 use Rattle.graph_runs.specs.Sources.{StatementsAreCounted}
-use Rattle.cell_steps.specs.Homes.{Home, of_item, of_count, homes_of}
-use Rattle.cell_laws.specs.Cells.{IsCellOf}
-use Rattle.cell_laws.proofs.Homes.{cells_are_of_homes}
+use Rattle.cob_graph.specs.declared.homes.Home.{Home}
+use Rattle.cob_graph.specs.declared.homes.Home.TheVariants.{Item as of_item, Count as of_count}
+use Rattle.cob_graph.specs.Homes.{homes_of}
+use Rattle.cell_laws.specs.Cells.{IsHomeOf}
+use Rattle.cell_laws.proofs.Homes.{homes_are}
 use Rattle.cell_laws.proofs.Sound.{items_are_sound}
 use Rattle.cell_steps.specs.Agreeing.{IsTimesAt}
 use Rattle.cell_laws.specs.Edges.{EdgesAreSoundOfSources}
@@ -25,22 +25,18 @@ module _ (p : Program) (counted : StatementsAreCounted p) where
   IsSoundHome (of_item place) = Unit {0}
   IsSoundHome (of_count n) = IsTimesAt p n
 
-  sound_home : (h : Home) (c : Cell) → IsCellOf p h c → IsSoundHome h
-  sound_home (of_item place) c is = tt
-  sound_home (of_count n) c is =
-      let at = is.1 in
-      record { first = (counted n (perform at.body (times at.count)) at.act).0; act = perform at.body (times at.count); at = at.act; times = refl }
+  sound_home : (h : Home) → IsHomeOf p h → IsSoundHome h
+  sound_home (of_item place) is = tt
+  sound_home (of_count n) is =
+      record { first = (counted n (perform is.body (times is.count)) is.act).0; act = perform is.body (times is.count); at = is.act; times = refl }
 
-  sound_homes : (hs : List Home) (cs : List Cell) → AllZip (IsCellOf p) hs cs → AllByRecursion IsSoundHome hs
-  sound_homes [] [] all = tt
-  sound_homes [] (c ∷ cs) all = absurd all
-  sound_homes (h ∷ hs) [] all = absurd all
-  sound_homes (h ∷ hs) (c ∷ cs) all = (sound_home h c all.0, sound_homes hs cs all.1)
+  sound_homes : (hs : List Home) → AllByRecursion (IsHomeOf p) hs → AllByRecursion IsSoundHome hs
+  sound_homes [] all = tt
+  sound_homes (h ∷ hs) all = (sound_home h all.0, sound_homes hs all.1)
 
   times_of : IsWellFormed p → (n : ℕ) → Contains (homes_of p) (of_count n) → IsTimesAt p n
   times_of whole n has =
-      let all = sound_homes (homes_of p) (cells_of p) (cells_are_of_homes p whole) in
-      All-contains IsSoundHome (homes_of p) (of_count n) (All-from_recursion IsSoundHome (homes_of p) all) has
+      All-contains IsSoundHome (homes_of p) (of_count n) (All-from_recursion IsSoundHome (homes_of p) (sound_homes (homes_of p) (homes_are p whole))) has
 
 -- ---- one part of several
 

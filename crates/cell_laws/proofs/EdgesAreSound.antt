@@ -1,5 +1,5 @@
 -- Along an edge what is known stays true, and what is cleared isn't met.
-use Rattle.std.proofs.Common.{◌≡◌, ℕ, Bool, true, false, ◌&&◌, ◌||◌, not, if◌then◌else◌, inl, inr, List, [], ◌∷◌, ◌++◌, Option, Some, None, ℤ, refl, ap, ◌∙◌}
+use Rattle.std.proofs.Common.{◌≡◌, ℕ, Bool, true, false, ◌&&◌, ◌||◌, not, if◌then◌else◌, List, [], ◌∷◌, ◌++◌, Option, Some, None, ℤ, refl, ap, ◌∙◌}
 use Rattle.std.specs.List.{list_any}
 use Rattle.std.specs.Option.{option_map_or}
 use Rattle.cob_tree.specs.declared.fault.Kind.{Kind}
@@ -15,7 +15,7 @@ use Rattle.cob_edge_parts.specs.Meaning as run
 use Rattle.cob_edge_parts.specs.Meaning.{Moment}
 use Rattle.cob_edge_parts.specs.Edges.{fault_edge}
 use Rattle.dom_laws.specs.Walking as walked
-use Rattle.dom_laws.specs.Walking.{BelowIf, IsSeen, IfSeen, walk, PassesAll, Meets, ClearsAll, IsWalking, IsSound}
+use Rattle.dom_laws.specs.Walking.{BelowIf, IsSeen, IfSeen, walk, ClearsAll, IsWalking, IsSound}
 use Rattle.dom_laws.proofs.Edges.{edges_are_sound}
 use Rattle.cob_edge_parts.specs.Counters.{PassesParts, MeetsAmong}
 use Rattle.interval_domain.specs.Known.{Known}
@@ -32,6 +32,7 @@ use Rattle.cell_laws.proofs.ClearsFall.{clears_below}
 use Rattle.cell_laws.proofs.WalkLaws.{Given}
 use Rattle.cell_laws.proofs.PartsDone.{both_true, read_first}
 use Rattle.cell_laws.proofs.PartsKeep.{keeps}
+use Rattle.cell_laws.proofs.OneReceiver.{passes_walk, meets_walk}
 use Rattle.cell_laws.proofs.PartsClear.{cleared}
 use Rattle.cell_laws.proofs.OperandsRise.{or_right}
 
@@ -47,7 +48,7 @@ module _ (given : Given) (p : Program) (statement : ℕ) (a : Act) (x : Action) 
   walks ps e = record {
     rises = λ y s t h. as_walked (step p a x y s) (step p a x y t) (rises given.rising p a x y s t h);
     clears_below = λ y s t fault h c. clears_below given.rising p a x y s t fault h c;
-    keeps = λ done rest y s m n at g h. keeps given p statement a x done rest y s m n (at ∙ e) g h;
+    keeps = λ done rest y s m n at g h. keeps given p statement a x done rest y s m n (at ∙ e) g h.0 h.1;
     cleared = λ done rest y s m fault at g c. cleared given p statement a x done rest y s m fault (at ∙ e) g c;
   }
 
@@ -64,15 +65,6 @@ module _ (given : Given) (p : Program) (statement : ℕ) (a : Act) (x : Action) 
   seen_steps : (ys : List Part) (s : Seen) (P : Seen → Type 0) → IsSeen (walking p statement a x) (walk (walking p statement a x) ys s) P → IsSeen (walking p statement a x) (steps p a x ys s) P
   seen_steps [] s P h = h
   seen_steps (y ∷ ys) s P h = bind_is (step p a x y s) ys P (λ t k. seen_steps ys t P k) h
-
-  passes_all : (ys : List Part) (m n : Moment) → PassesParts p.layout (handled p a x) ys m n → PassesAll (walking p statement a x) ys m n
-  passes_all [] m n e = e
-  passes_all (y ∷ ys) m n (next, h, hs) = (next, h, passes_all ys next n hs)
-
-  meets : (ys : List Part) (m : Moment) (fault : Kind) → fault_edge a x ≡ x → MeetsAmong p.layout (handled p a x) ys m fault → Meets (walking p statement a x) ys m fault
-  meets [] m fault its h = h
-  meets (y ∷ ys) m fault its (inl f) = inl (its, f)
-  meets (y ∷ ys) m fault its (inr (next, h, hs)) = inr (next, h, meets ys next fault its hs)
 
   clears_if : (o : Option Seen) (ys : List Part) (fault : Kind) → ((s : Seen) → clears_parts p a x ys s fault ≡ true → ClearsAll (walking p statement a x) ys s fault)
       → option_map_or (λ t. clears_parts p a x ys t fault) o true ≡ true → IfSeen (walking p statement a x) o (λ s. ClearsAll (walking p statement a x) ys s fault)
@@ -171,7 +163,7 @@ module _ (given : Given) (p : Program) (statement : ℕ) where
     posts_stand last h failed =
         go (steps p a x (parts_of p statement a x) (beginning cells))
         (seen_steps given p statement a x (parts_of p statement a x) (beginning cells) (λ t. Agrees p statement a x (parts_of p statement a x) t last)
-        ((edge_is_sound given p statement a x).kept (beginning cells) (run.beginning bytes counts) last (begins given p statement a x cells bytes counts sound stands) (passes_all given p statement a x (parts_of p statement a x) (run.beginning bytes counts) last h)))
+        ((edge_is_sound given p statement a x).kept (beginning cells) (run.beginning bytes counts) last (begins given p statement a x cells bytes counts sound stands) (passes_walk p statement a x (run.beginning bytes counts) last refl failed h)))
       where
         fails : (t : Seen) → Agrees p statement a x (parts_of p statement a x) t last → handled p a x ≡ true → t.any_fail ≡ true
         fails t g on = by_zero last.by_zero refl
@@ -193,4 +185,4 @@ module _ (given : Given) (p : Program) (statement : ℕ) where
     cleared_isnt_met fault e its h =
         (edge_is_sound given p statement a x).cleared (beginning cells) (run.beginning bytes counts) fault (begins given p statement a x cells bytes counts sound stands)
         (clears_all given p statement a x (parts_of p statement a x) (beginning cells) fault e)
-        (meets given p statement a x (parts_of p statement a x) (run.beginning bytes counts) fault its h)
+        (meets_walk p statement a x (run.beginning bytes counts) fault its h)

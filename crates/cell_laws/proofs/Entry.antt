@@ -28,7 +28,10 @@ use Rattle.cob_edge_parts.specs.Counters.{IsCounted}
 use Rattle.graph_runs.proofs.Counting.{begins_counted}
 use Rattle.data_laws.specs.Values.{BeginsWith}
 use Rattle.data_laws.proofs.Stored.{first_storage_is_whole, values_stand_at_first}
-use Rattle.cell_steps.specs.Homes.{Home, of_item, of_count, is_home, homes_of, form_range, home_range, owns}
+use Rattle.cob_graph.specs.declared.homes.Home.{Home}
+use Rattle.cob_graph.specs.declared.homes.Home.TheVariants.{Item as of_item, Count as of_count}
+use Rattle.cob_graph.specs.Homes.{is_home, homes_of}
+use Rattle.cell_steps.specs.OwnRanges.{form_range, home_range, owns}
 use Rattle.cell_steps.specs.Storages.{known_of, value_at, KnownStands, StandsIn}
 use Rattle.cell_laws.proofs.Sound.{items_are_sound}
 use Rattle.cell_laws.specs.Entry.{value_bytes, point, entry_known, entry_cells}

@@ -7,8 +7,9 @@ use Rattle.cob_tree.specs.declared.form.Usage.TheVariants as usage
 use Rattle.cob_data.specs.declared.layout.Item.{Item}
 use Rattle.cob_data.specs.declared.layout.Sender.TheVariants as sender
 use Rattle.cob_program.specs.Act.{times, MkStmt, no_stmts, more_stmts, perform, nothing, inline, Program}
-use Rattle.cob_graph.specs.Graphs.{cell, counter, cells_of}
-use Rattle.cell_steps.specs.Homes.{of_item, of_count, homes_of}
+use Rattle.cob_graph.specs.Graphs.{cells_of}
+use Rattle.cob_graph.specs.Homes.{cell, counter, homes_of}
+use Rattle.cob_graph.specs.declared.homes.Home.TheVariants.{Item as of_item, Count as of_count}
 
 abbrev item_of : Option (List ℕ) → ℕ → ℕ → Form → Item
 item_of name offset length f = record { name = name; offset = offset; length = length; form = f; parent = Some 0; line = 5; value = None }

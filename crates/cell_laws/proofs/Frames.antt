@@ -10,7 +10,8 @@ use Rattle.cob_runs.specs.Contents.{area, item_at, form_at, bytes_at, filled_at}
 use Rattle.cob_edge_parts.specs.Meaning.{changed_in}
 use Rattle.cob_edge_parts.specs.Ranges.{AreApart, ChangesWithin, GetsItsBytes}
 use Rattle.cob_edge_parts.proofs.Frames.{ranges_change_alone, items_change_alone}
-use Rattle.cell_steps.specs.Homes.{Home, of_item, of_count}
+use Rattle.cob_graph.specs.declared.homes.Home.{Home}
+use Rattle.cob_graph.specs.declared.homes.Home.TheVariants.{Item as of_item, Count as of_count}
 use Rattle.cell_steps.specs.Storages.{storage, value_at}
 use Rattle.cell_steps.specs.Cells.{share_bytes, is_in_bytes, is_beside}
 

@@ -16,7 +16,10 @@ use Rattle.dom_laws.specs.Meaning.{Storage}
 use Rattle.cob_edge_parts.specs.Counters.{IsCount, HoldsCount}
 use Rattle.transfer_ranges.specs.Meaning.{ItemsHold}
 use Rattle.interval_domain.specs.Known.{Known}
-use Rattle.cell_steps.specs.Homes.{Home, of_item, of_count, is_home, homes_of, home_range, picture_range}
+use Rattle.cob_graph.specs.declared.homes.Home.{Home}
+use Rattle.cob_graph.specs.declared.homes.Home.TheVariants.{Item as of_item, Count as of_count}
+use Rattle.cob_graph.specs.Homes.{is_home, homes_of}
+use Rattle.cell_steps.specs.OwnRanges.{home_range, picture_range}
 use Rattle.cell_steps.specs.Storages.{known_of, value_at, KnownStands, StandsIn}
 use Rattle.cell_steps.specs.Premises.{HasSoundItems}
 use Rattle.cell_steps.specs.Cells.{known_or, units_of, is_numeric, with_known}

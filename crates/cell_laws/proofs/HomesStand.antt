@@ -4,7 +4,9 @@ use Rattle.std.proofs.lemmas.Int.{ints}
 use Rattle.std.proofs.lemmas.Bool.{eq-eqb}
 use Rattle.interval_domain.specs.Known.{Known, KnownBelow}
 use Rattle.interval_domain.specs.Elements.{CellsBelow}
-use Rattle.cell_steps.specs.Homes.{Home, of_item, of_count, is_home}
+use Rattle.cob_graph.specs.declared.homes.Home.{Home}
+use Rattle.cob_graph.specs.declared.homes.Home.TheVariants.{Item as of_item, Count as of_count}
+use Rattle.cob_graph.specs.Homes.{is_home}
 use Rattle.cell_steps.specs.Storages.{known_of, KnownStands}
 use Rattle.cell_steps.specs.Cells.{with_known, forgotten}
 use Rattle.cell_laws.proofs.CellLists.{home_is, known_below}

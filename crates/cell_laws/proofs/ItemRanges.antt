@@ -10,7 +10,9 @@ use Rattle.interval_domain.specs.declared.bounds.Interval.{Interval}
 use Rattle.sum_ranges.specs.Ranged.{IsNarrower, IsOrdered}
 use Rattle.interval_domain.specs.Known.{Known, KnownFits, KnownBelow}
 use Rattle.interval_domain.specs.Elements.{CellsFit, CellsBelow}
-use Rattle.cell_steps.specs.Homes.{Home, of_item, of_count, picture_range, form_range, home_range}
+use Rattle.cob_graph.specs.declared.homes.Home.{Home}
+use Rattle.cob_graph.specs.declared.homes.Home.TheVariants.{Item as of_item, Count as of_count}
+use Rattle.cell_steps.specs.OwnRanges.{picture_range, form_range, home_range}
 use Rattle.cell_steps.specs.Storages.{known_of}
 use Rattle.cell_steps.specs.Cells.{is_known, known_or, units_of, range_at, is_numeric}
 use Rattle.transfer_ranges.specs.Meaning.{Knows}

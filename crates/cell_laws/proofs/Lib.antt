@@ -45,6 +45,7 @@ pub mod StoresKeep
 pub mod StoreOutcomes
 pub mod PartsKeep
 pub mod PartsClear
+pub mod OneReceiver
 pub mod EdgesRise
 pub mod EdgesAreSound
 pub mod WalkLawsHold

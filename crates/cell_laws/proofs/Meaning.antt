@@ -14,7 +14,8 @@ use Rattle.interval_domain.specs.Rows.{element_of}
 use Rattle.interval_domain.proofs.Rows.{element_back}
 use Rattle.graph_runs.specs.Places.{edge_at, IsOf, DoesAt}
 use Rattle.graph_runs.specs.Doing.{Begins, Acts, MeetsAt}
-use Rattle.cell_steps.specs.Homes.{homes_of, owns}
+use Rattle.cob_graph.specs.Homes.{homes_of}
+use Rattle.cell_steps.specs.OwnRanges.{owns}
 use Rattle.cell_steps.specs.Storages.{storage, value_at, StandsIn, ElementStands}
 use Rattle.cell_steps.specs.Edges.{post_cells, clears_edge}
 use Rattle.cell_laws.specs.Entry.{entry_cells}

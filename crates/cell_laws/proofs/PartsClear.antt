@@ -36,7 +36,9 @@ use Rattle.transfer_ranges.specs.Amounts.{IsAmount}
 use Rattle.transfer_ranges.specs.ResultRanges.{may_fail, lowered, count_may_fail}
 use Rattle.cob_edge_parts.specs.Counters.{IsCount, IsTooGreat, PassesParts}
 use Rattle.cell_laws.specs.Places.{IsDivided, Counts, IsStored, is_worked}
-use Rattle.cell_steps.specs.Homes.{of_count, homes_of, picture_range}
+use Rattle.cob_graph.specs.declared.homes.Home.TheVariants.{Count as of_count}
+use Rattle.cob_graph.specs.Homes.{homes_of}
+use Rattle.cell_steps.specs.OwnRanges.{picture_range}
 use Rattle.cell_steps.specs.Storages.{storage}
 use Rattle.cell_steps.specs.Cells.{known_or, units_of, is_numeric}
 use Rattle.cell_steps.specs.Operands.{amount_of}

@@ -42,14 +42,17 @@ use Rattle.cob_edge_parts.specs.Counters.{IsCount, PassesPart, PassesParts}
 use Rattle.cell_laws.specs.Places.{IsDivided, Counts, IsStored}
 use Rattle.interval_domain.specs.Known.{Known, KnownFits}
 use Rattle.interval_domain.specs.Elements.{joined}
-use Rattle.cell_steps.specs.Homes.{Home, of_item, of_count, homes_of, picture_range, form_range}
+use Rattle.cob_graph.specs.declared.homes.Home.{Home}
+use Rattle.cob_graph.specs.declared.homes.Home.TheVariants.{Item as of_item, Count as of_count}
+use Rattle.cob_graph.specs.Homes.{homes_of}
+use Rattle.cell_steps.specs.OwnRanges.{picture_range, form_range}
 use Rattle.cell_steps.specs.Storages.{storage, known_of, value_at, KnownStands, StandsIn}
 use Rattle.cell_steps.specs.Cells.{known_or, units_of, forgotten, is_in_bytes, is_beside}
 use Rattle.cell_steps.specs.Operands.{edge_amount, amount_of}
 use Rattle.cell_steps.specs.Seen.{Seen, with_cells, with_zero}
-use Rattle.cell_steps.specs.Stores.{stored_cells, stored_element, behind_store, range_at, handled, with_taken, amount_at, result_at, may_fail, stored}
+use Rattle.cell_steps.specs.Stores.{stored_cells, stored_element, behind_store, range_at, handled, keeps_receiver, with_taken, amount_at, result_at, may_fail, stored}
 use Rattle.cell_steps.specs.Steps.{is_zero_alone, can_divide, known_as, with_cells_if, after_bytes, after_count, after_down, after_divide, step}
-use Rattle.cell_steps.specs.Agreeing.{IsTimesAt, IsSoundEdge, writes, is_store, Agrees, walking}
+use Rattle.cell_steps.specs.Agreeing.{IsTimesAt, IsSoundEdge, writes, is_store, FailsAt, Agrees, walking}
 use Rattle.cell_laws.proofs.CellLists.{with_known_length, forgotten_length, joined_left, joined_right}
 use Rattle.cell_laws.proofs.OperandsRise.{or_left, or_right}
 use Rattle.cell_laws.proofs.ResultsFit.{result_fits}
@@ -409,15 +412,19 @@ module _ (given : Given) (p : Program) (statement : ℕ) (a : Act) (x : Action) 
     amounts_fit None = tt
     amounts_fit (Some r) = result_fits given.rising mode (form_at p.layout place) r
 
-    store_keeps : IsStored a x done place y → (n : Moment) → (handled p a x ≡ false → m.by_zero ≡ false) → PassesPart p.layout (handled p a x) (store place mode y) m n
+    results_fit : (b : Bool) (o : Option AmountRange) → IfSome (if b then None else (o >>= result_range mode (receiver_of (form_at p.layout place)))) (λ i. KnownFits (form_range (form_at p.layout place)) (Some i))
+    results_fit true o = tt
+    results_fit false o = amounts_fit o
+
+    store_keeps : IsStored a x done place y → (n : Moment) → (handled p a x ≡ false → m.by_zero ≡ false) → (keeps_receiver a x ≡ true → FailsAt p.layout (store place mode y) m) → PassesPart p.layout (handled p a x) (store place mode y) m n
         → SeenNow (done ++ store place mode y ∷ []) (stored p a x t place mode y) n
-    store_keeps q n off_zero h =
+    store_keeps q n off_zero fails_there h =
         each_outcome given p statement a x done place mode y t m g q
         (λ (j : Moment). PassesPart p.layout (handled p a x) (store place mode y) m j → SeenNow (done ++ store place mode y ∷ []) (stored p a x t place mode y) j)
         (λ fails passes. kept_keeps (may_fail p a x t place mode y) (result_at p a x t place mode y) m fails passes refl refl g.stands)
         (λ fails passes. kept_keeps (may_fail p a x t place mode y) (result_at p a x t place mode y) (with_failure m) fails passes refl refl g.stands)
-        (λ held unzero e passes. fit_keeps (may_fail p a x t place mode y) (result_at p a x t place mode y) held unzero (amounts_fit (amount_at p a x t place y)) (result_meant given p statement a x done place mode y t m g q held unzero e) passes)
-        n off_zero h.0 h
+        (λ off held unzero e passes. fit_keeps (may_fail p a x t place mode y) (result_at p a x t place mode y) held unzero (results_fit (keeps_receiver a x) (amount_at p a x t place y)) (result_meant given p statement a x done place mode y t m g q off held unzero e) passes)
+        n off_zero fails_there h.0 h
 
   -- ---- off edges of size errors no divisor was 0
 
@@ -445,24 +452,24 @@ module _ (given : Given) (p : Program) (statement : ℕ) (a : Act) (x : Action) 
   its_times : IsSoundEdge p statement a x → (k : ℕ) → k ≡ statement → is_times a ≡ true → IsTimesAt p k
   its_times sound k e is = subst (λ (j : ℕ). IsTimesAt p j) (sym e) (record { first = sound.first; act = a; at = sound.act; times = is })
 
-  pub keeps : (done rest : List Part) (y : Part) (s : Seen) (m n : Moment) → done ++ y ∷ rest ≡ parts_of p statement a x → Now done s m → PassesPart p.layout (handled p a x) y m n → SeenNow (done ++ y ∷ []) (step p a x y s) n
-  keeps done rest (read place) s m n e g h = read_keeps p statement a x done place s m n g h
-  keeps done rest unread s m n e g h = absurd h.0
-  keeps done rest (divide d) s m n e g h = divide_keeps done d s m (given.places_ p statement a x done rest (divide d) e) g n h
-  keeps done rest (store place mode y) s m n e g h =
+  pub keeps : (done rest : List Part) (y : Part) (s : Seen) (m n : Moment) → done ++ y ∷ rest ≡ parts_of p statement a x → Now done s m → PassesPart p.layout (handled p a x) y m n → (keeps_receiver a x ≡ true → FailsAt p.layout y m) → SeenNow (done ++ y ∷ []) (step p a x y s) n
+  keeps done rest (read place) s m n e g h fails = read_keeps p statement a x done place s m n g h
+  keeps done rest unread s m n e g h fails = absurd h.0
+  keeps done rest (divide d) s m n e g h fails = divide_keeps done d s m (given.places_ p statement a x done rest (divide d) e) g n h
+  keeps done rest (store place mode y) s m n e g h fails =
       store_keeps done place mode y (with_taken p a x s) m (taken_at p statement a x given done (store place mode y) s m refl (given.places_ p statement a x done rest (store place mode y) e) g)
-      (g.sound.receivers done rest place mode y e) (given.places_ p statement a x done rest (store place mode y) e) n (off_zero done s m g) h
-  keeps done rest (bytes_in offset count) s m n e g h =
+      (g.sound.receivers done rest place mode y e) (given.places_ p statement a x done rest (store place mode y) e) n (off_zero done s m g) fails h
+  keeps done rest (bytes_in offset count) s m n e g h fails =
       bytes_keeps done offset count (with_taken p a x s) m n (taken_at p statement a x given done (bytes_in offset count) s m refl (given.places_ p statement a x done rest (bytes_in offset count) e) g)
       (g.sound.areas done rest offset count e) h
-  keeps done rest (guard v wanted) s m n e g h = guard_keeps p statement a x given done v wanted s m n g h
-  keeps done rest (read_count k) s m n e g h = read_count_keeps p statement a x done k s m n g h
-  keeps done rest (set_count k y) s m n e g h =
+  keeps done rest (guard v wanted) s m n e g h fails = guard_keeps p statement a x given done v wanted s m n g h
+  keeps done rest (read_count k) s m n e g h fails = read_count_keeps p statement a x done k s m n g h
+  keeps done rest (set_count k y) s m n e g h fails =
       let q = given.places_ p statement a x done rest (set_count k y) e in
       set_count_keeps done k y (with_taken p a x s) m n q.0 q.1 (taken_at p statement a x given done (set_count k y) s m refl q g) h
-  keeps done rest (count_down k) s m n e g h =
+  keeps done rest (count_down k) s m n e g h fails =
       let q = given.places_ p statement a x done rest (count_down k) e in
       count_down_keeps done k s m n q.0 q.1 g h
-  keeps done rest (guard_count k wanted) s m n e g h =
+  keeps done rest (guard_count k wanted) s m n e g h fails =
       let q = given.places_ p statement a x done rest (guard_count k wanted) e in
       guard_count_keeps p statement a x given done k wanted s m n (its_times g.sound k q.0 q.1) g h

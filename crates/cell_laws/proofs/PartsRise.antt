@@ -34,11 +34,14 @@ use Rattle.transfer_ranges.specs.Counts.{count_kept}
 use Rattle.transfer_ranges.specs.Meaning.{CutFits, CutsFit, SideBelow, CutsBelow}
 use Rattle.interval_domain.specs.Known.{Known, KnownFits, KnownBelow}
 use Rattle.interval_domain.specs.Elements.{Element, CellsFit, ElementFits, CellsBelow, ElementBelow}
-use Rattle.cell_steps.specs.Homes.{Home, of_item, of_count, homes_of, home_range, form_range, picture_range, owns}
+use Rattle.cob_graph.specs.declared.homes.Home.{Home}
+use Rattle.cob_graph.specs.declared.homes.Home.TheVariants.{Item as of_item, Count as of_count}
+use Rattle.cob_graph.specs.Homes.{homes_of}
+use Rattle.cell_steps.specs.OwnRanges.{home_range, form_range, picture_range, owns}
 use Rattle.cell_steps.specs.Cells.{units_of, is_numeric, with_known, forgotten, is_in_bytes, is_beside}
 use Rattle.cell_steps.specs.Operands.{operands_vanish, amount_of, may_divide_by_zero, is_remainder}
 use Rattle.cell_steps.specs.Seen.{Seen, with_cells, with_zero}
-use Rattle.cell_steps.specs.Stores.{handled, range_at, taking, with_taken, amount_at, result_at, may_exceed, may_vanish, may_fail, may_fit, stored_known, stored_cells, stored_element, behind_store, stored}
+use Rattle.cell_steps.specs.Stores.{handled, keeps_receiver, range_at, taking, with_taken, amount_at, result_at, may_exceed, may_vanish, may_fail, may_fit, stored_known, stored_cells, stored_element, behind_store, stored}
 use Rattle.cell_steps.specs.Steps.{is_zero_alone, can_divide, known_as, read_cells, cut_cells, all_cut, guarded_cells, counted_cells, with_cells_if, after_read, after_divide, after_count, after_down, step}
 use Rattle.cell_steps.specs.Order.{SeenBelow}
 use Rattle.cell_laws.proofs.ResultLaws.{Given}
@@ -307,7 +310,13 @@ module _ (given : Given) (p : Program) (a : Act) (x : Action) where
         go (Some u) (Some v) (inr m) = absurd (grind (arith, m.0))
 
     results_below : IsInsideIfAny (result_at p a x s place mode y) (result_at p a x t place mode y)
-    results_below = result_below s.common t.common h.below.common
+    results_below =
+        by_keeping (keeps_receiver a x) (amount_at p a x s place y >>= result.result_range mode (receiver_of its_form)) (amount_at p a x t place y >>= result.result_range mode (receiver_of its_form))
+        (result_below s.common t.common h.below.common)
+      where
+        by_keeping : (b : Bool) (o q : Option Interval) → IsInsideIfAny o q → IsInsideIfAny (if b then None else o) (if b then None else q)
+        by_keeping true o q k = tt
+        by_keeping false o q k = k
 
     stored_fit_below : (i j : Interval) → KnownFits (form_range its_form) (Some i) → IsInside i j → FitBelow p (stored_cells p place s.cells i) (stored_cells p place t.cells j)
     stored_fit_below i j k n =
@@ -323,6 +332,10 @@ module _ (given : Given) (p : Program) (a : Act) (x : Action) where
     amounts_fit : (o : Option AmountRange) → IfSome (o >>= result.result_range mode (receiver_of its_form)) (λ i. KnownFits (form_range its_form) (Some i))
     amounts_fit None = tt
     amounts_fit (Some u) = result_fits given mode its_form u
+
+    results_fit : (b : Bool) (o : Option AmountRange) → IfSome (if b then None else (o >>= result.result_range mode (receiver_of its_form))) (λ i. KnownFits (form_range its_form) (Some i))
+    results_fit true o = tt
+    results_fit false o = amounts_fit o
 
     fit_element : (o q : Option (List Known)) → FitBelowIf p o q → ElementFits (owns p) o
     fit_element None q f = tt
@@ -441,7 +454,7 @@ module _ (given : Given) (p : Program) (a : Act) (x : Action) where
     store_rises =
         let o = option_map (stored_cells p place s.cells) (result_at p a x s place mode y) in
         let q = option_map (stored_cells p place t.cells) (result_at p a x t place mode y) in
-        let fits = stored_if (result_at p a x s place mode y) (result_at p a x t place mode y) (amounts_fit (amount_at p a x s place y)) results_below in
+        let fits = stored_if (result_at p a x s place mode y) (result_at p a x t place mode y) (results_fit (keeps_receiver a x) (amount_at p a x s place y)) results_below in
         behind_below (may_fail p a x s place mode y) (may_fail p a x t place mode y)
         (stored_element (may_fail p a x s place mode y) s.cells o) (stored_element (may_fail p a x t place mode y) t.cells q) fails_rise
         (stored_fits (owns p) (may_fail p a x s place mode y) s.cells o h.below.fits (fit_element o q fits))

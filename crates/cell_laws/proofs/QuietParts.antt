@@ -26,7 +26,9 @@ use Rattle.transfer_ranges.specs.Guards.{guarded}
 use Rattle.transfer_ranges.specs.Counts.{count_kept}
 use Rattle.transfer_ranges.specs.Meaning.{CutHolds, CutsHold}
 use Rattle.interval_domain.specs.Known.{Known}
-use Rattle.cell_steps.specs.Homes.{Home, of_item, of_count, homes_of}
+use Rattle.cob_graph.specs.declared.homes.Home.{Home}
+use Rattle.cob_graph.specs.declared.homes.Home.TheVariants.{Item as of_item, Count as of_count}
+use Rattle.cob_graph.specs.Homes.{homes_of}
 use Rattle.cell_steps.specs.Storages.{storage, known_of, value_at, KnownStands, StandsIn}
 use Rattle.cell_steps.specs.Cells.{units_of, is_numeric}
 use Rattle.cell_steps.specs.Seen.{Seen, with_cells}

@@ -13,7 +13,7 @@ use Rattle.transfer_ranges.specs.Receivers.{HasRoomFor, receiver_of, counter, ke
 use Rattle.transfer_ranges.specs.Results.{IsLeastIfAny, IsKept}
 use Rattle.transfer_ranges.specs.ResultRanges.{amount_units, fitted, result_range, count_range}
 use Rattle.interval_domain.specs.Known.{KnownFits}
-use Rattle.cell_steps.specs.Homes.{picture_range, form_range}
+use Rattle.cell_steps.specs.OwnRanges.{picture_range, form_range}
 use Rattle.cell_laws.proofs.ResultLaws.{Given}
 
 -- ---- numbers of a picture

@@ -12,7 +12,7 @@ use Rattle.num_bytes.specs.Reading.{is_own, contents_value}
 use Rattle.cob_store.specs.WellFormed.{IsWellFormedForm, HasWellFormedItems}
 use Rattle.cob_runs.specs.Contents.{item_at, form_at, bytes_of}
 use Rattle.interval_domain.specs.Bounds.{Holds}
-use Rattle.cell_steps.specs.Homes.{picture_range, form_range}
+use Rattle.cell_steps.specs.OwnRanges.{picture_range, form_range}
 use Rattle.data_laws.specs.Items.{IsOwn}
 use Rattle.data_laws.proofs.Lengths.{length-bytes_of}
 use Rattle.data_laws.proofs.Own.{stored_back}

@@ -1,5 +1,5 @@
 -- Stores: a receiver gets bytes of a number of the result, or keeps its value where it may.
-use Rattle.std.proofs.Common.{◌≡◌, Bool, true, false, ◌&&◌, ◌||◌, if◌then◌else◌, List, ℕ, Option, Some, None, is_some, ℤ, refl, sym, ap, subst, ◌∙◌}
+use Rattle.std.proofs.Common.{◌≡◌, Bool, true, false, ◌&&◌, ◌||◌, if◌then◌else◌, inl, inr, List, ℕ, Option, Some, None, is_some, ℤ, refl, sym, ap, subst, ◌∙◌}
 use Rattle.std.specs.Prelude.{IsSomeAnd}
 use Rattle.std.specs.Option.{option_map, option_map_or}
 use Rattle.dec_num.specs.declared.types.Mode.{Mode}
@@ -10,7 +10,7 @@ use Rattle.cob_program.specs.Values.{Root, root_of, ◌>>=◌}
 use Rattle.cob_program.specs.Act.{Act, Program}
 use Rattle.cob_runs.specs.declared.action.Action.{Action}
 use Rattle.cob_runs.specs.Contents.{form_at, bytes_of, filled_at, stored as stored_units}
-use Rattle.cob_edge_parts.specs.Parts.{Amount, moved, computed, remaining, augmented, Part}
+use Rattle.cob_edge_parts.specs.Parts.{Amount, moved, computed, remaining, augmented, Part, store}
 use Rattle.cob_edge_parts.specs.Meaning.{Moment, with_storage, with_failure, is_left_alone, stored_bytes, stored_or_kept, amount, Stores}
 use Rattle.sum_ranges.specs.declared.ranged.Ranged.{Ranged}
 use Rattle.sum_ranges.specs.SumRanges.{sum_range}
@@ -25,8 +25,8 @@ use Rattle.transfer_ranges.specs.ResultRanges.{result_range}
 use Rattle.cell_laws.specs.Places.{IsStored}
 use Rattle.cell_steps.specs.Operands.{amount_of, is_remainder}
 use Rattle.cell_steps.specs.Seen.{Seen}
-use Rattle.cell_steps.specs.Stores.{may_vanish, range_at, handled, amount_at, result_at, may_exceed, may_fail}
-use Rattle.cell_steps.specs.Agreeing.{of_operands}
+use Rattle.cell_steps.specs.Stores.{has_one_receiver, may_vanish, range_at, handled, keeps_receiver, amount_at, result_at, may_exceed, may_fail}
+use Rattle.cell_steps.specs.Agreeing.{of_operands, FailsAt}
 use Rattle.cell_laws.proofs.OperandsRise.{or_left, or_right}
 use Rattle.cell_laws.proofs.WalkLaws.{Given}
 use Rattle.cell_laws.proofs.PartsDone.{and_true}
@@ -34,11 +34,12 @@ use Rattle.cell_laws.proofs.StoresKeep.{then_holds, then_is, TakenAt, HasRoot, a
 
 module _ (given : Given) (p : Program) (statement : ℕ) (a : Act) (x : Action) (done : List Part) (place : ℕ) (mode : Mode) (y : Amount) (t : Seen) (m : Moment) (g : TakenAt p statement a x done t m) (q : IsStored a x done place y) where
   -- bytes that it gets are of a number of the result
-  pub result_meant : (held : List ℕ) → m.by_zero ≡ false → stored_bytes p.layout m place mode y ≡ Some held → IsSomeAnd (result_at p a x t place mode y) (λ i. (z : ℤ) × Holds i z × (held ≡ bytes_of (form_at p.layout place) z))
-  result_meant held unzero e =
+  pub result_meant : keeps_receiver a x ≡ false → (held : List ℕ) → m.by_zero ≡ false → stored_bytes p.layout m place mode y ≡ Some held → IsSomeAnd (result_at p a x t place mode y) (λ i. (z : ℤ) × Holds i z × (held ≡ bytes_of (form_at p.layout place) z))
+  result_meant off held unzero e =
       let v = then_is (amount p.layout m y) (stored_units mode (form_at p.layout place)) held e in
-      then_holds (λ (r : AmountRange). IsAmount r v.0) (λ i. (z : ℤ) × Holds i z × (held ≡ bytes_of (form_at p.layout place) z)) (amount_at p a x t place y) (result_range mode (receiver_of (form_at p.layout place)))
-      (amount_meant p statement a x done place y t m g q unzero v.0 v.1) (λ r h. given.fits_ mode (form_at p.layout place) r v.0 held h v.2)
+      subst (λ (b : Bool). IsSomeAnd (if b then None else (amount_at p a x t place y >>= result_range mode (receiver_of (form_at p.layout place)))) (λ i. (z : ℤ) × Holds i z × (held ≡ bytes_of (form_at p.layout place) z))) (sym off)
+      (then_holds (λ (r : AmountRange). IsAmount r v.0) (λ i. (z : ℤ) × Holds i z × (held ≡ bytes_of (form_at p.layout place) z)) (amount_at p a x t place y) (result_range mode (receiver_of (form_at p.layout place)))
+      (amount_meant p statement a x done place y t m g q unzero v.0 v.1) (λ r h. given.fits_ mode (form_at p.layout place) r v.0 held h v.2))
 
   -- ---- why a receiver may keep its value
 
@@ -107,15 +108,20 @@ module _ (given : Given) (p : Program) (statement : ℕ) (a : Act) (x : Action) 
 
   -- ---- all outcomes
 
-  -- What holds where it keeps its value and may, and where it gets its bytes, holds behind each store.
+  -- What holds where it keeps its value and may, and where it gets its bytes, holds behind each store. On an edge that
+  -- keeps its receiver it gets none.
   pub each_outcome : (C : Moment → Type 0) → (may_fail p a x t place mode y ≡ true → C m) → (may_fail p a x t place mode y ≡ true → C (with_failure m))
-      → ((held : List ℕ) → m.by_zero ≡ false → stored_bytes p.layout m place mode y ≡ Some held → C (with_storage m (filled_at p.layout m.storage place held)))
-      → (n : Moment) → (handled p a x ≡ false → m.by_zero ≡ false) → Stores p.layout (handled p a x) place mode y m n → C n
-  each_outcome C alone_ misfits fits n off_zero h = by_edge (handled p a x) refl h
+      → (keeps_receiver a x ≡ false → (held : List ℕ) → m.by_zero ≡ false → stored_bytes p.layout m place mode y ≡ Some held → C (with_storage m (filled_at p.layout m.storage place held)))
+      → (n : Moment) → (handled p a x ≡ false → m.by_zero ≡ false) → (keeps_receiver a x ≡ true → FailsAt p.layout (store place mode y) m) → Stores p.layout (handled p a x) place mode y m n → C n
+  each_outcome C alone_ misfits fits n off_zero fails h = by_edge (handled p a x) refl h
     where
-      by_bytes : handled p a x ≡ true → m.by_zero ≡ false → (o : Option (List ℕ)) → stored_bytes p.layout m place mode y ≡ o → C (stored_or_kept p.layout m place o)
-      by_bytes on unzero None e = misfits (fails_by on (or_left (may_exceed p a x t place mode y) other_failures (misfit_exceeds unzero e)))
-      by_bytes on unzero (Some held) e = fits held unzero e
+      by_keeping : (held : List ℕ) → m.by_zero ≡ false → is_left_alone m y ≡ false → stored_bytes p.layout m place mode y ≡ Some held → (b : Bool) → keeps_receiver a x ≡ b → C (with_storage m (filled_at p.layout m.storage place held))
+      by_keeping held unzero apart e true k = elim (fails k) [ inl f ↦ absurd cc | inr f ↦ absurd cc ]
+      by_keeping held unzero apart e false k = fits k held unzero e
+
+      by_bytes : handled p a x ≡ true → m.by_zero ≡ false → is_left_alone m y ≡ false → (o : Option (List ℕ)) → stored_bytes p.layout m place mode y ≡ o → C (stored_or_kept p.layout m place o)
+      by_bytes on unzero apart None e = misfits (fails_by on (or_left (may_exceed p a x t place mode y) other_failures (misfit_exceeds unzero e)))
+      by_bytes on unzero apart (Some held) e = by_keeping held unzero apart e (keeps_receiver a x) refl
 
       without_zero : (u : Amount) → is_left_alone m u ≡ false → m.by_zero ≡ false
       without_zero (computed s k) e = e
@@ -129,8 +135,8 @@ module _ (given : Given) (p : Program) (statement : ℕ) (a : Act) (x : Action) 
 
       by_alone : handled p a x ≡ true → (b : Bool) → is_left_alone m y ≡ b → n ≡ (if b then m else stored_or_kept p.layout m place (stored_bytes p.layout m place mode y)) → C n
       by_alone on true e k = subst C (sym k) (alone_ (alone_fails on e))
-      by_alone on false e k = subst C (sym k) (by_bytes on (without_zero y e) (stored_bytes p.layout m place mode y) refl)
+      by_alone on false e k = subst C (sym k) (by_bytes on (without_zero y e) e (stored_bytes p.layout m place mode y) refl)
 
       by_edge : (b : Bool) → handled p a x ≡ b → Stores p.layout b place mode y m n → C n
       by_edge true on k = by_alone on (is_left_alone m y) refl k
-      by_edge false off (held, e, k) = subst C (sym k) (fits held (off_zero off) e)
+      by_edge false off (held, e, k) = subst C (sym k) (fits (ap (λ b. b && has_one_receiver a) off) held (off_zero off) e)

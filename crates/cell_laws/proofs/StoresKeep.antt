@@ -37,7 +37,10 @@ use Rattle.transfer_ranges.specs.Amounts.{IsAmount}
 use Rattle.cob_edge_parts.specs.Counters.{PassesPart, PassesParts}
 use Rattle.cell_laws.specs.Places.{IsBehindOperands, EndsWithRead, IsComputed, IsBehindSender, Moves, Augments, Counts, IsStored, IsInPlace}
 use Rattle.interval_domain.specs.Known.{Known, KnownFits}
-use Rattle.cell_steps.specs.Homes.{Home, of_item, homes_of, picture_range, form_range}
+use Rattle.cob_graph.specs.declared.homes.Home.{Home}
+use Rattle.cob_graph.specs.declared.homes.Home.TheVariants.{Item as of_item}
+use Rattle.cob_graph.specs.Homes.{homes_of}
+use Rattle.cell_steps.specs.OwnRanges.{picture_range, form_range}
 use Rattle.cell_steps.specs.Premises.{HasSoundItems}
 use Rattle.cell_steps.specs.Storages.{storage, known_of, value_at, KnownStands, StandsIn}
 use Rattle.cell_steps.specs.Cells.{forgotten, is_beside}

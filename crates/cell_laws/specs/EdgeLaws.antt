@@ -13,7 +13,7 @@ use Rattle.dom_laws.specs.Walking.{IsSound}
 use Rattle.cob_edge_parts.specs.Counters.{PassesParts, MeetsAmong}
 use Rattle.interval_domain.specs.Known.{Known}
 use Rattle.interval_domain.specs.Elements.{CellsFit, ElementFits, CellsBelow, ElementBelow}
-use Rattle.cell_steps.specs.Homes.{owns}
+use Rattle.cell_steps.specs.OwnRanges.{owns}
 use Rattle.cell_steps.specs.Storages.{storage, StandsIn, ElementStands}
 use Rattle.cell_steps.specs.Seen.{Seen}
 use Rattle.cell_steps.specs.Stores.{with_taken, may_fail, may_fit}

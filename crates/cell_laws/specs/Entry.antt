@@ -10,7 +10,9 @@ use Rattle.cob_runs.specs.Contents.{item_at}
 use Rattle.cob_runs.specs.Moves.{moved}
 use Rattle.interval_domain.specs.Corners.{interval}
 use Rattle.interval_domain.specs.Known.{Known}
-use Rattle.cell_steps.specs.Homes.{Home, of_item, of_count, homes_of}
+use Rattle.cob_graph.specs.declared.homes.Home.{Home}
+use Rattle.cob_graph.specs.declared.homes.Home.TheVariants.{Item as of_item, Count as of_count}
+use Rattle.cob_graph.specs.Homes.{homes_of}
 
 -- the bytes of the VALUE that an item begins with, if it has one
 abbrev pub value_bytes : Layout → Item → Option (List ℕ)

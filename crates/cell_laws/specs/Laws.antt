@@ -6,7 +6,7 @@ use Rattle.dom_laws.specs.Flow.{IsFlow}
 use Rattle.dom_laws.specs.Meaning.{IsMeaning}
 use Rattle.interval_domain.specs.Rows.{cells_lattice}
 use Rattle.graph_runs.specs.Sources.{IsSourceGraph}
-use Rattle.cell_steps.specs.Homes.{owns}
+use Rattle.cell_steps.specs.OwnRanges.{owns}
 use Rattle.cell_laws.specs.Layer.{cell_flow, cell_meaning}
 
 abbrev pub CellsFlow : Type 0

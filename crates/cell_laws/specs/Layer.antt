@@ -17,7 +17,7 @@ use Rattle.interval_domain.specs.Rows.{row_from, width_of, element_of}
 use Rattle.graph_runs.specs.Places.{edge_at}
 use Rattle.graph_runs.specs.Flows.{flow_over}
 use Rattle.graph_runs.specs.Doing.{graph_runs}
-use Rattle.cell_steps.specs.Homes.{owns}
+use Rattle.cell_steps.specs.OwnRanges.{owns}
 use Rattle.cell_steps.specs.Storages.{ElementStands}
 use Rattle.cell_steps.specs.Edges.{post_cells, clears_edge}
 use Rattle.cell_laws.specs.Entry.{entry_cells}

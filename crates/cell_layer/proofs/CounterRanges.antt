@@ -11,7 +11,9 @@ use Rattle.transfer_ranges.proofs.Least.{test_le}
 use Rattle.transfer_ranges.proofs.CountLaws.{count_part}
 use Rattle.interval_domain.specs.Known.{Known, IsOrdered}
 use Rattle.interval_domain.specs.Elements.{CellsFit}
-use Rattle.cell_steps.specs.Homes.{of_count, homes_of, owns}
+use Rattle.cob_graph.specs.declared.homes.Home.TheVariants.{Count as of_count}
+use Rattle.cob_graph.specs.Homes.{homes_of}
+use Rattle.cell_steps.specs.OwnRanges.{owns}
 use Rattle.cell_steps.specs.Cells.{units_of}
 use Rattle.cell_laws.proofs.ItemRanges.{units_fit}
 use Rattle.cell_layer.proofs.ShortBounds.{signed_ends}

@@ -14,7 +14,8 @@ use Rattle.transfer_ranges.specs.Meaning.{CutFits, CutsFit}
 use Rattle.transfer_ranges.proofs.GuardLaws.{guard_fits}
 use Rattle.interval_domain.specs.Known.{Known}
 use Rattle.interval_domain.specs.Elements.{CellsFit}
-use Rattle.cell_steps.specs.Homes.{homes_of, owns}
+use Rattle.cob_graph.specs.Homes.{homes_of}
+use Rattle.cell_steps.specs.OwnRanges.{owns}
 use Rattle.cell_steps.specs.Cells.{is_numeric}
 use Rattle.cell_steps.specs.Stores.{range_at}
 use Rattle.cell_steps.specs.Steps.{all_cut, guarded_cells}

@@ -19,7 +19,9 @@ use Rattle.cob_runs.specs.declared.action.Cell.{Cell}
 use Rattle.cob_runs.specs.Contents.{item_at, form_at}
 use Rattle.cob_store.specs.WellFormed.{IsShort}
 use Rattle.cob_graph.specs.Graphs.{cells_of}
-use Rattle.cell_steps.specs.Homes.{Home, of_item, of_count, home_of, if_named, item_homes, turns_homes, act_homes, count_homes, homes_of}
+use Rattle.cob_graph.specs.declared.homes.Home.{Home}
+use Rattle.cob_graph.specs.declared.homes.Home.TheVariants.{Item as of_item, Count as of_count}
+use Rattle.cob_graph.specs.Homes.{home_of, if_named, item_homes, turns_homes, act_homes, count_homes, homes_of}
 use Rattle.edge_amounts.specs.Numbers.{item_of, items_of}
 use Rattle.edge_amounts.proofs.Parallel.{cells_same}
 use Rattle.interval_domain.specs.Known.{Known, IsOrdered}

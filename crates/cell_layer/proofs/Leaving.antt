@@ -20,7 +20,8 @@ use Rattle.interval_domain.specs.Known.{Known}
 use Rattle.interval_domain.specs.Elements.{CellsFit}
 use Rattle.interval_domain.specs.Rows.{IsReached, cells_of}
 use Rattle.interval_domain.proofs.AllCells.{fits_length}
-use Rattle.cell_steps.specs.Homes.{homes_of, home_range, owns}
+use Rattle.cob_graph.specs.Homes.{homes_of}
+use Rattle.cell_steps.specs.OwnRanges.{home_range, owns}
 use Rattle.cell_layer.proofs.SmallHomes.{cells_are_small}
 use Rattle.cell_laws.specs.Layer.{left, row_for, edge_cells, edge_clears}
 use Rattle.cell_laws.specs.Sizes.{IsSmallPart}

@@ -22,7 +22,9 @@ use Rattle.graph_runs.specs.Places.{no_edge}
 use Rattle.graph_runs.specs.Sources.{IsSourceGraph}
 use Rattle.graph_runs.specs.Flows.{HasEdgesInOrder, flow_over}
 use Rattle.graph_runs.proofs.Ordering.{in_order, graphs_are_flows}
-use Rattle.cell_steps.specs.Homes.{homes_of, home_range, owns}
+use Rattle.cob_graph.specs.Homes.{homes_of}
+use Rattle.cob_graph.specs.Limits.{most_cells, most_nodes}
+use Rattle.cell_steps.specs.OwnRanges.{home_range, owns}
 use Rattle.cell_laws.specs.Entry.{entry_cells}
 use Rattle.cell_laws.specs.Layer.{row_for}
 use Rattle.cell_layer.specs.Held.{HasFewParts, IsHeld}
@@ -73,12 +75,12 @@ module _ (p : Program) (g : Graph) (source : ∥ IsSourceGraph p g ∥₁) where
   pub targets_last : All (λ x. x.to ≤ length g.nodes) g.edges
   targets_last = ∥∥₁_elim source (hlevel props) (λ s. to_last p g s)
 
-  pub few_edges : length g.nodes ≤ 4096 → length g.edges ≤ 12288
+  pub few_edges : length g.nodes ≤ most_nodes → length g.edges ≤ 12288
   few_edges few =
       let three : length g.edges ≤ 3 * length g.nodes = ∥∥₁_elim source (hlevel props) (λ s. three_each p g s) in
       omega (arith, three, few)
 
-  pub few_lists : (lists : List (Vec ℤ Global)) → AreThresholds (owns p) (lists_of lists) → length g.cells ≤ 512 → length lists ≤ 512
+  pub few_lists : (lists : List (Vec ℤ Global)) → AreThresholds (owns p) (lists_of lists) → length g.cells ≤ most_cells → length lists ≤ most_cells
   few_lists lists ends few =
       let as_cells : length (owns p) ≡ length g.cells = ∥∥₁_elim source (hlevel props) (λ s. cells_for_owns p g s) in
       let as_lists = owned_by (owns p) lists ends in

@@ -6,7 +6,9 @@ use Rattle.cob_calc.specs.Contents.{bound_at}
 use Rattle.sum_ranges.specs.Working.{AreBounded}
 use Rattle.interval_domain.specs.Known.{Known}
 use Rattle.interval_domain.specs.Elements.{CellsFit}
-use Rattle.cell_steps.specs.Homes.{of_item, homes_of, owns}
+use Rattle.cob_graph.specs.declared.homes.Home.TheVariants.{Item as of_item}
+use Rattle.cob_graph.specs.Homes.{homes_of}
+use Rattle.cell_steps.specs.OwnRanges.{owns}
 use Rattle.cell_steps.specs.Cells.{units_of}
 use Rattle.cell_steps.specs.Stores.{range_at}
 use Rattle.cell_laws.proofs.ItemRanges.{units_fit}

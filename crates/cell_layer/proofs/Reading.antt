@@ -9,7 +9,10 @@ use Rattle.cob_calc.specs.Contents.{bound_at}
 use Rattle.sum_ranges.specs.declared.ranged.Ranged.{Ranged}
 use Rattle.interval_domain.specs.Known.{Known, IsOrdered}
 use Rattle.interval_domain.specs.Elements.{CellsFit}
-use Rattle.cell_steps.specs.Homes.{Home, of_item, is_home, homes_of, owns}
+use Rattle.cob_graph.specs.declared.homes.Home.{Home}
+use Rattle.cob_graph.specs.declared.homes.Home.TheVariants.{Item as of_item}
+use Rattle.cob_graph.specs.Homes.{is_home, homes_of}
+use Rattle.cell_steps.specs.OwnRanges.{owns}
 use Rattle.cell_steps.specs.Cells.{units_of, with_known}
 use Rattle.cell_steps.specs.Stores.{range_at}
 use Rattle.cell_steps.specs.Steps.{read_cells}

@@ -15,7 +15,9 @@ use Rattle.sum_ranges.specs.Sizes.{IsRangeWithin}
 use Rattle.sum_ranges.specs.Working.{AreBounded}
 use Rattle.interval_domain.specs.Known.{Known, KnownFits}
 use Rattle.interval_domain.specs.Elements.{CellsFit}
-use Rattle.cell_steps.specs.Homes.{of_item, homes_of, owns, picture_range, form_range}
+use Rattle.cob_graph.specs.declared.homes.Home.TheVariants.{Item as of_item}
+use Rattle.cob_graph.specs.Homes.{homes_of}
+use Rattle.cell_steps.specs.OwnRanges.{owns, picture_range, form_range}
 use Rattle.cell_steps.specs.Cells.{units_of}
 use Rattle.cell_steps.specs.Stores.{range_at}
 use Rattle.cell_laws.proofs.ItemRanges.{units_fit}

@@ -15,7 +15,8 @@ use Rattle.sum_ranges.specs.Vanishing.{may_be_zero}
 use Rattle.transfer_ranges.specs.declared.amounts.Taken.{Taken}
 use Rattle.transfer_ranges.specs.ResultRanges.{count_range, lowered}
 use Rattle.interval_domain.specs.Known.{Known}
-use Rattle.cell_steps.specs.Homes.{of_item, of_count, homes_of}
+use Rattle.cob_graph.specs.declared.homes.Home.TheVariants.{Item as of_item, Count as of_count}
+use Rattle.cob_graph.specs.Homes.{homes_of}
 use Rattle.cell_steps.specs.Cells.{units_of}
 use Rattle.cell_steps.specs.Seen.{Seen, beginning, with_cells, with_zero}
 use Rattle.cell_steps.specs.Stores.{range_at, handled, taking, with_taken, stored}

@@ -14,7 +14,8 @@ use Rattle.cob_program.specs.Act.{once, times, until, varying, Stmt, MkStmt, Act
 use Rattle.cob_program.specs.Statements.{program_statements}
 use Rattle.cob_runs.specs.Contents.{item_at, form_at}
 use Rattle.cob_store.specs.WellFormed.{IsWellFormedForm, IsWellFormedItem, HasWellFormedItems}
-use Rattle.cell_steps.specs.Homes.{of_item, if_named, home_of, item_homes, act_homes, count_homes}
+use Rattle.cob_graph.specs.declared.homes.Home.TheVariants.{Item as of_item}
+use Rattle.cob_graph.specs.Homes.{if_named, home_of, item_homes, act_homes, count_homes}
 use Rattle.cell_layer.proofs.Digits.{small_digits}
 use Rattle.cell_layer.specs.SmallCells.{is_small_home, has_small_cells}
 

@@ -25,16 +25,19 @@ use Rattle.sum_ranges.specs.Working.{AreBounded}
 use Rattle.transfer_ranges.specs.declared.amounts.Taken.{Taken}
 use Rattle.transfer_ranges.specs.declared.amounts.AmountRange.{AmountRange}
 use Rattle.transfer_ranges.specs.Receivers.{receiver_of}
-use Rattle.transfer_ranges.specs.ResultRanges.{count_range, lowered}
+use Rattle.transfer_ranges.specs.ResultRanges.{result_range, count_range, lowered}
 use Rattle.transfer_ranges.specs.Sizes.{IsSmallAmount}
 use Rattle.edge_amounts.specs.Working.{CanSettleFor, CanWork, amount_from, units_from}
 use Rattle.interval_domain.specs.Known.{Known, IsOrdered, KnownFits}
 use Rattle.interval_domain.specs.Elements.{Element, CellsFit, ElementFits}
-use Rattle.cell_steps.specs.Homes.{Home, of_item, of_count, homes_of, form_range, home_range, picture_range, owns}
+use Rattle.cob_graph.specs.declared.homes.Home.{Home}
+use Rattle.cob_graph.specs.declared.homes.Home.TheVariants.{Item as of_item, Count as of_count}
+use Rattle.cob_graph.specs.Homes.{homes_of}
+use Rattle.cell_steps.specs.OwnRanges.{form_range, home_range, picture_range, owns}
 use Rattle.cell_steps.specs.Cells.{units_of, forgotten, is_in_bytes, is_beside}
 use Rattle.cell_steps.specs.Operands.{edge_operands}
 use Rattle.cell_steps.specs.Seen.{Seen, with_cells, with_zero}
-use Rattle.cell_steps.specs.Stores.{range_at, handled, taking, amount_at, result_at, may_fail, stored_known, stored_cells, stored_element, behind_store, stored}
+use Rattle.cell_steps.specs.Stores.{range_at, handled, keeps_receiver, taking, amount_at, result_at, may_fail, stored_known, stored_cells, stored_element, behind_store, stored}
 use Rattle.cell_steps.specs.Steps.{can_divide, known_as, read_cells, guarded_cells, counted_cells, with_cells_if, after_read, after_divide}
 use Rattle.cell_laws.proofs.CellLists.{cells_reflexive, with_known_fits, forgotten_fits, stored_fits}
 use Rattle.cell_laws.proofs.ResultsFit.{result_fits, count_fits}
@@ -169,7 +172,11 @@ module _ (p : Program) (a : Act) (x : Action) where
       let units = result_at p a x s place mode y in
       behind_can s (may_fail p a x s place mode y) (stored_element (may_fail p a x s place mode y) s.cells (option_map (stored_cells p place s.cells) units)) can
       (stored_fits (owns p) (may_fail p a x s place mode y) s.cells (option_map (stored_cells p place s.cells) units) can.fits
-      (put_fits p place s.cells units can.fits (units_fit_form mode (form_at p.layout place) (amount_at p a x s place y))))
+      (put_fits p place s.cells units can.fits (by_keeping (keeps_receiver a x) (amount_at p a x s place y))))
+    where
+      by_keeping : (b : Bool) (o : Option AmountRange) → IfSome (if b then None else (o >>= result_range mode (receiver_of (form_at p.layout place)))) (λ i. KnownFits (form_range (form_at p.layout place)) (Some i))
+      by_keeping true o = tt
+      by_keeping false o = units_fit_form mode (form_at p.layout place) o
 
   read_can : (place : ℕ) (s : Seen) → Can s → Can (after_read p place s)
   read_can place s can = go s.may_zero

@@ -8,7 +8,9 @@ use Rattle.cob_program.specs.Act.{Program}
 use Rattle.cob_runs.specs.Contents.{form_at}
 use Rattle.interval_domain.specs.Known.{Known, joined_known}
 use Rattle.interval_domain.specs.Elements.{joined}
-use Rattle.cell_steps.specs.Homes.{Home, of_item, is_home, homes_of}
+use Rattle.cob_graph.specs.declared.homes.Home.{Home}
+use Rattle.cob_graph.specs.declared.homes.Home.TheVariants.{Item as of_item}
+use Rattle.cob_graph.specs.Homes.{is_home, homes_of}
 use Rattle.cell_steps.specs.Storages.{known_of}
 use Rattle.cell_steps.specs.Cells.{with_known, forgotten, is_beside}
 use Rattle.cell_steps.specs.Stores.{stored_known, stored_cells, stored_element}

@@ -11,7 +11,8 @@ use Rattle.interval_domain.specs.Known.{Known}
 use Rattle.interval_domain.specs.Elements.{CellsFit}
 use Rattle.interval_domain.specs.Rows.{cells_of, width_of}
 use Rattle.interval_domain.proofs.Places.{words_length}
-use Rattle.cell_steps.specs.Homes.{homes_of, home_range, owns}
+use Rattle.cob_graph.specs.Homes.{homes_of}
+use Rattle.cell_steps.specs.OwnRanges.{home_range, owns}
 use Rattle.cell_steps.specs.Seen.{Seen, beginning}
 use Rattle.cell_steps.specs.Edges.{finished}
 use Rattle.cell_layer.specs.ProgramRows.{IsRowOf}

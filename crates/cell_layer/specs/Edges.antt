@@ -9,7 +9,7 @@ use Rattle.edge_amounts.specs.PartView.{edge_parts}
 use Rattle.interval_domain.specs.Known.{Known}
 use Rattle.interval_domain.specs.Elements.{Element, CellsFit}
 use Rattle.interval_domain.specs.Rows.{cells_of}
-use Rattle.cell_steps.specs.Homes.{owns}
+use Rattle.cell_steps.specs.OwnRanges.{owns}
 use Rattle.cell_steps.specs.Seen.{beginning}
 use Rattle.cell_steps.specs.Clearing.{clears_parts}
 use Rattle.cell_steps.specs.Edges.{steps, finished}

@@ -6,7 +6,7 @@ use Rattle.num_bytes.specs.Reading.{contents_value}
 use Rattle.cob_runs.specs.declared.action.Cell.{Cell}
 use Rattle.cob_program.specs.Values.{◌>>=◌}
 use Rattle.interval_domain.specs.Known.{Known}
-use Rattle.cell_steps.specs.Homes.{of_item}
+use Rattle.cob_graph.specs.declared.homes.Home.TheVariants.{Item as of_item}
 use Rattle.cell_laws.specs.Entry.{point, entry_known}
 
 -- the number that bytes of an item of the form are read as

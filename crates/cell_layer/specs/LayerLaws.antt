@@ -16,7 +16,7 @@ use Rattle.interval_domain.specs.Elements.{AreThresholds}
 use Rattle.interval_domain.specs.Rows.{cells_lattice}
 use Rattle.interval_domain.proofs.Rows.{cells_are_a_lattice}
 use Rattle.graph_runs.specs.Sources.{IsSourceGraph}
-use Rattle.cell_steps.specs.Homes.{owns}
+use Rattle.cell_steps.specs.OwnRanges.{owns}
 use Rattle.cell_laws.specs.Layer.{cell_flow, cell_meaning}
 use Rattle.cell_laws.proofs.Flow.{cells_flow}
 use Rattle.cell_laws.proofs.Meaning.{cells_mean}

@@ -6,7 +6,7 @@ use Rattle.cob_graph.specs.Graphs.{cells_of}
 use Rattle.interval_domain.specs.Known.{Known}
 use Rattle.interval_domain.specs.Rows as rows
 use Rattle.interval_domain.specs.Rows.{IsReached}
-use Rattle.cell_steps.specs.Homes.{homes_of}
+use Rattle.cob_graph.specs.Homes.{homes_of}
 
 -- what is known of the cell with a number, if there is one
 abbrev pub known_in : List Known → Option ℕ → Known

@@ -5,7 +5,9 @@ use Rattle.cob_data.specs.declared.layout.Layout.{Layout}
 use Rattle.cob_program.specs.Bounds.{is_small}
 use Rattle.cob_program.specs.Act.{Program}
 use Rattle.cob_calc.specs.Contents.{bound_at}
-use Rattle.cell_steps.specs.Homes.{Home, of_item, of_count, homes_of}
+use Rattle.cob_graph.specs.declared.homes.Home.{Home}
+use Rattle.cob_graph.specs.declared.homes.Home.TheVariants.{Item as of_item, Count as of_count}
+use Rattle.cob_graph.specs.Homes.{homes_of}
 
 -- a counter has 18 digits
 abbrev pub is_small_home : Layout → Home → Bool

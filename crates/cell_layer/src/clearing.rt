@@ -6,7 +6,7 @@ ghost use Rattle.cob_program.specs.ActView.{plain_program};
 ghost use Rattle.graph_runs.specs.Places.{no_edge};
 ghost use Rattle.interval_domain.specs.Elements.{CellsFit};
 ghost use Rattle.interval_domain.specs.Rows.{IsReached, cells_of, lists_of};
-ghost use Rattle.cell_steps.specs.Homes.{owns};
+ghost use Rattle.cell_steps.specs.OwnRanges.{owns};
 ghost use Rattle.cell_laws.specs.Layer.{leaves_clear, cell_meaning};
 ghost use Rattle.cell_layer.specs.Held.{IsHeld};
 ghost use Rattle.cell_layer.specs.LayerLaws.{means_by};

@@ -9,7 +9,7 @@ ghost use Rattle.sum_ranges.specs.Vanishing.{holds_zero};
 ghost use Rattle.edge_amounts.specs.PartView.{plain_divisor};
 ghost use Rattle.interval_domain.specs.Elements.{CellsFit};
 ghost use Rattle.interval_domain.specs.Rows.{cells_of};
-ghost use Rattle.cell_steps.specs.Homes.{owns};
+ghost use Rattle.cell_steps.specs.OwnRanges.{owns};
 ghost use Rattle.cell_steps.specs.Steps.{can_divide, after_divide};
 ghost use Rattle.cell_steps.specs.Stores.{range_at};
 ghost use Rattle.cell_layer.specs.ProgramRows.{IsRowOf};

@@ -4,8 +4,9 @@ ghost use Rattle.std.specs.List.{All};
 ghost use Rattle.cob_program.specs.ActView.{plain_program};
 ghost use Rattle.interval_domain.specs.Elements.{height_of};
 ghost use Rattle.interval_domain.specs.Rows.{cells_lattice, lists_of};
-ghost use Rattle.cell_steps.specs.Homes.{owns};
+ghost use Rattle.cell_steps.specs.OwnRanges.{owns};
 ghost use Rattle.cell_layer.specs.LayerLaws.{ordered_by};
+ghost use Rattle.cob_graph.specs.Limits.{most_cells};
 
 use crate::layer::CellLayer;
 use dom_laws::Domain;
@@ -14,7 +15,7 @@ use interval_domain::{join, leq, set_unreached, widen};
 // how often a row can grow
 fn height_of(thresholds: &[Vec<i64>]) -> u64
     requires lists { All (λ list. length list.items ≤ 128) thresholds.now }
-    requires few { length thresholds.now ≤ 512 }
+    requires few { length thresholds.now ≤ most_cells }
     ensures { result ≡ height_of (lists_of thresholds.now) }
 {
     let mut height: u64 = 1;

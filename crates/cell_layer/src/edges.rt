@@ -7,7 +7,7 @@ ghost use Rattle.cob_edge_parts.specs.Parts.{has_phrase, is_handled};
 ghost use Rattle.graph_runs.specs.Sources.{IsSourceGraph};
 ghost use Rattle.interval_domain.specs.Elements.{CellsFit};
 ghost use Rattle.interval_domain.specs.Rows.{IsReached, cells_of, row_from, width_of};
-ghost use Rattle.cell_steps.specs.Homes.{owns};
+ghost use Rattle.cell_steps.specs.OwnRanges.{owns};
 ghost use Rattle.cell_laws.specs.Layer.{statement_at, left, row_for, edge_cells, edge_clears};
 ghost use Rattle.cell_layer.specs.NumberedStatements.{act_in, number_in};
 ghost use Rattle.cell_layer.specs.Statements.{IsNumbered};

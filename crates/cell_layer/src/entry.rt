@@ -2,6 +2,7 @@
 ghost use Rattle.std.specs.Prelude.{◌≡◌, ◌≤◌, ◌*◌, suc, length, IfOk};
 ghost use Rattle.cob_program.specs.ActView.{plain_program};
 ghost use Rattle.cob_graph.specs.Graphs.{cells_of};
+ghost use Rattle.cob_graph.specs.Limits.{most_cells};
 ghost use Rattle.cob_store.specs.WellFormed.{HasWellFormedItems};
 ghost use Rattle.interval_domain.specs.Rows.{row_of};
 ghost use Rattle.cell_laws.specs.Entry.{entry_cells};
@@ -12,7 +13,7 @@ use cob_runs::Cell;
 use std::alloc::{AllocError, Global};
 
 fn word_count(cells: &[Cell]) -> usize
-    requires { length cells.now ≤ 512 }
+    requires { length cells.now ≤ most_cells }
     ensures { result ≡ suc (2 * length cells.now) }
 {
     2 * cells.len() + 1
@@ -22,7 +23,7 @@ fn word_count(cells: &[Cell]) -> usize
 pub fn entry_row(alloc: Global, program: &Program, cells: &[Cell]) -> Result<Vec<i128>, AllocError>
     requires sound { HasWellFormedItems program.now.layout }
     requires cells { cells.now ≡ cells_of (plain_program program.now) }
-    requires few { length cells.now ≤ 512 }
+    requires few { length cells.now ≤ most_cells }
     ensures { IfOk result (λ row. row.items ≡ row_of (entry_cells (plain_program program.now))) }
 {
     let mut row = vec![in alloc; 0; word_count(cells)]?;

@@ -11,7 +11,7 @@ ghost use Rattle.cob_runs.specs.Contents.{item_at, form_at, number_in, stored};
 ghost use Rattle.cob_runs.specs.Moves.{takes_number, number_of, text_of, moved_text, moved_number, moved};
 ghost use Rattle.cob_graph.specs.Graphs.{cells_of as program_cells};
 ghost use Rattle.cob_store.specs.WellFormed.{HasWellFormedItems, IsWellFormedForm, IsWellFormedItem, IsShort, IsConstant, IsCountable, CanMove};
-ghost use Rattle.cell_steps.specs.Homes.{of_item};
+ghost use Rattle.cob_graph.specs.declared.homes.Home.TheVariants.{Item as of_item};
 ghost use Rattle.interval_domain.specs.Rows.{IsReached, cells_of, row_of};
 ghost use Rattle.cell_laws.specs.Entry.{entry_known, entry_cells};
 ghost use Rattle.cell_layer.specs.Firsts.{read_known, put_known, first_known, first_cells};

@@ -6,7 +6,7 @@ ghost use Rattle.cob_edge_parts.specs.Parts.{is_handled};
 ghost use Rattle.edge_amounts.specs.Small.{has_small_sum};
 ghost use Rattle.interval_domain.specs.Elements.{CellsFit};
 ghost use Rattle.interval_domain.specs.Rows.{cells_of};
-ghost use Rattle.cell_steps.specs.Homes.{owns};
+ghost use Rattle.cell_steps.specs.OwnRanges.{owns};
 ghost use Rattle.cell_steps.specs.Operands.{edge_operands, operands_vanish};
 ghost use Rattle.cell_steps.specs.Seen.{beginning};
 ghost use Rattle.cell_steps.specs.Stores.{range_at};

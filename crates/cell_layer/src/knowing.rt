@@ -1,7 +1,8 @@
 //! What is known of a cell, by its home.
 ghost use Rattle.std.specs.Prelude.{◌≡◌, Some};
 ghost use Rattle.cob_program.specs.ActView.{plain_program};
-ghost use Rattle.cell_steps.specs.Homes.{of_item, of_count, homes_of};
+ghost use Rattle.cob_graph.specs.declared.homes.Home.TheVariants.{Item as of_item, Count as of_count};
+ghost use Rattle.cob_graph.specs.Homes.{homes_of};
 ghost use Rattle.cell_steps.specs.Storages.{known_of};
 ghost use Rattle.interval_domain.specs.Known.{IsOrdered};
 ghost use Rattle.interval_domain.specs.Rows.{IsReached, cells_of};

@@ -5,11 +5,12 @@ ghost use Rattle.cob_program.specs.ActView.{plain_program};
 ghost use Rattle.graph_runs.specs.Sources.{IsSourceGraph};
 ghost use Rattle.interval_domain.specs.Elements.{AreThresholds};
 ghost use Rattle.interval_domain.specs.Rows.{lists_of};
-ghost use Rattle.cell_steps.specs.Homes.{owns};
+ghost use Rattle.cell_steps.specs.OwnRanges.{owns};
 ghost use Rattle.cell_laws.specs.Entry.{entry_cells};
 ghost use Rattle.cell_laws.specs.Layer.{row_for};
 ghost use Rattle.cell_layer.specs.Heads.{heads_of};
 ghost use Rattle.cell_layer.specs.Held.{IsHeld};
+ghost use Rattle.cob_graph.specs.Limits.{most_cells, most_nodes};
 
 use crate::edges::has_few_parts;
 use crate::entry::entry_row;
@@ -33,8 +34,8 @@ pub struct CellLayer<'a> {
     ghost marked: { heads.items ≡ heads_of (length graph.now.nodes) graph.now.edges },
     ghost begun: { entry.items ≡ row_for (plain_program program.now) (Some (entry_cells (plain_program program.now))) },
     ghost owned: { length (owns (plain_program program.now)) ≡ length thresholds.now },
-    ghost cells: { length thresholds.now ≤ 512 },
-    ghost nodes: { length graph.now.nodes ≤ 4096 },
+    ghost cells: { length thresholds.now ≤ most_cells },
+    ghost nodes: { length graph.now.nodes ≤ most_nodes },
     ghost edges: { length graph.now.edges ≤ 12288 },
     ghost lists: { All (λ list. length list.items ≤ 128) thresholds.now },
 }
@@ -49,8 +50,8 @@ impl<'a> CellLayer<'a> {
         thresholds: &'a [Vec<i64>],
     ) -> Result<CellLayer<'a>, AllocError>
         requires source { ∥ IsSourceGraph (plain_program program.now) graph.now ∥₁ }
-        requires cells { length graph.now.cells ≤ 512 }
-        requires nodes { length graph.now.nodes ≤ 4096 }
+        requires cells { length graph.now.cells ≤ most_cells }
+        requires nodes { length graph.now.nodes ≤ most_nodes }
         requires ends { AreThresholds (owns (plain_program program.now)) (lists_of thresholds.now) }
         requires lists { All (λ list. length list.items ≤ 128) thresholds.now }
         ensures program { IfOk result (λ layer. layer.program.now ≡ program.now) }

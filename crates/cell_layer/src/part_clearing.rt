@@ -19,7 +19,7 @@ ghost use Rattle.edge_amounts.specs.Small.{has_small_sum};
 ghost use Rattle.edge_amounts.specs.Working.{CanWork, amount_from};
 ghost use Rattle.interval_domain.specs.Elements.{CellsFit};
 ghost use Rattle.interval_domain.specs.Rows.{cells_of};
-ghost use Rattle.cell_steps.specs.Homes.{owns};
+ghost use Rattle.cell_steps.specs.OwnRanges.{owns};
 ghost use Rattle.cell_steps.specs.Clearing.{is_misfit, has_quotient, all_fit};
 ghost use Rattle.cell_steps.specs.Operands.{amount_of};
 ghost use Rattle.cell_steps.specs.Stores.{range_at};
@@ -228,7 +228,7 @@ fn read_clears(
 {
     match fault {
         Kind::Class => item_is_numeric(program, cells, row, place),
-        Kind::Size | Kind::Zero | Kind::Truncation => true,
+        _ => true,
     }
 }
 
@@ -244,7 +244,7 @@ fn unread_clears(
 {
     match fault {
         Kind::Class => false,
-        Kind::Size | Kind::Zero | Kind::Truncation => true,
+        _ => true,
     }
 }
 
@@ -265,7 +265,7 @@ fn divide_clears(
 {
     match fault {
         Kind::Zero => divisor_clears(program, cells, row, act, divisor),
-        Kind::Size | Kind::Class | Kind::Truncation => true,
+        _ => true,
     }
 }
 
@@ -284,7 +284,7 @@ fn read_count_clears(
 {
     match fault {
         Kind::Class => count_is_known(program, cells, row, statement),
-        Kind::Size | Kind::Zero | Kind::Truncation => true,
+        _ => true,
     }
 }
 
@@ -306,7 +306,7 @@ fn set_count_clears(
 {
     match fault {
         Kind::Size => count_fits(taken(program, cells, row, act, action, kept).common),
-        Kind::Zero | Kind::Class | Kind::Truncation => true,
+        _ => true,
     }
 }
 
@@ -326,7 +326,7 @@ fn count_down_clears(
 {
     match fault {
         Kind::Size => count_down_fits(program, cells, row, statement),
-        Kind::Zero | Kind::Class | Kind::Truncation => true,
+        _ => true,
     }
 }
 

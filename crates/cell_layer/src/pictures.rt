@@ -4,7 +4,7 @@ ghost use Rattle.std.specs.Option.{option_copied};
 ghost use Rattle.cob_program.specs.Bounds.{of_digits, form_bound, literal_bound, is_small};
 ghost use Rattle.cob_runs.specs.Contents.{item_at, form_at, scale_of};
 ghost use Rattle.cob_calc.specs.Contents.{bound_at};
-ghost use Rattle.cell_steps.specs.Homes.{largest, picture_range, form_range};
+ghost use Rattle.cell_steps.specs.OwnRanges.{largest, picture_range, form_range};
 
 use cob_data::{Item, Layout};
 use cob_tree::{Form, Num};

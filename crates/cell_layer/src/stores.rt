@@ -1,5 +1,5 @@
 //! Stores into items.
-ghost use Rattle.std.specs.Prelude.{◌≡◌, ◌||◌, ◌&&◌, ◌≤ℤ◌, true, false, Some, None, IfSome};
+ghost use Rattle.std.specs.Prelude.{◌≡◌, ◌||◌, ◌&&◌, ◌≤ℤ◌, true, false, if◌then◌else◌, Some, None, IfSome};
 ghost use Rattle.std.specs.Option.{option_map};
 ghost use Rattle.cob_program.specs.ActView.{plain_act, plain_program};
 ghost use Rattle.cob_program.specs.Bounds.{is_small};
@@ -13,10 +13,12 @@ ghost use Rattle.edge_amounts.specs.Working.{CanSettleFor, CanWork, amount_from,
 ghost use Rattle.interval_domain.specs.Elements.{CellsFit};
 ghost use Rattle.interval_domain.specs.Known.{IsOrdered, joined_known};
 ghost use Rattle.interval_domain.specs.Rows.{cells_of};
-ghost use Rattle.cell_steps.specs.Homes.{owns, homes_of, of_item};
+ghost use Rattle.cell_steps.specs.OwnRanges.{owns};
+ghost use Rattle.cob_graph.specs.Homes.{homes_of};
+ghost use Rattle.cob_graph.specs.declared.homes.Home.TheVariants.{Item as of_item};
 ghost use Rattle.cell_steps.specs.Storages.{known_of};
 ghost use Rattle.cell_steps.specs.Operands.{is_remainder};
-ghost use Rattle.cell_steps.specs.Stores.{range_at, may_vanish, stored, stored_known, stored_cells, stored_element};
+ghost use Rattle.cell_steps.specs.Stores.{range_at, keeps_receiver, may_vanish, stored, stored_known, stored_cells, stored_element};
 ghost use Rattle.cell_laws.specs.Sizes.{IsSmallStore};
 ghost use Rattle.cell_layer.specs.ProgramRows.{IsRowOf};
 ghost use Rattle.cell_layer.specs.Kept.{seen, latest_of, kept_or_new};
@@ -33,7 +35,9 @@ use cob_program::{Act, Program};
 use cob_runs::{Action, Cell};
 use cob_tree::Form;
 use dec_num::Mode;
-use edge_amounts::{Amount, amount_from, is_handled, may_keep, receiver_at, store_range};
+use edge_amounts::{
+    Amount, amount_from, is_handled, keeps_receiver, may_keep, receiver_at, store_range,
+};
 use interval_domain::{Interval, hull};
 use transfer_ranges::{AmountRange, Stored, Taken};
 
@@ -215,6 +219,19 @@ fn may_keep_own(act: &Act, action: Action, amount: Amount, exceeds: bool, kept: 
     is_handled(act, action) && may_keep(amount, kept.common, exceeds, kept.may_zero, kept.any_fail)
 }
 
+// What is stored on the edge: nothing where it keeps its receiver.
+fn units_on(act: &Act, action: Action, units: Option<Interval>) -> Option<Interval>
+    requires { IsOrdered units }
+    ensures value { result ≡ (if keeps_receiver (plain_act act.now) action then None else units) }
+    ensures ordered { IsOrdered result }
+{
+    if keeps_receiver(act, action) {
+        None
+    } else {
+        units
+    }
+}
+
 /// Stores an amount, once operands are taken.
 pub(crate) fn store(
     program: &Program,
@@ -241,9 +258,10 @@ pub(crate) fn store(
     let found = amount_for(program, cells, row, place, amount, kept.common);
     let value = stored_at(&program.layout, place, mode, found);
     let keeps = may_keep_own(act, action, amount, value.may_fail, *kept);
+    let units = units_on(act, action, value.units);
     kept.result = result_of(found);
     kept.may_fail = keeps;
-    kept.may_fit = value.units.is_some();
+    kept.may_fit = units.is_some();
     kept.any_fail = kept.any_fail || keeps;
-    put(program, cells, row, place, keeps, value.units)
+    put(program, cells, row, place, keeps, units)
 }

@@ -11,7 +11,7 @@ ghost use Rattle.sum_ranges.specs.Vanishing.{holds_zero, may_be_zero};
 ghost use Rattle.sum_ranges.specs.Working.{AreBounded};
 ghost use Rattle.interval_domain.specs.Elements.{CellsFit};
 ghost use Rattle.interval_domain.specs.Rows.{cells_of};
-ghost use Rattle.cell_steps.specs.Homes.{owns};
+ghost use Rattle.cell_steps.specs.OwnRanges.{owns};
 ghost use Rattle.cell_steps.specs.Operands.{edge_operands, operands_vanish};
 ghost use Rattle.cell_steps.specs.Stores.{range_at};
 ghost use Rattle.edge_amounts.specs.PartView.{plain_amount, plain_divisor};

@@ -7,7 +7,7 @@ ghost use Rattle.sum_ranges.specs.Taking.{is_small_taken};
 ghost use Rattle.transfer_ranges.specs.Operands.{is_whole, taken_sum};
 ghost use Rattle.interval_domain.specs.Elements.{CellsFit};
 ghost use Rattle.interval_domain.specs.Rows.{cells_of};
-ghost use Rattle.cell_steps.specs.Homes.{owns};
+ghost use Rattle.cell_steps.specs.OwnRanges.{owns};
 ghost use Rattle.cell_steps.specs.Stores.{range_at};
 ghost use Rattle.cell_layer.specs.ProgramRows.{IsRowOf};
 ghost use Rattle.cell_layer.specs.Taking.{taken_of};

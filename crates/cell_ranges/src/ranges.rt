@@ -2,7 +2,7 @@
 ghost use Rattle.std.specs.Prelude.{◌≡◌, ◌≤◌, ◌<◌, ◌^◌, map, IfOk, unsigned_abs};
 ghost use Rattle.std.specs.List.{All};
 ghost use Rattle.interval_domain.specs.Rows.{lists_of};
-ghost use Rattle.cell_steps.specs.Homes.{largest, own_range};
+ghost use Rattle.cell_steps.specs.OwnRanges.{largest, own_range};
 ghost use Rattle.cert_text.specs.Gaps.{IsSmall};
 ghost use Rattle.cell_ranges.specs.Ranges.{IsShort, ends_of};
 

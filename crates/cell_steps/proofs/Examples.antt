@@ -137,9 +137,9 @@ moved_from_text = refl
 
 -- ---- size errors
 
--- ADD A TO A ON SIZE ERROR: some results fit, and some don't
+-- ADD A TO A ON SIZE ERROR: some results fit, and some don't. On this edge A has failed, and keeps its value.
 some_fail : post_cells program 2 (worked (alone (item 0)) (target 0 how.Plus Trunc ∷ []) None (given no_stmts)) action.Size (cells (to (pos 4) (pos 6)) any any any any any)
-    ≡ Some (cells (to (pos 4) (pos 9)) any any any any any)
+    ≡ Some (cells (to (pos 4) (pos 6)) any any any any any)
 some_fail = refl
 
 none_fails : post_cells program 2 (worked (alone (item 0)) (target 0 how.Plus Trunc ∷ []) None (given no_stmts)) action.Size (cells (to (pos 1) (pos 2)) any any any any any)
@@ -170,10 +170,15 @@ divided_by_zero : post_cells program 2 (worked (alone (item 0)) (target 1 how.Un
     ≡ None
 divided_by_zero = refl
 
--- with ON SIZE ERROR, on its edge: B isn't read where A may be 0, and keeps its value or is the quotient
+-- with ON SIZE ERROR, on its edge: B isn't read where A may be 0, and keeps its value
 zero_may_divide : post_cells program 2 (worked (alone (item 0)) (target 1 how.Under Trunc ∷ []) None (given no_stmts)) action.Size (cells (to (pos 0) (pos 2)) (to (pos 10) (pos 20)) any any any any)
-    ≡ Some (cells (to (pos 0) (pos 2)) (to (pos 5) (pos 20)) any any any any)
+    ≡ Some (cells (to (pos 0) (pos 2)) (to (pos 10) (pos 20)) any any any any)
 zero_may_divide = refl
+
+-- DIVIDE A INTO B D ON SIZE ERROR: each keeps its value or is its quotient
+two_may_be_divided : post_cells program 2 (worked (alone (item 0)) (target 1 how.Under Trunc ∷ target 3 how.Under Trunc ∷ []) None (given no_stmts)) action.Size (cells (to (pos 0) (pos 2)) (to (pos 10) (pos 20)) any (to (pos 100) (pos 300)) any any)
+    ≡ Some (cells (to (pos 0) (pos 2)) (to (pos 5) (pos 20)) any (to (pos 50) (pos 300)) any any)
+two_may_be_divided = refl
 
 zero_divides : post_cells program 2 (worked (alone (item 0)) (target 1 how.Under Trunc ∷ []) None (given no_stmts)) action.Size (cells (to (pos 0) (pos 0)) any any any any any)
     ≡ Some (cells (to (pos 0) (pos 0)) any any any any any)
@@ -197,9 +202,9 @@ remained : post_cells program 2 (worked (over (item 3) (item 0)) (target 1 how.W
     ≡ Some (cells (to (pos 2) (pos 2)) (to (pos 3) (pos 3)) any (to (pos 17) (pos 17)) any any)
 remained = refl
 
--- from 12 to 20 is taken away from 17 to 18, and the rest isn't greater than the divisor
+-- from 12 to 20 is taken away from 17 to 18, and the rest is less than the divisor
 remained_within : post_cells program 2 (worked (over (item 3) (item 0)) (target 1 how.Whole Trunc ∷ []) (Some 0) left_out) action.Done (cells (to (pos 4) (pos 5)) any any (to (pos 17) (pos 18)) any any)
-    ≡ Some (cells (to (pos 0) (pos 5)) (to (pos 3) (pos 4)) any (to (pos 17) (pos 18)) any any)
+    ≡ Some (cells (to (pos 0) (pos 4)) (to (pos 3) (pos 4)) any (to (pos 17) (pos 18)) any any)
 remained_within = refl
 
 -- where the quotient fails, the remainder may keep its value

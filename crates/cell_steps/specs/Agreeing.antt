@@ -1,9 +1,10 @@
 -- When what is seen is true of a moment of a run, and the parts of an edge as a walk.
-use Rattle.std.specs.Prelude.{◌≡◌, ◌≤◌, ℕ, ◌+◌, Bool, true, false, List, ◌∷◌, ◌++◌, Option, Some, IsSomeAnd, ℤ}
+use Rattle.std.specs.Prelude.{◌≡◌, ◌⊎◌, ◌≤◌, ℕ, ◌+◌, Bool, true, false, List, ◌∷◌, ◌++◌, Option, Some, None, IsSomeAnd, ℤ}
 use Rattle.std.specs.List.{list_any, Contains}
 use Rattle.dec_num.specs.declared.types.Mode.{Mode}
 use Rattle.dec_num.specs.Exact.{Fraction}
 use Rattle.cob_tree.specs.declared.fault.Kind.{Kind}
+use Rattle.cob_data.specs.declared.layout.Layout.{Layout}
 use Rattle.cob_program.specs.declared.act.How.TheVariants as how
 use Rattle.cob_program.specs.Act.{Act, Program}
 use Rattle.cob_runs.specs.declared.action.Action.{Action}
@@ -12,7 +13,7 @@ use Rattle.cob_runs.specs.Moves.{takes_number}
 use Rattle.cob_runs.specs.Effects.{act_at, is_times}
 use Rattle.cob_edge_parts.specs.Parts.{Amount, computed, remaining, Part, store, bytes_in, set_count, parts_of}
 use Rattle.cob_edge_parts.specs.Meaning as run
-use Rattle.cob_edge_parts.specs.Meaning.{Moment, amount}
+use Rattle.cob_edge_parts.specs.Meaning.{Moment, amount, is_left_alone, stored_bytes}
 use Rattle.cob_edge_parts.specs.Edges.{fault_edge}
 use Rattle.dom_laws.specs.Walking.{Walking}
 use Rattle.sum_ranges.specs.declared.ranged.Ranged.{Ranged}
@@ -20,13 +21,14 @@ use Rattle.sum_ranges.specs.Ranged.{IsIn}
 use Rattle.transfer_ranges.specs.declared.amounts.Taken.{Taken}
 use Rattle.transfer_ranges.specs.Amounts.{IsAmount}
 use Rattle.cob_edge_parts.specs.Counters.{PassesPart, FaultsAtPart, PassesParts}
-use Rattle.cell_steps.specs.Homes.{of_count, homes_of}
+use Rattle.cob_graph.specs.declared.homes.Home.TheVariants.{Count as of_count}
+use Rattle.cob_graph.specs.Homes.{homes_of}
 use Rattle.cell_steps.specs.Storages.{storage, StandsIn}
 use Rattle.cell_steps.specs.Premises.{HasSoundItems}
 use Rattle.interval_domain.specs.Known.{Known}
 use Rattle.cell_steps.specs.Operands.{edge_amount, edge_operands, amount_of}
 use Rattle.cell_steps.specs.Seen.{Seen}
-use Rattle.cell_steps.specs.Stores.{range_at, handled}
+use Rattle.cell_steps.specs.Stores.{range_at, handled, keeps_receiver}
 use Rattle.cell_steps.specs.Steps.{step}
 use Rattle.cell_steps.specs.Clearing.{clears_part}
 use Rattle.cell_steps.specs.Order.{SeenBelow}
@@ -70,6 +72,13 @@ abbrev pub is_store : Part → Bool
 is_store (store place mode y) = true
 is_store _ = false
 
+-- ---- stores that fail
+
+-- a store leaves its receiver alone, or what it is to get doesn't fit
+abbrev pub FailsAt : Layout → Part → Moment → Type 0
+FailsAt l (store place mode y) m = (is_left_alone m y ≡ true) ⊎ (stored_bytes l m place mode y ≡ None)
+FailsAt l y m = Unit {0}
+
 module _ (p : Program) (statement : ℕ) (a : Act) (x : Action) where
   -- What an amount of the edge is worth, with the operands of these bytes, is among what it can be with those that were
   -- taken, whatever the receiver's own number is.
@@ -98,6 +107,10 @@ module _ (p : Program) (statement : ℕ) (a : Act) (x : Action) where
 
   -- ---- the walk
 
+  -- A part is passed on a way along the whole edge: where the edge keeps its receiver, its store fails.
+  abbrev pub PassesOn : Part → Moment → Moment → Type 0
+  PassesOn y m n = PassesPart p.layout (handled p a x) y m n × (keeps_receiver a x ≡ true → FailsAt p.layout y m)
+
   -- Where the statement has the phrase, faults are met on the edge to its list.
   abbrev pub FaultsOn : Part → Moment → Kind → Type 0
   FaultsOn y m fault = (fault_edge a x ≡ x) × FaultsAtPart p.layout (handled p a x) y m fault
@@ -110,7 +123,7 @@ module _ (p : Program) (statement : ℕ) (a : Act) (x : Action) where
     Below = SeenBelow p a x;
     step = step p a x;
     Agrees = Agrees;
-    Passes = PassesPart p.layout (handled p a x);
+    Passes = PassesOn;
     Faults = FaultsOn;
     Clears = λ y s fault. clears_part p a x y s fault ≡ true;
   }

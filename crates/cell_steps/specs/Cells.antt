@@ -7,7 +7,10 @@ use Rattle.interval_domain.specs.declared.bounds.Interval.{Interval}
 use Rattle.sum_ranges.specs.declared.ranged.Ranged.{Ranged}
 use Rattle.sum_ranges.specs.Ranged.{ranged}
 use Rattle.interval_domain.specs.Known.{Known}
-use Rattle.cell_steps.specs.Homes.{Home, of_item, of_count, is_home, home_range}
+use Rattle.cob_graph.specs.declared.homes.Home.{Home}
+use Rattle.cob_graph.specs.declared.homes.Home.TheVariants.{Item as of_item, Count as of_count}
+use Rattle.cob_graph.specs.Homes.{is_home}
+use Rattle.cell_steps.specs.OwnRanges.{home_range}
 use Rattle.cell_steps.specs.Storages.{known_of}
 
 -- whether a home is known to have a number, which none without a cell is

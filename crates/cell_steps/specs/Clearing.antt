@@ -14,7 +14,8 @@ use Rattle.sum_ranges.specs.Vanishing.{holds_zero}
 use Rattle.transfer_ranges.specs.declared.amounts.Taken.{Taken}
 use Rattle.transfer_ranges.specs.Receivers.{receiver_of}
 use Rattle.transfer_ranges.specs.ResultRanges.{may_fail, lowered, count_may_fail}
-use Rattle.cell_steps.specs.Homes.{of_count, homes_of}
+use Rattle.cob_graph.specs.declared.homes.Home.TheVariants.{Count as of_count}
+use Rattle.cob_graph.specs.Homes.{homes_of}
 use Rattle.cell_steps.specs.Cells.{is_known, units_of, is_numeric}
 use Rattle.cell_steps.specs.Operands.{amount_of}
 use Rattle.cell_steps.specs.Seen.{Seen}

@@ -1,4 +1,4 @@
-pub mod Homes
+pub mod OwnRanges
 pub mod Storages
 pub mod Premises
 pub mod Cells

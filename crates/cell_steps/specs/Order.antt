@@ -4,7 +4,7 @@ use Rattle.cob_program.specs.Act.{Act, Program}
 use Rattle.cob_runs.specs.declared.action.Action.{Action}
 use Rattle.transfer_ranges.specs.Amounts.{IsNarrowerTakenIfAny}
 use Rattle.interval_domain.specs.Elements.{CellsFit, CellsBelow}
-use Rattle.cell_steps.specs.Homes.{owns}
+use Rattle.cell_steps.specs.OwnRanges.{owns}
 use Rattle.cell_steps.specs.Seen.{Seen}
 use Rattle.cell_steps.specs.Stores.{handled}
 

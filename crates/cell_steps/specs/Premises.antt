@@ -8,7 +8,7 @@ use Rattle.num_bytes.specs.Reading.{contents_value}
 use Rattle.cob_runs.specs.Contents.{item_at, form_at, bytes_at, bytes_of, digits_of}
 use Rattle.cob_runs.specs.Moves.{takes_number}
 use Rattle.interval_domain.specs.Bounds.{Holds}
-use Rattle.cell_steps.specs.Homes.{form_range}
+use Rattle.cell_steps.specs.OwnRanges.{form_range}
 
 pub record HasSoundItems (l : Layout) : Type 0 where
   -- an item lies within storage

@@ -17,7 +17,9 @@ use Rattle.transfer_ranges.specs.declared.cuts.Cuts.{Cuts}
 use Rattle.transfer_ranges.specs.Guards.{guarded}
 use Rattle.transfer_ranges.specs.Counts.{count_kept}
 use Rattle.interval_domain.specs.Known.{Known}
-use Rattle.cell_steps.specs.Homes.{Home, of_item, of_count, homes_of}
+use Rattle.cob_graph.specs.declared.homes.Home.{Home}
+use Rattle.cob_graph.specs.declared.homes.Home.TheVariants.{Item as of_item, Count as of_count}
+use Rattle.cob_graph.specs.Homes.{homes_of}
 use Rattle.cell_steps.specs.Cells.{units_of, is_numeric, with_known, forgotten, is_in_bytes}
 use Rattle.cell_steps.specs.Seen.{Seen, with_cells, with_zero}
 use Rattle.cell_steps.specs.Stores.{range_at, handled, with_taken, stored}

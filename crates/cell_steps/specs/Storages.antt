@@ -10,7 +10,9 @@ use Rattle.dom_laws.specs.Meaning.{Storage}
 use Rattle.interval_domain.specs.Known.{Known}
 use Rattle.interval_domain.specs.Elements.{Element}
 use Rattle.cob_edge_parts.specs.Counters.{IsCounted}
-use Rattle.cell_steps.specs.Homes.{Home, of_item, of_count, is_home, homes_of}
+use Rattle.cob_graph.specs.declared.homes.Home.{Home}
+use Rattle.cob_graph.specs.declared.homes.Home.TheVariants.{Item as of_item, Count as of_count}
+use Rattle.cob_graph.specs.Homes.{is_home, homes_of}
 
 -- what is known of a home: that of the first cell that is of it
 abbrev pub known_of : List Home → List Known → Home → Known

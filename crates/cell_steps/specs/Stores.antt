@@ -1,12 +1,13 @@
 -- What a store makes of what is seen before it, and whether it may fit or may fail.
-use Rattle.std.specs.Prelude.{ℕ, ◌||◌, ◌&&◌, if◌then◌else◌, Bool, true, List, Option, Some, None, is_some}
+use Rattle.std.specs.Prelude.{ℕ, ◌||◌, ◌&&◌, if◌then◌else◌, Bool, true, false, List, [], ◌∷◌, Option, Some, None, is_some}
 use Rattle.std.specs.Option.{option_map, option_map_or}
 use Rattle.dec_num.specs.declared.types.Mode.{Mode}
 use Rattle.interval_domain.specs.declared.bounds.Interval.{Interval}
 use Rattle.cob_tree.specs.declared.form.Form.{Form}
 use Rattle.cob_tree.specs.declared.form.Form.TheVariants as form
+use Rattle.cob_program.specs.declared.act.Target.{Target}
 use Rattle.cob_program.specs.Values.{◌>>=◌}
-use Rattle.cob_program.specs.Act.{Act, Program}
+use Rattle.cob_program.specs.Act.{Act, arith, Program}
 use Rattle.cob_runs.specs.declared.action.Action.{Action}
 use Rattle.cob_runs.specs.Contents.{form_at}
 use Rattle.cob_edge_parts.specs.Parts.{Amount, is_handled}
@@ -17,7 +18,8 @@ use Rattle.transfer_ranges.specs.Receivers.{receiver_of}
 use Rattle.transfer_ranges.specs.ResultRanges as result
 use Rattle.interval_domain.specs.Known.{Known}
 use Rattle.interval_domain.specs.Elements.{Element, joined_element}
-use Rattle.cell_steps.specs.Homes.{of_item, homes_of}
+use Rattle.cob_graph.specs.declared.homes.Home.TheVariants.{Item as of_item}
+use Rattle.cob_graph.specs.Homes.{homes_of}
 use Rattle.cell_steps.specs.Cells as cells
 use Rattle.cell_steps.specs.Cells.{with_known, forgotten, is_beside}
 use Rattle.cell_steps.specs.Operands.{edge_operands, operands_vanish, amount_of, may_divide_by_zero, is_remainder}
@@ -54,6 +56,19 @@ behind_store t fails (Some known) = Some (record {
   any_fail = t.any_fail || fails;
 })
 
+-- one receiver, and no REMAINDER
+abbrev pub is_one_receiver : List Target → Option ℕ → Bool
+is_one_receiver (t ∷ []) None = true
+is_one_receiver targets remainder = false
+
+abbrev pub has_one_receiver : Act → Bool
+has_one_receiver (arith s targets remainder size fine) = is_one_receiver targets remainder
+has_one_receiver _ = false
+
+-- An edge to the list of ON SIZE ERROR, where a statement has one receiver: what failed is that one, and it keeps its value.
+abbrev pub keeps_receiver : Act → Action → Bool
+keeps_receiver a x = is_handled a x && has_one_receiver a
+
 -- what divides may be 0
 abbrev pub may_vanish : Option Taken → Amount → Bool
 may_vanish common amount = option_map_or (may_divide_by_zero amount) common true
@@ -82,10 +97,11 @@ module _ (p : Program) (a : Act) (x : Action) where
   abbrev pub amount_at : Seen → ℕ → Amount → Option AmountRange
   amount_at t place amount = t.common >>= amount_of amount (range_at p t.cells place)
 
-  -- the receiver's units, where some result fits
+  -- the receiver's units, where some result is stored: one that fits, on an edge that doesn't keep its receiver
   abbrev pub result_at : Seen → ℕ → Mode → Amount → Option Interval
   result_at t place mode amount =
-      amount_at t place amount >>= result.result_range mode (receiver_of (form_at p.layout place))
+      if keeps_receiver a x then None
+      else amount_at t place amount >>= result.result_range mode (receiver_of (form_at p.layout place))
 
   abbrev pub may_fit : Seen → ℕ → Mode → Amount → Bool
   may_fit t place mode amount = is_some (result_at t place mode amount)

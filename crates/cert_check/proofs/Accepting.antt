@@ -22,7 +22,7 @@ use Rattle.interval_domain.proofs.Rows.{element_back, row_width}
 use Rattle.cert_text.specs.Claims.{place_at}
 use Rattle.graph_runs.specs.Places.{IsOf}
 use Rattle.graph_runs.specs.Clearing.{IsClearAt}
-use Rattle.cell_steps.specs.Homes.{owns}
+use Rattle.cell_steps.specs.OwnRanges.{owns}
 use Rattle.cell_laws.specs.Layer.{statement_at, clears_at, cell_flow, cell_meaning}
 use Rattle.cell_ranges.proofs.Claims.{claims_fit}
 use Rattle.cert_check.specs.OpenPairs.{open_at, node_clears_by, is_cleared_by, open_by, opens_by, pairs_by}

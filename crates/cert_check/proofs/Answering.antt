@@ -12,7 +12,7 @@ use Rattle.interval_domain.specs.Rows.{cells_lattice}
 use Rattle.cert_text.specs.declared.gap.Gap.{Gap}
 use Rattle.cert_text.specs.Claims.{claimed_row, place_at}
 use Rattle.graph_runs.specs.Sources.{IsSourceGraph}
-use Rattle.cell_steps.specs.Homes.{owns}
+use Rattle.cell_steps.specs.OwnRanges.{owns}
 use Rattle.cell_laws.specs.Layer.{cell_flow, cell_meaning}
 use Rattle.cert_check.specs.declared.ends.CheckEnd.TheVariants as check
 use Rattle.cert_check.specs.OpenPairs.{pairs_by}

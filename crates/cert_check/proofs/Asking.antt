@@ -21,7 +21,7 @@ use Rattle.interval_domain.specs.Elements.{Element, CellsFit, ElementFits}
 use Rattle.interval_domain.specs.Rows.{element_of, row_from, cells_lattice, IsSaid}
 use Rattle.cert_text.specs.Claims.{claimed_row, place_at}
 use Rattle.cert_text.specs.Gaps.{IsSmall, AreSmall, AreSmallClaims, HasSmallClaims}
-use Rattle.cell_steps.specs.Homes.{owns}
+use Rattle.cell_steps.specs.OwnRanges.{owns}
 use Rattle.cert_check.specs.Claims.{claims_at, row_at}
 use Rattle.dom_laws.specs.Leaks.{IsFirstLeak}
 use Rattle.cert_check.specs.Along.{arrives}

@@ -12,7 +12,7 @@ use Rattle.interval_domain.specs.declared.bounds.Interval.{Interval}
 use Rattle.dom_laws.specs.Lattice.{IsElement}
 use Rattle.dom_laws.specs.Flow.{Flow, IsInductive}
 use Rattle.dom_laws.specs.Leaks.{HasElements, IsFirstLeak}
-use Rattle.cell_steps.specs.Homes.{homes_of}
+use Rattle.cob_graph.specs.Homes.{homes_of}
 use Rattle.cert_text.specs.View.{Certificate}
 use Rattle.cert_text.specs.declared.gap.Gap.{Gap}
 use Rattle.cert_text.specs.Claims.{claimed_row, place_at}

@@ -29,7 +29,7 @@ use Rattle.graph_runs.specs.Doing.{graph_runs}
 use Rattle.graph_runs.specs.Clearing.{IsLayerOf}
 use Rattle.graph_runs.proofs.Following.{faults_are_reached}
 use Rattle.graph_runs.proofs.Clearing.{includes_itself, cleared_is_not_met}
-use Rattle.cell_steps.specs.Homes.{owns}
+use Rattle.cell_steps.specs.OwnRanges.{owns}
 use Rattle.cell_laws.specs.Entry.{entry_cells}
 use Rattle.cell_laws.specs.Layer.{post_at, cell_flow, cell_meaning}
 use Rattle.pack_laws.specs.Layer.{diff_lattice, diff_flow, diff_meaning}

@@ -7,7 +7,7 @@ use Rattle.dom_laws.specs.Meaning.{IsMeaning}
 use Rattle.graph_runs.specs.Sources.{IsSourceGraph}
 use Rattle.interval_domain.specs.Elements.{Element, ElementFits}
 use Rattle.interval_domain.specs.Rows.{cells_lattice}
-use Rattle.cell_steps.specs.Homes.{owns}
+use Rattle.cell_steps.specs.OwnRanges.{owns}
 use Rattle.cell_laws.specs.Entry.{entry_cells}
 use Rattle.cell_laws.specs.Layer.{post_at, cell_flow, cell_meaning}
 use Rattle.cell_laws.proofs.Entry.{entry_fits}

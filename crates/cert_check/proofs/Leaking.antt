@@ -13,7 +13,7 @@ use Rattle.cert_text.specs.declared.gap.Gap.{Gap}
 use Rattle.cert_text.specs.Claims.{place_at}
 use Rattle.cert_text.proofs.Telling.{gaps_tell}
 use Rattle.graph_runs.specs.Places.{edge_at}
-use Rattle.cell_steps.specs.Homes.{owns}
+use Rattle.cell_steps.specs.OwnRanges.{owns}
 use Rattle.cell_laws.specs.Layer.{post_at, cell_flow}
 use Rattle.cert_check.specs.Claims.{leak, leaks, cell_leaks, pack_leaks, edge_gaps, comes_along, leads_to, claims_at, row_at}
 use Rattle.dom_laws.specs.Leaks.{Keeps, IsFirstLeak}

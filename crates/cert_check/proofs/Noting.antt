@@ -5,13 +5,15 @@ use Rattle.std.specs.List.{flat_map, list_all, range_with_len}
 use Rattle.std.proofs.lemmas.Bool.{eq-eqb, eqb-true}
 use Rattle.std.proofs.lemmas.List.{length-set, get_or-set_same, get_or-set_other, get_or-replicate, get_or_default, length-replicate, append_assoc}
 use Rattle.cob_tree.specs.declared.fault.Kind.{Kind}
-use Rattle.cob_tree.specs.declared.fault.Kind.TheVariants as kind
 use Rattle.cob_tree.specs.declared.fault.Open.{Open}
+use Rattle.cob_tree.specs.declared.kinds.Kinds.{Kinds}
+use Rattle.cob_tree.specs.Kinds.{has, kinds_of, every_kind, both, put, tested}
+use Rattle.cob_tree.proofs.KindLaws.{has_kinds_of, same_kinds}
 use Rattle.cob_graph.specs.declared.graph.Graph.{Graph}
+use Rattle.cob_program.proofs.Loops.{item_step, added}
 use Rattle.cell_laws.specs.Layer.{statement_at}
-use Rattle.cert_check.specs.declared.cleared.Cleared.{Cleared}
-use Rattle.cert_check.specs.OpenPairs.{node_clears_by, opens_by}
-use Rattle.cert_check.specs.Clearing.{by_kind, all_cleared, both, left_open, IsNoted, cleared_to, AreClearedTo}
+use Rattle.cert_check.specs.OpenPairs.{if_open, node_clears_by, opens_by}
+use Rattle.cert_check.specs.Clearing.{left_of, left_open, IsNoted, cleared_to, AreClearedTo}
 
 -- ---- one note
 
@@ -20,13 +22,13 @@ apart statement k l e f =
     let is : statement ≡ suc k = omega (arith, l, f) in
     absurd (cc (sym (eq-eqb statement (suc k) is) ∙ e))
 
-set_there : (old : List Cleared) (i k : ℕ) (cleared d : Cleared) → i ≡ k → k < length old →
-    get_or (slice_set old i (both (get_or old i d) cleared)) k all_cleared ≡ both (get_or old k all_cleared) cleared
+set_there : (old : List Kinds) (i k : ℕ) (cleared d : Kinds) → i ≡ k → k < length old →
+    get_or (slice_set old i (both (get_or old i d) cleared)) k every_kind ≡ both (get_or old k every_kind) cleared
 set_there old i k cleared d f l =
-    subst (λ j. get_or (slice_set old j (both (get_or old j d) cleared)) k all_cleared ≡ both (get_or old k all_cleared) cleared) (sym f)
-    (get_or-set_same old k (both (get_or old k d) cleared) all_cleared l ∙ ap (λ x. both x cleared) (get_or_default old k d all_cleared l))
+    subst (λ j. get_or (slice_set old j (both (get_or old j d) cleared)) k every_kind ≡ both (get_or old k every_kind) cleared) (sym f)
+    (get_or-set_same old k (both (get_or old k d) cleared) every_kind l ∙ ap (λ x. both x cleared) (get_or_default old k d every_kind l))
 
-pub noted_at : (statement : ℕ) (cleared : Cleared) (old : List Cleared) (d : Cleared) → 1 ≤ statement → statement ≤ length old →
+pub noted_at : (statement : ℕ) (cleared : Kinds) (old : List Kinds) (d : Kinds) → 1 ≤ statement → statement ≤ length old →
     IsNoted statement cleared old (slice_set old (statement - 1) (both (get_or old (statement - 1) d) cleared))
 noted_at statement cleared old d l h = record {
   count = length-set old (statement - 1) (both (get_or old (statement - 1) d) cleared);
@@ -34,20 +36,20 @@ noted_at statement cleared old d l h = record {
 }
   where
     each : (k : ℕ) → k < length old → (b : Bool) → (statement == suc k) ≡ b →
-        get_or (slice_set old (statement - 1) (both (get_or old (statement - 1) d) cleared)) k all_cleared
-        ≡ (if b then both (get_or old k all_cleared) cleared else get_or old k all_cleared)
+        get_or (slice_set old (statement - 1) (both (get_or old (statement - 1) d) cleared)) k every_kind
+        ≡ (if b then both (get_or old k every_kind) cleared else get_or old k every_kind)
     each k within true e =
         let is : statement ≡ suc k = eqb-true statement (suc k) e in
         set_there old (statement - 1) k cleared d (omega (arith, is)) within
     each k within false e =
-        get_or-set_other old (statement - 1) k (both (get_or old (statement - 1) d) cleared) all_cleared (apart statement k l e)
+        get_or-set_other old (statement - 1) k (both (get_or old (statement - 1) d) cleared) every_kind (apart statement k l e)
 
-pub not_noted : (statement : ℕ) (cleared : Cleared) (old : List Cleared) → (1 ≤ statement → statement ≤ length old → ⊥) →
+pub not_noted : (statement : ℕ) (cleared : Kinds) (old : List Kinds) → (1 ≤ statement → statement ≤ length old → ⊥) →
     IsNoted statement cleared old old
 not_noted statement cleared old none = record { count = refl; each = λ k within. each k within (statement == suc k) refl }
   where
     each : (k : ℕ) → k < length old → (b : Bool) → (statement == suc k) ≡ b →
-        get_or old k all_cleared ≡ (if b then both (get_or old k all_cleared) cleared else get_or old k all_cleared)
+        get_or old k every_kind ≡ (if b then both (get_or old k every_kind) cleared else get_or old k every_kind)
     each k within false e = refl
     each k within true e =
         let is : statement ≡ suc k = eqb-true statement (suc k) e in
@@ -81,56 +83,61 @@ flat_more f first (suc count) j e =
     ap (λ xs. f first ++ xs) (flat_more f (first + 1) count j (omega (arith, e)))
     ∙ sym (append_assoc (f first) (flat_map f (range_with_len (first + 1) count)) (f j))
 
+-- ---- one kind after another
+
+pub tested_next : (test : Kind → Bool) (kinds : List Kind) (i : ℕ) (s t r : Kinds) (x : Kind) (b : Bool) → i < length kinds → x ≡ get_or kinds i x →
+    b ≡ test x → t ≡ put s x b → tested test s (drop i kinds) ≡ r → tested test t (drop (i + 1) kinds) ≡ r
+tested_next test kinds i s t r x b within is told made so_far =
+    ap (λ u. tested test u (drop (i + 1) kinds)) (made ∙ ap (put s x) told)
+    ∙ sym (ap (tested test s) (item_step kinds i x within is)) ∙ so_far
+
+pub pushed_kind : (new old : List Open) (cleared : Kinds) (statement : ℕ) (kinds : List Kind) (i : ℕ) (x : Kind) (b : Bool) (all : List Open) →
+    i < length kinds → x ≡ get_or kinds i x → b ≡ has cleared x → new ≡ old ++ if_open b statement x →
+    old ++ left_of cleared statement (drop i kinds) ≡ all → new ++ left_of cleared statement (drop (i + 1) kinds) ≡ all
+pushed_kind new old cleared statement kinds i x b all within is told grown whole =
+    added old new (if_open (has cleared x) statement x) (left_of cleared statement (drop (i + 1) kinds)) all (left_of cleared statement (drop i kinds))
+    (grown ∙ ap (λ y. old ++ if_open y statement x) told) (ap (left_of cleared statement) (item_step kinds i x within is)) whole
+
+pub tested_done : (test : Kind → Bool) (left : List Kind) (s r : Kinds) → left ≡ [] → tested test s left ≡ r → s ≡ r
+tested_done test left s r none so_far = sym (ap (tested test s) none) ∙ so_far
+
 -- ---- one more node
 
-abbrev pub made : Bool → Bool → Bool → Bool → Cleared
-made a b c d = record { size = a; truncation = b; zero = c; class = d }
-
-same_fields : (a b c d s t u v : Bool) → a ≡ s → b ≡ t → c ≡ u → d ≡ v → made a b c d ≡ made s t u v
-same_fields a b c d s t u v e f g h =
-    ap (λ x. made x b c d) e ∙ ap (λ x. made s x c d) f ∙ ap (λ x. made s t x d) g ∙ ap (λ x. made s t u x) h
-
-with_node : (b : Bool) (x : Cleared) (test : Kind → Bool) →
-    (if b then both x (by_kind test) else x)
-    ≡ made (x.size && (not b || test kind.Size)) (x.truncation && (not b || test kind.Truncation)) (x.zero && (not b || test kind.Zero))
-    (x.class && (not b || test kind.Class))
-with_node true x test = refl
-with_node false x test =
-    same_fields x.size x.truncation x.zero x.class _ _ _ _ (sym (and_true x.size)) (sym (and_true x.truncation)) (sym (and_true x.zero))
-    (sym (and_true x.class))
+with_kind : (b : Bool) (x : Kinds) (test : Kind → Bool) (fault : Kind) →
+    has (if b then both x (kinds_of test) else x) fault ≡ (has x fault && (not b || test fault))
+with_kind true x test fault =
+    has_kinds_of (λ kind. has x kind && has (kinds_of test) kind) fault ∙ ap (λ c. has x fault && c) (has_kinds_of test fault)
+with_kind false x test fault = sym (and_true (has x fault))
 
 module _ (g : Graph) (clears : ℕ → Kind → Bool) where
   one_more : (n s : ℕ) →
-      (if statement_at g (suc n) == s then both (cleared_to g clears n s) (by_kind (clears (suc n))) else cleared_to g clears n s)
+      (if statement_at g (suc n) == s then both (cleared_to g clears n s) (kinds_of (clears (suc n))) else cleared_to g clears n s)
       ≡ cleared_to g clears (suc n) s
-  one_more n s =
-      with_node (statement_at g (suc n) == s) (cleared_to g clears n s) (clears (suc n))
-      ∙ same_fields _ _ _ _ _ _ _ _ (more kind.Size) (more kind.Truncation) (more kind.Zero) (more kind.Class)
-    where
-      more : (fault : Kind) →
-          (list_all (node_clears_by g clears s fault) (range_with_len 1 n) && node_clears_by g clears s fault (suc n))
-          ≡ list_all (node_clears_by g clears s fault) (range_with_len 1 (suc n))
-      more fault = sym (all_more (node_clears_by g clears s fault) 1 n (suc n) (omega arith))
+  one_more n s = same_kinds _ _ (λ fault.
+      with_kind (statement_at g (suc n) == s) (cleared_to g clears n s) (clears (suc n)) fault
+      ∙ ap (λ b. b && node_clears_by g clears s fault (suc n)) (has_kinds_of (λ kind. list_all (node_clears_by g clears s kind) (range_with_len 1 n)) fault)
+      ∙ sym (all_more (node_clears_by g clears s fault) 1 n (suc n) (omega arith))
+      ∙ sym (has_kinds_of (λ kind. list_all (node_clears_by g clears s kind) (range_with_len 1 (suc n))) fault))
 
-  pub noted_more : (n statement : ℕ) (old new : List Cleared) → AreClearedTo g clears n old → statement ≡ statement_at g (suc n) →
-      IsNoted statement (by_kind (clears (suc n))) old new → AreClearedTo g clears (suc n) new
+  pub noted_more : (n statement : ℕ) (old new : List Kinds) → AreClearedTo g clears n old → statement ≡ statement_at g (suc n) →
+      IsNoted statement (kinds_of (clears (suc n))) old new → AreClearedTo g clears (suc n) new
   noted_more n statement old new are e noted = record {
     each = λ k within.
         let within_old : k < length old = subst (λ m. k < m) noted.count within in
         noted.each k within_old
-        ∙ ap (λ x. if statement == suc k then both x (by_kind (clears (suc n))) else x) (are.each k within_old)
-        ∙ ap (λ m. if m == suc k then both (cleared_to g clears n (suc k)) (by_kind (clears (suc n))) else cleared_to g clears n (suc k)) e
+        ∙ ap (λ x. if statement == suc k then both x (kinds_of (clears (suc n))) else x) (are.each k within_old)
+        ∙ ap (λ m. if m == suc k then both (cleared_to g clears n (suc k)) (kinds_of (clears (suc n))) else cleared_to g clears n (suc k)) e
         ∙ one_more n (suc k);
   }
 
-  pub none_noted : (count : ℕ) → AreClearedTo g clears 0 (replicate count all_cleared)
+  pub none_noted : (count : ℕ) → AreClearedTo g clears 0 (replicate count every_kind)
   none_noted count = record {
-    each = λ k within. get_or-replicate count k all_cleared all_cleared (subst (λ m. k < m) (length-replicate count all_cleared) within);
+    each = λ k within. get_or-replicate count k every_kind every_kind (subst (λ m. k < m) (length-replicate count every_kind) within);
   }
 
   -- the pairs of one more statement
-  pub pairs_more : (k : ℕ) (pairs : List Open) (noted : List Cleared) (x : Cleared) → AreClearedTo g clears (length g.nodes) noted →
-      k < length noted → x ≡ get_or noted k all_cleared → pairs ≡ flat_map (opens_by g clears) (range_with_len 1 k) →
+  pub pairs_more : (k : ℕ) (pairs : List Open) (noted : List Kinds) (x : Kinds) → AreClearedTo g clears (length g.nodes) noted →
+      k < length noted → x ≡ get_or noted k every_kind → pairs ≡ flat_map (opens_by g clears) (range_with_len 1 k) →
       pairs ++ left_open x (suc k) ≡ flat_map (opens_by g clears) (range_with_len 1 (suc k))
   pairs_more k pairs noted x are within e f =
       ap (λ ps. ps ++ left_open x (suc k)) f
@@ -138,19 +145,19 @@ module _ (g : Graph) (clears : ℕ → Kind → Bool) where
       ∙ sym (flat_more (opens_by g clears) 1 k (suc k) (omega arith))
 
   -- the law of one node more, with the next number as a variable
-  pub noted_next : (n m statement : ℕ) (cleared : Cleared) (old new : List Cleared) → AreClearedTo g clears n old → m ≡ suc n →
-      statement ≡ statement_at g m → cleared ≡ by_kind (clears m) → IsNoted statement cleared old new → AreClearedTo g clears m new
+  pub noted_next : (n m statement : ℕ) (cleared : Kinds) (old new : List Kinds) → AreClearedTo g clears n old → m ≡ suc n →
+      statement ≡ statement_at g m → cleared ≡ kinds_of (clears m) → IsNoted statement cleared old new → AreClearedTo g clears m new
   noted_next n m statement cleared old new are f e is noted =
       subst (λ k. AreClearedTo g clears k new) (sym f)
       (noted_more n statement old new are (e ∙ ap (statement_at g) f)
-      (subst (λ x. IsNoted statement x old new) (is ∙ ap (λ k. by_kind (clears k)) f) noted))
+      (subst (λ x. IsNoted statement x old new) (is ∙ ap (λ k. kinds_of (clears k)) f) noted))
 
-  pub pairs_next : (k j : ℕ) (old new : List Open) (noted : List Cleared) (x d : Cleared) → AreClearedTo g clears (length g.nodes) noted →
+  pub pairs_next : (k j : ℕ) (old new : List Open) (noted : List Kinds) (x d : Kinds) → AreClearedTo g clears (length g.nodes) noted →
       j ≡ suc k → k < length noted → x ≡ get_or noted k d → old ≡ flat_map (opens_by g clears) (range_with_len 1 k) →
       new ≡ old ++ left_open x j → new ≡ flat_map (opens_by g clears) (range_with_len 1 j)
   pairs_next k j old new noted x d are f within e before after =
       after ∙ ap (λ m. old ++ left_open x m) f
-      ∙ pairs_more k old noted x are within (e ∙ get_or_default noted k d all_cleared within) before
+      ∙ pairs_more k old noted x are within (e ∙ get_or_default noted k d every_kind within) before
       ∙ ap (λ m. flat_map (opens_by g clears) (range_with_len 1 m)) (sym f)
 
 -- a slice that is written back into its vector
@@ -160,8 +167,3 @@ written_back xs items n e = ap (λ m. take m (xs ++ drop (length xs) items)) e �
     whole : {A : Type 0} (xs ys : List A) → take (length xs) (xs ++ ys) ≡ xs
     whole [] ys = refl
     whole (x ∷ xs) ys = ap (λ zs. x ∷ zs) (whole xs ys)
-
--- the tests of the kinds, one by one
-pub each_kind : (a b c d : Bool) (test : Kind → Bool) → a ≡ test kind.Size → b ≡ test kind.Truncation → c ≡ test kind.Zero → d ≡ test kind.Class →
-    made a b c d ≡ by_kind test
-each_kind a b c d test e f g h = same_fields _ _ _ _ _ _ _ _ e f g h

@@ -13,7 +13,8 @@ use Rattle.cert_text.specs.Gaps.{gaps}
 use Rattle.cert_text.specs.MatrixClaims as matrices
 use Rattle.cert_text.specs.MatrixGaps as matrices_gaps
 use Rattle.graph_runs.specs.Places.{edge_at}
-use Rattle.cell_steps.specs.Homes.{homes_of, owns}
+use Rattle.cob_graph.specs.Homes.{homes_of}
+use Rattle.cell_steps.specs.OwnRanges.{owns}
 use Rattle.cell_laws.specs.Entry.{entry_cells}
 use Rattle.cell_laws.specs.Layer.{post_at, clears_at}
 use Rattle.diff_bounds.specs.PackRows.{row_of}

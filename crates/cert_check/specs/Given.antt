@@ -1,11 +1,11 @@
 -- What the parts of a check are given.
-use Rattle.std.specs.Prelude.{◌≡◌, ◌≤◌, ℕ, List, [], length, ℤ}
+use Rattle.std.specs.Prelude.{◌≡◌, ◌≤◌, ℕ, List, [], length, ℤ, Vec}
 use Rattle.std.specs.List.{All, AllByRecursion}
-use Rattle.std.specs.Prelude.{Vec}
 use Rattle.std.specs.declared.alloc.Global.{Global}
 use Rattle.cob_program.specs.Act.{Program}
 use Rattle.cob_graph.specs.declared.graph.Graph.{Graph}
 use Rattle.cob_graph.specs.Graphs.{cells_of}
+use Rattle.cob_graph.specs.Limits.{most_cells, most_nodes}
 use Rattle.cert_text.specs.View.{Certificate}
 use Rattle.cert_text.specs.Allowed.{IsAllowed}
 use Rattle.interval_domain.specs.declared.bounds.Interval.{Interval}
@@ -14,7 +14,7 @@ use Rattle.dom_laws.specs.Leaks.{IsFirstLeak}
 use Rattle.interval_domain.specs.Rows.{cells_lattice}
 use Rattle.cert_text.specs.Gaps.{IsSmall}
 use Rattle.graph_runs.specs.Sources.{IsSourceGraph}
-use Rattle.cell_steps.specs.Homes.{owns}
+use Rattle.cell_steps.specs.OwnRanges.{owns}
 use Rattle.cell_laws.specs.Layer.{cell_flow}
 use Rattle.pack_laws.specs.Layer.{diff_lattice, diff_flow}
 use Rattle.cert_check.specs.Claims.{row_at, packs_at, bounds_row}
@@ -25,10 +25,10 @@ pub record IsGiven (p : Program) (g : Graph) (c : Certificate) (ranges : List In
   pub allowed : IsAllowed c
   pub cells : c.cells ≡ length (cells_of p)
   pub nodes : length c.nodes ≡ length g.nodes
-  pub few_nodes : length g.nodes ≤ 4096
+  pub few_nodes : length g.nodes ≤ most_nodes
   pub own : ranges ≡ owns p
   pub small : All IsSmall ranges
-  pub few_cells : length ranges ≤ 512
+  pub few_cells : length ranges ≤ most_cells
 
 module _ (p : Program) (g : Graph) (c : Certificate) (thresholds : List (List ℤ)) where
   -- the edges keep what is claimed of cells

@@ -2,13 +2,10 @@
 use Rattle.std.specs.Prelude.{◌==◌, ◌||◌, not, ℕ, List, [], ◌∷◌, length, Bool, if◌then◌else◌}
 use Rattle.std.specs.List.{flat_map, list_all, range_with_len}
 use Rattle.cob_tree.specs.declared.fault.Kind.{Kind}
-use Rattle.cob_tree.specs.declared.fault.Kind.TheVariants as kind
 use Rattle.cob_tree.specs.declared.fault.Open.{Open}
+use Rattle.cob_tree.specs.Kinds.{all_kinds}
 use Rattle.cob_graph.specs.declared.graph.Graph.{Graph}
 use Rattle.cell_laws.specs.Layer.{statement_at}
-
-abbrev pub all_kinds : List Kind
-all_kinds = kind.Size ∷ kind.Truncation ∷ kind.Zero ∷ kind.Class ∷ []
 
 abbrev pub open_at : ℕ → Kind → Open
 open_at statement fault = record { statement = statement; kind = fault }

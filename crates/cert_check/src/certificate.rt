@@ -5,7 +5,7 @@ ghost use Rattle.cob_graph_build.specs.Limits.{IsWithinLimits};
 ghost use Rattle.graph_runs.specs.Sources.{IsSourceGraph};
 ghost use Rattle.dom_laws.specs.Lattice.{IsElement};
 ghost use Rattle.interval_domain.specs.Rows.{cells_lattice, lists_of, width_of};
-ghost use Rattle.cell_steps.specs.Homes.{owns};
+ghost use Rattle.cell_steps.specs.OwnRanges.{owns};
 ghost use Rattle.cell_laws.specs.Layer.{cell_flow};
 ghost use Rattle.cert_text.specs.View.{view};
 ghost use Rattle.cert_text.specs.Allowed.{IsAllowed};

@@ -5,11 +5,12 @@ ghost use Rattle.dom_laws.specs.Flow.{IsNode};
 ghost use Rattle.dom_laws.specs.Leaks.{HasElements};
 ghost use Rattle.cell_laws.specs.Layer.{statement_at};
 ghost use Rattle.cert_check.specs.OpenPairs.{pairs_by};
-ghost use Rattle.cert_check.specs.Clearing.{AreClearedTo, TestsTell, by_kind};
+ghost use Rattle.cob_tree.specs.Kinds.{kinds_of};
+ghost use Rattle.cert_check.specs.Clearing.{AreClearedTo, TestsTell};
 
-use crate::cleared::{Cleared, note, push_left_open};
+use crate::cleared::{note, push_left_open};
 use cob_graph::Graph;
-use cob_tree::{Kind, Open};
+use cob_tree::{Kind, Kinds, Open, all_kinds};
 use dom_laws::{Layer, Rows};
 use std::alloc::{AllocError, Global};
 
@@ -25,19 +26,18 @@ fn clears<L: Layer, R: Rows>(layer: &L, rows: &R, node: u32, fault: Kind) -> boo
 }
 
 // What a node clears.
-fn clears_all<L: Layer, R: Rows>(layer: &L, rows: &R, node: u32) -> Cleared
+fn clears_all<L: Layer, R: Rows>(layer: &L, rows: &R, node: u32) -> Kinds
     requires count { (L.flow layer.now).nodes ≤ R.count rows.now }
     requires rows { HasElements (L.lattice layer.now) (L.flow layer.now) (R.row_at rows.now) }
     requires node { IsNode (L.flow layer.now) node }
     ensures { (clears : ℕ → Kind → Bool) → TestsTell (L.flow layer.now) (L.meaning layer.now) (R.row_at rows.now) clears
-        → result ≡ by_kind (clears node) }
+        → result ≡ kinds_of (clears node) }
 {
-    Cleared {
-        size: clears(layer, rows, node, Kind::Size),
-        truncation: clears(layer, rows, node, Kind::Truncation),
-        zero: clears(layer, rows, node, Kind::Zero),
-        class: clears(layer, rows, node, Kind::Class),
+    let mut cleared = Kinds::all();
+    for kind in all_kinds() {
+        cleared = cleared.put(kind, clears(layer, rows, node, kind));
     }
+    cleared
 }
 
 // The number of a node's statement.
@@ -52,7 +52,7 @@ fn statement_at(graph: &Graph, node: u32) -> u32
 }
 
 // Notes at each statement what all its nodes clear.
-fn note_nodes<L: Layer, R: Rows>(layer: &L, rows: &R, graph: &Graph, noted: &mut [Cleared])
+fn note_nodes<L: Layer, R: Rows>(layer: &L, rows: &R, graph: &Graph, noted: &mut [Kinds])
     requires nodes { (L.flow layer.now).nodes ≡ length graph.now.nodes }
     requires count { (L.flow layer.now).nodes ≤ R.count rows.now }
     requires rows { HasElements (L.lattice layer.now) (L.flow layer.now) (R.row_at rows.now) }
@@ -73,7 +73,7 @@ fn cleared<L: Layer, R: Rows>(
     rows: &R,
     graph: &Graph,
     statements: u32,
-) -> Result<Vec<Cleared>, AllocError>
+) -> Result<Vec<Kinds>, AllocError>
     requires nodes { (L.flow layer.now).nodes ≡ length graph.now.nodes }
     requires count { (L.flow layer.now).nodes ≤ R.count rows.now }
     requires rows { HasElements (L.lattice layer.now) (L.flow layer.now) (R.row_at rows.now) }
@@ -82,13 +82,7 @@ fn cleared<L: Layer, R: Rows>(
         → TestsTell (L.flow layer.now) (L.meaning layer.now) (R.row_at rows.now) clears
         → AreClearedTo graph.now clears (length graph.now.nodes) noted.items) }
 {
-    let all = Cleared {
-        size: true,
-        truncation: true,
-        zero: true,
-        class: true,
-    };
-    let mut noted = vec![in alloc; all; statements as usize]?;
+    let mut noted = vec![in alloc; Kinds::all(); statements as usize]?;
     note_nodes(layer, rows, graph, noted.as_mut_slice());
     Ok(noted)
 }

@@ -6,11 +6,8 @@ ghost use Rattle.cert_text.specs.MatrixClaims.{cells_in, sizes_of};
 ghost use Rattle.cert_text.specs.Bounds.{bounds_from, is_on_diagonal, matrix_bounds, row_bounds, word_bounds};
 
 use crate::cert::Bound;
-use diff_bounds::{Pack, words_of};
+use diff_bounds::{NONE, Pack, words_of};
 use std::alloc::{AllocError, Global};
-
-/// The word of no bound.
-const NONE: i128 = 100_000_000_000_000_000_000_000_000_000_000_000_000;
 
 fn is_on_diagonal(size: usize, at: usize) -> bool
     requires { size ≤ 8 }

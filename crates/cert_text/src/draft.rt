@@ -10,6 +10,7 @@ ghost use Rattle.cert_text.specs.View.{view};
 use crate::cert::{Bound, Claim, Element};
 use crate::number::numbers_at;
 use crate::word::{Word, word_at};
+use dec_num::SIZE_LIMIT;
 use diff_bounds::Pack;
 use std::alloc::{AllocError, Global};
 use std::mem;
@@ -203,8 +204,7 @@ fn bound_fits(packs: &[Pack], last: &Key, bound: &Bound) -> bool
     }
     match packs.get(bound.pack as usize - 1) {
         Some(pack) => {
-            places_fit(pack.cells.len(), bound)
-                && bound.most.unsigned_abs() <= 10_000_000_000_000_000_000_000_000_000_000_000_000
+            places_fit(pack.cells.len(), bound) && bound.most.unsigned_abs() <= SIZE_LIMIT
         }
         None => false,
     }

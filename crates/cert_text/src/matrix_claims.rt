@@ -8,13 +8,10 @@ ghost use Rattle.cert_text.specs.MatrixClaims.{HasFittingBounds, cells_in, claim
 ghost use Rattle.cert_text.specs.Written.{AreFrom, IsBoundOf, plain_word};
 
 use crate::cert::{Bound, Element};
-use diff_bounds::{Pack, words_of};
-
-// the word of no bound
-pub(crate) const NONE: i128 = 100_000_000_000_000_000_000_000_000_000_000_000_000;
+use diff_bounds::{LARGEST, NONE, Pack, words_of};
 
 // the least word of a matrix off its diagonal
-pub(crate) const LOWEST: i128 = -10_000_000_000_000_000_000_000_000_000_000_000_000;
+const LOWEST: i128 = -LARGEST;
 
 // Makes the matrix with one word off its diagonal.
 fn set_plain(word: i128, size: usize, m: &mut [i128])

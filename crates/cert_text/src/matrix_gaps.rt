@@ -7,8 +7,7 @@ ghost use Rattle.cert_text.specs.MatrixClaims.{cells_in, sizes_of};
 ghost use Rattle.cert_text.specs.MatrixGaps.{gaps, gaps_from, matrix_gaps, word_gaps};
 
 use crate::gap::Gap;
-use crate::matrix_claims::NONE;
-use diff_bounds::{Pack, words_of};
+use diff_bounds::{NONE, Pack, words_of};
 
 // a word as a number, where it is one
 fn number_of(word: i128) -> Option<i128>

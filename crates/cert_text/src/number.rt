@@ -3,10 +3,11 @@ ghost use Rattle.std.specs.Prelude.{◌≡◌, ◌-◌, ◌<◌, ◌≤◌, ◌^
 ghost use Rattle.std.specs.Option.{option_map};
 ghost use Rattle.cert_text.specs.Reading.{Reads, ◌▷◌, digits_from, number_at, negative, positive, signed_at, PushesNumber, numbers_at};
 
+use dec_num::SIZE_LIMIT;
 use std::alloc::AllocError;
 
 // No number of a certificate is larger in absolute value.
-const LARGEST: u128 = 10_000_000_000_000_000_000_000_000_000_000_000_000;
+const LARGEST: u128 = SIZE_LIMIT;
 
 // A line has at most this many numbers.
 pub const MOST_NUMBERS: usize = 8;

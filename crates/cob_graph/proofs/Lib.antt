@@ -8,3 +8,4 @@ pub mod FirstLemmas
 pub mod CoverLemmas
 pub mod Lengths
 pub mod OneCopy
+pub mod HomeLemmas

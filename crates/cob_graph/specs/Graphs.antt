@@ -1,12 +1,8 @@
 -- The graph of a program: the main copy of its paragraphs, with the copies that PERFORMs lay, and the final node.
-use Rattle.std.specs.Prelude.{◌≡◌, ◌≤◌, ◌<◌, nat_le, min, ℕ, suc, ◌+◌, ◌-◌, if◌then◌else◌, Bool, true, false, List, [], ◌∷◌, ◌++◌, length, map, Option, Some, None}
-use Rattle.cob_tree.specs.declared.form.Form.{Form}
-use Rattle.cob_tree.specs.declared.form.Form.TheVariants as form
+use Rattle.std.specs.Prelude.{◌≡◌, ◌≤◌, ◌<◌, min, ℕ, suc, ◌+◌, ◌-◌, false, List, [], ◌∷◌, ◌++◌, length, map}
 use Rattle.cob_data.specs.declared.end.Which.{Which}
 use Rattle.cob_data.specs.declared.end.Which.TheVariants.{Cells, Nodes}
-use Rattle.cob_data.specs.declared.layout.Item.{Item}
-use Rattle.cob_program.specs.Act.{Turns, times, Stmt, MkStmt, Act, perform, Program}
-use Rattle.cob_program.specs.Statements.{program_statements}
+use Rattle.cob_program.specs.Act.{Program}
 use Rattle.cob_runs.specs.declared.action.Action.{Action}
 use Rattle.cob_runs.specs.declared.action.Cell.{Cell}
 use Rattle.cob_graph.specs.declared.graph.Node.{Node}
@@ -16,6 +12,8 @@ use Rattle.cob_graph.specs.Laid.{LaidParas, paras_size}
 use Rattle.cob_graph.specs.Places.{first_of_para}
 use Rattle.cob_graph.specs.Copies.{AreLaidParas}
 use Rattle.cob_graph.specs.Nodes.{Noded, Copied, paras_nodes}
+use Rattle.cob_graph.specs.Homes.{homes_of, cell_of_home}
+use Rattle.cob_graph.specs.Limits.{most_cells, most_nodes, most_told}
 
 -- ---- nodes and edges
 
@@ -48,47 +46,9 @@ edges_of at (n ∷ ns) = edges_from at n.out ++ edges_of (suc at) ns
 
 -- ---- cells
 
-abbrev pub cell : Option ℕ → ℕ → ℕ → Bool → Cell
-cell item digits scale signed = record { item = item; digits = digits; scale = scale; signed = signed }
-
--- a number, or a text of at most 18 bytes
-abbrev pub cell_of : ℕ → Form → List Cell
-cell_of place (form.Number digits scale signed kept) = cell (Some place) digits scale signed ∷ []
-cell_of place (form.Text n) = if nat_le n 18 then cell (Some place) n 0 false ∷ [] else []
-cell_of place _ = []
-
-abbrev pub if_named : {A : Type 0} → Option A → List Cell → List Cell
-if_named None cs = []
-if_named (Some n) cs = cs
-
--- those of the items from a place on
-abbrev pub item_cells : ℕ → List Item → List Cell
-item_cells place [] = []
-item_cells place (i ∷ items) = if_named i.name (cell_of place i.form) ++ item_cells (suc place) items
-
--- a PERFORM with TIMES has a counter of 18 digits with a sign
-abbrev pub counter : Cell
-counter = cell None 18 0 true
-
-abbrev pub counters_of : Turns → List Cell
-counters_of (times x) = counter ∷ []
-counters_of _ = []
-
--- A statement's own counter, without those of the statements of its lists.
-abbrev pub act_counters : Act → List Cell
-act_counters (perform body turns) = counters_of turns
-act_counters _ = []
-
-abbrev pub stmt_counters : Stmt → List Cell
-stmt_counters (MkStmt number line a) = act_counters a
-
-abbrev pub counters : List Stmt → List Cell
-counters [] = []
-counters (s ∷ ss) = stmt_counters s ++ counters ss
-
 -- those of the items, and then counters in the order of the statements' numbers
 abbrev pub cells_of : Program → List Cell
-cells_of p = item_cells 0 p.layout.items ++ counters (program_statements p)
+cells_of p = map (cell_of_home p.layout) (homes_of p)
 
 -- ---- graphs
 
@@ -125,19 +85,15 @@ OneGraph = (p : Program) (g h : Graph) → IsGraph p g → IsGraph p h → g ≡
 
 -- ---- limits
 
--- a greater count of nodes is told as this
-abbrev pub most_told : ℕ
-most_told = 1000000000
-
 pub record HasTooManyCells (p : Program) (count : ℕ) : Type 0 where
   pub counted : count ≡ length (cells_of p)
-  pub over : 512 < count
+  pub over : most_cells < count
 
 pub record HasTooManyNodes (p : Program) (count : ℕ) : Type 0 where
-  pub cells : length (cells_of p) ≤ 512
+  pub cells : length (cells_of p) ≤ most_cells
   pub nodes : ℕ
   pub counted : HasNodes p nodes
-  pub over : 4096 < nodes
+  pub over : most_nodes < nodes
   pub told : count ≡ min nodes most_told
 
 abbrev pub IsOver : Program → Which → ℕ → Type 0

@@ -2,6 +2,8 @@ pub mod Laid
 pub mod Places
 pub mod Nodes
 pub mod Copies
+pub mod Homes
+pub mod Limits
 pub mod Graphs
 pub mod Nesting
 pub mod Lookup

@@ -3,7 +3,7 @@ use Rattle.std.proofs.Common.{ℕ, List, ◌≡◌, ◌<◌, min}
 use Rattle.cob_program.specs.Act.{Program, Stmt, Stmts, Whens, Body}
 use Rattle.cob_graph_build.specs.declared.counting.Entry.{Entry}
 use Rattle.cob_graph.specs.Laid.{size, list_size, whens_size, body_size}
-use Rattle.cob_graph.specs.Graphs.{most_told}
+use Rattle.cob_graph.specs.Limits.{most_told}
 use Rattle.cob_graph_build.specs.Sizes.{stmt_size, stmts_size, stmt_whens_size, stmt_body_size}
 use Rattle.cob_graph_build.specs.Tables.{lay_stmt, lay_list, lay_whens, lay_body, size_in, copy_in, IsTable}
 use Rattle.cob_graph_build.proofs.Cuts.{uncut}

@@ -12,7 +12,8 @@ use Rattle.cob_graph.specs.declared.graph.Graph.{Graph}
 use Rattle.cob_graph.specs.Laid.{LaidParas, paras_size}
 use Rattle.cob_graph.specs.Places.{first_of_para}
 use Rattle.cob_graph.specs.Nodes.{Copied, Noded, paras_nodes}
-use Rattle.cob_graph.specs.Graphs.{last_para, final_of, main_copy, final_node, all_nodes, as_node, edges_of, cells_of, IsMainCopy, IsGraph, IsOver, HasNodes, HasTooManyNodes, HasTooManyCells, most_told}
+use Rattle.cob_graph.specs.Graphs.{last_para, final_of, main_copy, final_node, all_nodes, as_node, edges_of, cells_of, IsMainCopy, IsGraph, IsOver, HasNodes, HasTooManyNodes, HasTooManyCells}
+use Rattle.cob_graph.specs.Limits.{most_told, most_cells, most_nodes}
 use Rattle.cob_graph_build.specs.Sizes.{range_size, range_fits}
 use Rattle.cob_graph_build.specs.Tables.{lay_paras, copy_in, is_in, size_in, main_paras, IsTable}
 use mathlib.Core.Path.{fun_ext}
@@ -41,13 +42,13 @@ module _ (p : Program) (es : List Entry) (paras sum count : ℕ) (h : IsTable p 
   pub all_told : count ≡ min (final_of (main_paras p es)) most_told
   all_told = told
 
-  pub too_many : length (cells_of p) ≤ 512 → range_fits (is_in es) 0 (paras - 1) p 0 (paras - 0) ≡ true →
-      4096 < count → HasTooManyNodes p count
+  pub too_many : length (cells_of p) ≤ most_cells → range_fits (is_in es) 0 (paras - 1) p 0 (paras - 0) ≡ true →
+      most_nodes < count → HasTooManyNodes p count
   too_many few fits over = record {
     cells = few;
     nodes = final_of (main_paras p es);
     counted = record { copies = main_paras p es; laid = main_laid p es paras h is fits; counted = refl };
-    over = counted_more most_told count (final_of (main_paras p es)) 4096 told over;
+    over = counted_more most_told count (final_of (main_paras p es)) most_nodes told over;
     told = told;
   }
 
@@ -130,15 +131,15 @@ module _ {T : Type 0} (p : Program) (told_ : ℕ) (r : Result T FlowEnd) where
 pub in_limits : (p : Program) (es : List Entry) (g : Graph) (told_ : ℕ) → IsMainCopy p (main_paras p es) →
     g.nodes ≡ map as_node (all_nodes p (main_paras p es)) → g.edges ≡ edges_of 1 (all_nodes p (main_paras p es)) →
     g.cells ≡ cells_of p →
-    told_ ≡ min (final_of (main_paras p es)) most_told → told_ ≤ 4096 → length (cells_of p) ≤ 512 → IsWithinLimits g
+    told_ ≡ min (final_of (main_paras p es)) most_told → told_ ≤ most_nodes → length (cells_of p) ≤ most_cells → IsWithinLimits g
 in_limits p es g told_ laid nodes edges cells counted fits few = record {
-  cells = subst (λ n. n ≤ 512) (ap (λ cs. length cs) (sym cells)) few;
-  nodes = subst (λ n. n ≤ 4096) (final_is p g (record {
+  cells = subst (λ n. n ≤ most_cells) (ap (λ cs. length cs) (sym cells)) few;
+  nodes = subst (λ n. n ≤ most_nodes) (final_is p g (record {
     copies = main_paras p es;
     laid = laid;
     nodes = nodes;
     edges = edges;
     cells = cells;
   }))
-      (counted_most most_told told_ (final_of (main_paras p es)) 4096 counted (omega arith) fits);
+      (counted_most most_told told_ (final_of (main_paras p es)) most_nodes counted (omega arith) fits);
 }

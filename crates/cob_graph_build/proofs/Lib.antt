@@ -1,4 +1,3 @@
-mod CellLemmas
 mod Counts
 mod Cuts
 mod Exact

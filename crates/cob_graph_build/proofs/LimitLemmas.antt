@@ -8,7 +8,8 @@ use Rattle.cob_program.specs.Act.{Program}
 use Rattle.cob_graph.specs.declared.end.FlowEnd.{FlowEnd}
 use Rattle.cob_graph.specs.declared.end.FlowEnd.TheVariants as end
 use Rattle.cob_graph.specs.declared.graph.Graph.{Graph}
-use Rattle.cob_graph.specs.Graphs.{final_of, most_told, IsGraph, IsOver}
+use Rattle.cob_graph.specs.Graphs.{final_of, IsGraph, IsOver}
+use Rattle.cob_graph.specs.Limits.{most_told}
 use Rattle.cob_graph.proofs.Lengths.{final_is}
 use Rattle.cob_graph.proofs.OneCopy.{one_main_copy, one_count}
 use Rattle.cob_graph_build.specs.Limits.{IsWithinLimits}

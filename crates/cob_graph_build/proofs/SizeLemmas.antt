@@ -9,7 +9,7 @@ use Rattle.cob_runs.specs.Steps.{body_at}
 use Rattle.cob_graph_build.specs.declared.counting.Entry.{Entry}
 use Rattle.cob_graph.specs.Laid.{LaidParas, no_laid_paras, tests_in, tests_among, loop_nodes, one_if, size, list_size, phrase_size, act_size, whens_size, body_size, paras_size}
 use Rattle.cob_graph.specs.Copies.{IsLaid, AreLaid, IsLaidPhrase, IsLaidAct, AreLaidWhens, IsLaidBody, AreLaidParas}
-use Rattle.cob_graph.specs.Graphs.{most_told}
+use Rattle.cob_graph.specs.Limits.{most_told}
 use Rattle.cob_graph_build.specs.Sizes.{stmt_size, stmts_size, list_size_if, stmt_act_size, when_size, stmt_whens_size, stmt_body_size, range_size, stmt_fits, act_fits, body_fits, all_fit, range_fits}
 use Rattle.cob_graph_build.proofs.Cuts.{Alike, alike_sum, alike_more, twice_cut}
 use Rattle.cob_graph_build.specs.Tables.{lay_stmt, lay_list, lay_phrase, lay_act, lay_whens, lay_body, lay_paras, is_for, told_size, size_in, is_in, copy_in, rest_in, is_entry, is_table, IsTable}

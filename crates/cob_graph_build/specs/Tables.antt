@@ -6,7 +6,7 @@ use Rattle.cob_runs.specs.Steps.{body_at}
 use Rattle.cob_graph_build.specs.declared.counting.Entry.{Entry}
 use Rattle.cob_graph.specs.Laid.{Laid, MkLaid, LaidList, no_laid, more_laid, LaidPhrase, no_phrase, a_phrase, LaidAct, moving, showing, skipping, going, ending, computing, deciding, choosing, performing, opening, closing, reading, writing, LaidWhens, no_laid_whens, more_laid_whens, LaidBody, own_list, copy, LaidParas, no_laid_paras, more_laid_paras, list_size, paras_size}
 use Rattle.cob_graph.specs.Copies.{file_of}
-use Rattle.cob_graph.specs.Graphs.{most_told}
+use Rattle.cob_graph.specs.Limits.{most_told}
 use Rattle.cob_graph_build.specs.Sizes.{range_size, range_fits}
 
 -- ---- statements with copies written in

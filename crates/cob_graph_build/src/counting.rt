@@ -6,10 +6,11 @@ ghost use Rattle.cob_program.specs.LogicView.{plain_logic, plain_logics};
 ghost use Rattle.cob_program.specs.Statements.{list_statements, plain_references};
 ghost use Rattle.cob_runs.specs.Steps.{body_at};
 ghost use Rattle.cob_graph.specs.Laid.{tests_in, tests_among, loop_nodes, how_many, one_if};
-ghost use Rattle.cob_graph.specs.Graphs.{most_told};
+ghost use Rattle.cob_graph.specs.Limits.{most_told};
 ghost use Rattle.cob_graph_build.specs.Sizes.{stmts_size, stmt_size, stmt_act_size, when_size, stmt_whens_size, stmt_body_size, range_size, stmt_fits, act_fits, body_fits, all_fit, range_fits};
 ghost use Rattle.cob_graph_build.specs.Tables.{is_for, told_size, size_in, is_in, IsTable};
 
+use cob_graph::MOST_TOLD;
 use cob_program::{Act, Body, Logic, Para, Program, Stmt, Turns, When};
 use std::alloc::{AllocError, Global};
 
@@ -20,9 +21,6 @@ pub struct Entry {
     pub last: u32,
     pub size: u64,
 }
-
-/// A greater count is told as this.
-pub const MOST_TOLD: u64 = 1_000_000_000;
 
 /// More steps than it takes to put the ranges of any program in the table.
 const MOST_STEPS: u64 = 1_000_000_000_000;

@@ -6,6 +6,7 @@ ghost use Rattle.cob_program.specs.ActView.{plain_program};
 ghost use Rattle.cob_graph.specs.declared.end.FlowEnd.TheVariants as end;
 ghost use Rattle.cob_graph.specs.Nesting.{IsNested};
 ghost use Rattle.cob_graph.specs.Graphs.{final_of, all_nodes, as_node, edges_of, cells_of, IsGraph, IsOver};
+ghost use Rattle.cob_graph.specs.Limits.{most_cells};
 ghost use Rattle.cob_graph_build.specs.Limits.{IsWithinLimits};
 ghost use Rattle.cob_graph_build.specs.Sizes.{range_fits};
 ghost use Rattle.cob_graph_build.specs.Tables.{is_in, main_paras, IsTable};
@@ -15,17 +16,11 @@ use crate::counting::{Entry, plus, range_fits, range_size, table_of};
 use crate::laying::Laying;
 use crate::within::Within;
 use cob_data::Which;
-use cob_graph::{Edge, FlowEnd, Graph, Node};
+use cob_graph::{Edge, FlowEnd, Graph, MOST_CELLS, MOST_NODES, Node};
 use cob_program::Program;
 use cob_runs::Cell;
 use cob_tree::Many;
 use std::alloc::{AllocError, Global};
-
-/// More cells are refused.
-const MOST_CELLS: u64 = 512;
-
-/// More nodes are refused.
-const MOST_NODES: u64 = 4096;
 
 /// How deep calls are nested at most while nodes are laid.
 const DEPTH: u32 = 40_000;
@@ -74,7 +69,7 @@ fn graph_with(
     requires fits { range_fits (is_in table.now) 0 (paras - 1) (plain_program program.now) 0 (paras - 0) ≡ true }
     requires paras { paras ≡ length (plain_program program.now).paras }
     requires cells { cells.items ≡ cells_of (plain_program program.now) }
-    requires few { length cells.items ≤ 512 }
+    requires few { length cells.items ≤ most_cells }
     ensures graph { IfOk result (λ g. IsGraph (plain_program program.now) g) }
     ensures within { IfOk result (λ g. IsWithinLimits g) }
     ensures limit { (which : Which) (count : ℕ) → result ≡ Err (end.Limit which count) →
@@ -102,7 +97,7 @@ fn graph_with(
 fn laid(alloc: Global, program: &Program, cells: Vec<Cell>, paras: usize) -> Result<Graph, FlowEnd>
     requires paras { paras ≡ length (plain_program program.now).paras }
     requires cells { cells.items ≡ cells_of (plain_program program.now) }
-    requires few { length cells.items ≤ 512 }
+    requires few { length cells.items ≤ most_cells }
     ensures graph { IfOk result (λ g. IsGraph (plain_program program.now) g) }
     ensures within { IfOk result (λ g. IsWithinLimits g) }
     ensures limit { (which : Which) (count : ℕ) → result ≡ Err (end.Limit which count) →

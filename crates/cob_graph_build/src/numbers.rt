@@ -1,8 +1,8 @@
 //! Numbers of nodes. What would be too great for them counts as want of memory; the limits come long before.
 ghost use Rattle.std.specs.Prelude.{◌≡◌, ◌+◌, ◌<◌, IfOk};
-ghost use Rattle.cob_graph.specs.Graphs.{most_told};
+ghost use Rattle.cob_graph.specs.Limits.{most_told};
 
-use crate::counting::MOST_TOLD;
+use cob_graph::MOST_TOLD;
 use std::alloc::AllocError;
 
 /// The sum.

@@ -19,8 +19,7 @@ use Rattle.cob_graph.specs.Graphs.{all_nodes}
 use Rattle.cob_graph.specs.WellFormed.{Begins, FirstBegins}
 use Rattle.cob_graph.specs.Lookup.{node_at}
 use Rattle.cob_graph_laws.proofs.Fronts.{Runs, front, back}
-use Rattle.cob_graph.proofs.Lengths.{joined}
-use Rattle.cob_graph.proofs.Lengths.{length-logic}
+use Rattle.cob_graph.proofs.Lengths.{joined, length-logic}
 use Rattle.cob_graph_laws.proofs.Relation.{Setting, choice, Way, Meets, Stand}
 use Rattle.cob_graph_laws.proofs.Ways.{so_far, IsNode, leaves, meets, by_act}
 

@@ -17,9 +17,8 @@ use Rattle.cob_graph.specs.Graphs.{all_nodes, as_node, final_of, final_node, las
 use Rattle.cob_graph.specs.Lookup.{node_at}
 use Rattle.cob_graph_laws.specs.Ways.{at_first, ComesExactly, Shows, RunsAreWays}
 use Rattle.cob_graph_laws.proofs.Fronts.{front, back, whole}
-use Rattle.cob_graph.proofs.Lengths.{final_is}
+use Rattle.cob_graph.proofs.Lengths.{final_is, length-list}
 use Rattle.cob_graph_laws.proofs.InGraphs.{node_there}
-use Rattle.cob_graph.proofs.Lengths.{length-list}
 use Rattle.cob_graph_laws.proofs.Relation.{Setting, choice, Way, Within, Stand, Here, Stands, Standing, Goes, Comes_by}
 use Rattle.cob_graph_laws.proofs.Settling.{IsReady, settled_ready, settling, part, whole_in}
 use Rattle.cob_graph_laws.proofs.Statements.{Leads}

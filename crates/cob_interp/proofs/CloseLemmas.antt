@@ -19,7 +19,7 @@ use Rattle.cob_runs.specs.Effects.{effect, status, is_handled, act_at}
 use Rattle.cob_interp.specs.declared.ends.RunEnd.{RunEnd}
 use Rattle.cob_interp.specs.declared.ends.RunEnd.TheVariants as end
 use Rattle.cob_interp.specs.declared.setting.Setting.{Setting}
-use Rattle.cob_interp.specs.declared.setting.Place.{Place}
+use Rattle.cob_interp.specs.declared.setting.Standing.{Standing}
 use Rattle.cob_interp.specs.Told.{seen_files, AreSynced, IsSynced, AreDistinct, AgreeBut, IsOut}
 use Rattle.cob_interp.specs.Runs.{Outside, outside}
 use Rattle.cob_interp.specs.Running.{IsWell, Halts, StandsIn, RestsIn}
@@ -68,7 +68,7 @@ own_synced told paths fs place path f s at has =
     let same : sees.0 ≡ path = cc in
     subst (λ (x : List ℕ). IsSynced told x f) same sees.3
 
-module _ (s : Setting) (budget : ℕ) (x : Place) (step node : ℕ) (sink : SinkState) (old new : FilesState) (w v : World)
+module _ (s : Setting) (budget : ℕ) (x : Standing) (step node : ℕ) (sink : SinkState) (old new : FilesState) (w v : World)
     (apart : AreDistinct (paths_of s)) (is : IsPlace s node x) (k fine bad file : ℕ) (fs : List ℕ)
     (op_is : x.plan_node.now.op ≡ op.Close k fine bad) (its : plain_act x.statement.now.act.now ≡ close_files fs)
     (at : slice_get fs k ≡ Some file) (ready : GoesOut s w file old new) where

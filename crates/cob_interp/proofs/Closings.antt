@@ -23,7 +23,7 @@ use Rattle.cob_runs.specs.Effects as effects
 use Rattle.cob_world.specs.Calling.{refilled, refilled_on}
 use Rattle.cob_interp.specs.declared.ends.RunEnd.{RunEnd}
 use Rattle.cob_interp.specs.declared.setting.Setting.{Setting}
-use Rattle.cob_interp.specs.declared.setting.Place.{Place}
+use Rattle.cob_interp.specs.declared.setting.Standing.{Standing}
 use Rattle.cob_interp.specs.Setting.{program_of}
 use Rattle.cob_interp.specs.Doing.{answered, DoesPart}
 use Rattle.cob_interp.specs.Ends.{UnlessRefused}
@@ -243,7 +243,7 @@ module _ (p : Program) (number k : ℕ) (w v : World) where
 
 -- ---- the part of a node
 
-module _ (s : Setting) (x : Place) (step : ℕ) (w v : World) where
+module _ (s : Setting) (x : Standing) (step : ℕ) (w v : World) where
   abbrev Out : Op → Action → ℕ → Type 0
   Out o a m = Contains (op_edges o) (a, m)
 

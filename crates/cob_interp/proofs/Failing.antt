@@ -13,7 +13,7 @@ use Rattle.cob_interp.specs.declared.ends.RunEnd.{RunEnd}
 use Rattle.cob_interp.specs.declared.ends.RunEnd.TheVariants as end
 use Rattle.cob_interp.specs.declared.parts.Call.TheVariants as call
 use Rattle.cob_interp.specs.declared.setting.Setting.{Setting}
-use Rattle.cob_interp.specs.declared.setting.Place.{Place}
+use Rattle.cob_interp.specs.declared.setting.Standing.{Standing}
 use Rattle.cob_interp.specs.Doing.{answered, halted, DoesPart}
 use Rattle.cob_interp.specs.Meeting.{reads_files, writes_files, IsMetIn, IsMetBy, IfFailed, IsFailureBy, FailsBy, shows_first, end_behind}
 use Rattle.cob_interp.specs.Reached.{last_opened, last_of}
@@ -85,7 +85,7 @@ answered_fine statement step (Ok node) = tt
 answered_fine statement step (Err e) = halted_fine statement step e
 
 -- No fault of the outside is met there.
-pub part_fine : (s : Setting) (x : Place) (step : ℕ) (w v : World) (r : Result ℕ RunEnd) → DoesPart s x step w v r
+pub part_fine : (s : Setting) (x : Standing) (step : ℕ) (w v : World) (r : Result ℕ RunEnd) → DoesPart s x step w v r
     → IfFailed r ⊥
 part_fine s x step w v r done =
     subst (λ (q : Result ℕ RunEnd). IfFailed q ⊥) (sym done.told)

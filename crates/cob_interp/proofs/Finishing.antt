@@ -21,7 +21,7 @@ use Rattle.cob_interp.specs.declared.ends.Ending.{Ending}
 use Rattle.cob_interp.specs.declared.ends.RunEnd.{RunEnd}
 use Rattle.cob_interp.specs.declared.ends.RunEnd.TheVariants as end
 use Rattle.cob_interp.specs.declared.setting.Setting.{Setting}
-use Rattle.cob_interp.specs.declared.setting.Place.{Place}
+use Rattle.cob_interp.specs.declared.setting.Standing.{Standing}
 use Rattle.cob_interp.specs.declared.walk.Halt.{Halt}
 use Rattle.cob_interp.specs.declared.walk.Halt.TheVariants as halt
 use Rattle.cob_interp.specs.Setting.{program_of, paths_of, StartsAt}
@@ -466,7 +466,7 @@ sink_runs p g paths budget start now w e off = refused_runs p g paths budget sta
 
 -- ---- a step of a setting
 
-module _ (s : Setting) (budget steps node : ℕ) (x : Place) (starts : StartsAt s node x) (within : steps < budget)
+module _ (s : Setting) (budget steps node : ℕ) (x : Standing) (starts : StartsAt s node x) (within : steps < budget)
     (start : Outside)
     (files : FilesState) (old new : SinkState) (w v : World)
     (here : IsAt (program_of s) s.graph.now (paths_of s) budget start (outside files old) w steps node) where
@@ -515,7 +515,7 @@ module _ (s : Setting) (budget steps node : ℕ) (x : Place) (starts : StartsAt 
         met first still stands (takes stands) h rest
 
 -- the budget is spent
-pub budget_spent : (s : Setting) (budget node : ℕ) (x : Place) → StartsAt s node x → (start now : Outside) (w : World)
+pub budget_spent : (s : Setting) (budget node : ℕ) (x : Standing) → StartsAt s node x → (start now : Outside) (w : World)
     → IsAt (program_of s) s.graph.now (paths_of s) budget start now w budget node
     → HaltsOff (program_of s) s.graph.now (paths_of s) budget start now w (Err (end.StepsSpent budget))
 budget_spent s budget node x starts start now w here =

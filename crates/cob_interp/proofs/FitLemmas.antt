@@ -25,7 +25,7 @@ use Rattle.cob_interp.specs.declared.parts.Call.TheVariants as call
 use Rattle.cob_interp.specs.declared.ends.RunEnd.{RunEnd}
 use Rattle.cob_interp.specs.declared.ends.RunEnd.TheVariants as end
 use Rattle.cob_interp.specs.declared.setting.Setting.{Setting}
-use Rattle.cob_interp.specs.declared.setting.Place.{Place}
+use Rattle.cob_interp.specs.declared.setting.Standing.{Standing}
 use Rattle.cob_interp.specs.Setting.{IsReady, IsPlace, FitsPlace, StartsAt, IsUncalled, is_uncalled, IsCall, IsWayOn, LeadsOn, LeadsBy, OpensAt, program_of, paths_of}
 use Rattle.cob_interp.specs.Runs.{Outside}
 use Rattle.cob_interp.specs.Running.{IsAt, HaltsOff}
@@ -174,7 +174,7 @@ plan_node_at g ns zero x are is = cc
 plan_node_at g ns (suc i) x are is = are.each i x is
 
 -- how an operation's node leads on
-pub part_on : (s : Setting) (x : Place) (step : ℕ) (w v : World) (r : Result ℕ RunEnd) → DoesPart s x step w v r
+pub part_on : (s : Setting) (x : Standing) (step : ℕ) (w v : World) (r : Result ℕ RunEnd) → DoesPart s x step w v r
     → LeadsBy s x.plan_node.now.op r
 part_on s x step w v r d from statement led =
     subst (LeadsOn s from statement) (sym d.told) (by d.outcome d.does) where
@@ -183,7 +183,7 @@ part_on s x step w v r d from statement led =
       by (Ok to) done = led done.action to done.out
       by (Err e) done = tt
 
-pub part_way : (s : Setting) (x : Place) (step : ℕ) (w v : World) (r : Result ℕ RunEnd) → DoesPart s x step w v r
+pub part_way : (s : Setting) (x : Standing) (step : ℕ) (w v : World) (r : Result ℕ RunEnd) → DoesPart s x step w v r
     → IsWayOn x.plan_node.now.op r
 part_way s x step w v r d = subst (IsWayOn x.plan_node.now.op) (sym d.told) (by d.outcome d.does) where
   by : (o : Result ℕ DoEnd) → Does (program_of s) x.statement.now.number x.plan_node.now.op w v o
@@ -219,7 +219,7 @@ rest_starts ns node x rest below is =
 
 -- ---- places of a step
 
-module _ (s : Setting) (node : ℕ) (x : Place) (is : IsPlace s node x) (fits : FitsPlace s node x) where
+module _ (s : Setting) (node : ℕ) (x : Standing) (is : IsPlace s node x) (fits : FitsPlace s node x) where
   -- its statement, by the number that the step has
   number_is : (statement : ℕ) → IsWithin s.plan.nodes.items node statement → x.statement.now.number ≡ statement
   number_is statement within = is.number ∙ within.own x.plan_node.now fits.at

@@ -9,7 +9,7 @@ use Rattle.cob_runs.specs.Effects.{effect, status, is_handled, act_at}
 use Rattle.cob_interp.specs.declared.ends.RunEnd.{RunEnd}
 use Rattle.cob_interp.specs.declared.ends.RunEnd.TheVariants as end
 use Rattle.cob_interp.specs.declared.setting.Setting.{Setting}
-use Rattle.cob_interp.specs.declared.setting.Place.{Place}
+use Rattle.cob_interp.specs.declared.setting.Standing.{Standing}
 use Rattle.cob_interp.specs.Told.{AreDistinct}
 use Rattle.cob_interp.specs.Runs.{Outside}
 use Rattle.cob_interp.specs.Running.{RestsIn}
@@ -19,7 +19,7 @@ use Rattle.cob_interp.proofs.Following.{plain_edge}
 use Rattle.cob_interp.proofs.Passing.{stands_on, rests_on}
 use Rattle.cob_interp.proofs.Onward.{plain_goes, plain_faults, plain_stops}
 
-module _ (s : Setting) (budget : ℕ) (x : Place) (step node : ℕ) (now : Outside) (w v : World)
+module _ (s : Setting) (budget : ℕ) (x : Standing) (step node : ℕ) (now : Outside) (w v : World)
     (apart : AreDistinct (paths_of s))
     (is : IsPlace s node x) (plain : IsPlain x.plan_node.now.op (plain_act x.statement.now.act.now)) where
   own : x.statement.now.number ≡ is.plan_node.node.statement

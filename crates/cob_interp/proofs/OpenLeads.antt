@@ -17,7 +17,7 @@ use Rattle.cob_runs.specs.Effects.{effect, status, is_handled, act_at}
 use Rattle.cob_interp.specs.declared.ends.RunEnd.{RunEnd}
 use Rattle.cob_interp.specs.declared.ends.RunEnd.TheVariants as end
 use Rattle.cob_interp.specs.declared.setting.Setting.{Setting}
-use Rattle.cob_interp.specs.declared.setting.Place.{Place}
+use Rattle.cob_interp.specs.declared.setting.Standing.{Standing}
 use Rattle.cob_interp.specs.Told.{AreDistinct, AgreeBut, IsReadyToOpen}
 use Rattle.cob_interp.specs.Ends.{told_files}
 use Rattle.cob_interp.specs.Tracking.{Ids}
@@ -34,7 +34,7 @@ use Rattle.cob_interp.proofs.Onward.{goes_where, goes_over, stopped_by}
 use Rattle.cob_interp.proofs.CallsLead.{EdgeFollows, open_edge, others_keep}
 use Rattle.cob_interp.proofs.CloseLemmas.{own_synced}
 
-module _ (s : Setting) (budget : ℕ) (x : Place) (step node : ℕ) (sink : SinkState) (old new : FilesState) (w u_ v : World)
+module _ (s : Setting) (budget : ℕ) (x : Standing) (step node : ℕ) (sink : SinkState) (old new : FilesState) (w u_ v : World)
     (apart : AreDistinct (paths_of s)) (is : IsPlace s node x) (k fine bad : ℕ) (o : Opening) (os : List Opening)
     (op_is : x.plan_node.now.op ≡ op.Open k fine bad) (its : plain_act x.statement.now.act.now ≡ open_files os)
     (at : slice_get os k ≡ Some o) (before after : Ids)

@@ -27,7 +27,7 @@ use Rattle.cob_runs.specs.declared.action.Action.{Action}
 use Rattle.cob_runs.specs.Effects.{Effect, act_at, effect, effect_of}
 use Rattle.cob_interp.specs.declared.ends.RunEnd.{RunEnd}
 use Rattle.cob_interp.specs.declared.setting.Setting.{Setting}
-use Rattle.cob_interp.specs.declared.setting.Place.{Place}
+use Rattle.cob_interp.specs.declared.setting.Standing.{Standing}
 use Rattle.cob_interp.specs.Setting.{program_of, paths_of}
 use Rattle.cob_interp.specs.Doing.{IsPlain, DoesPart}
 use Rattle.cob_interp.proofs.Onward.{effect_by_act}
@@ -228,7 +228,7 @@ placed_ends paths old new before after fs gs place ends placed stand is = record
 
 -- ---- the part of a node
 
-module _ (s : Setting) (x : Place) (step : ℕ) (w v : World) (b : Act)
+module _ (s : Setting) (x : Standing) (step : ℕ) (w v : World) (b : Act)
     (its : act_at (program_of s) x.statement.now.number ≡ Some b) (result : Result ℕ RunEnd)
     (does : DoesPart s x step w v result) where
   -- where no file is opened, closed or read

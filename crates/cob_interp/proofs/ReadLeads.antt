@@ -19,7 +19,7 @@ use Rattle.cob_runs.specs.Effects.{effect, status, is_handled, act_at}
 use Rattle.cob_interp.specs.declared.ends.RunEnd.{RunEnd}
 use Rattle.cob_interp.specs.declared.ends.RunEnd.TheVariants as end
 use Rattle.cob_interp.specs.declared.setting.Setting.{Setting}
-use Rattle.cob_interp.specs.declared.setting.Place.{Place}
+use Rattle.cob_interp.specs.declared.setting.Standing.{Standing}
 use Rattle.cob_interp.specs.Told.{seen, AreSynced}
 use Rattle.cob_interp.specs.Readying.{AreWell}
 use Rattle.cob_interp.specs.Runs.{Outside, outside}
@@ -47,7 +47,7 @@ stands_moved p g paths start sink old new w left begun node well same s = record
       (sym same) s.told;
 }
 
-module _ (s : Setting) (budget : ℕ) (x : Place) (step node : ℕ) (sink : SinkState) (old new : FilesState)
+module _ (s : Setting) (budget : ℕ) (x : Standing) (step node : ℕ) (sink : SinkState) (old new : FilesState)
     (w given mid : World) (change : World → World) (is : IsPlace s node x) (found end_to bad f : ℕ) (into : Option ℕ)
     (end_ : Phrase) (fine : Stmts) (op_is : x.plan_node.now.op ≡ op.Read found end_to bad)
     (its : plain_act x.statement.now.act.now ≡ read f into end_ fine) (well : AreWell old new)

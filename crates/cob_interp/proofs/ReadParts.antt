@@ -11,7 +11,7 @@ use Rattle.cob_interp.specs.declared.ends.RunEnd.{RunEnd}
 use Rattle.cob_interp.specs.declared.ends.RunEnd.TheVariants as end
 use Rattle.cob_interp.specs.declared.parts.Call.TheVariants as call
 use Rattle.cob_interp.specs.declared.setting.Setting.{Setting}
-use Rattle.cob_interp.specs.declared.setting.Place.{Place}
+use Rattle.cob_interp.specs.declared.setting.Standing.{Standing}
 use Rattle.cob_interp.specs.Tracking.{Ids, AreOpen, ArePlaced, AreWritten, AreLeft, KeepsPlaces}
 use Rattle.cob_interp.specs.Readying.{HasRest, IsRestOr, IsReadOn, IsSize, settled}
 use Rattle.cob_interp.specs.Doing.{DoesPart, DoesRead, ReadsPart}
@@ -22,7 +22,7 @@ use Rattle.cob_interp.proofs.Placing.{read_done, read_placed, idle_placed}
 use Rattle.cob_interp.proofs.RecordReads.{read_act, on_file}
 
 -- where the next record isn't given, the world is as it was
-module _ (s : Setting) (x : Place) (step : ℕ) (old new : FilesState) (ids : Ids) (f size before : ℕ) (w : World)
+module _ (s : Setting) (x : Standing) (step : ℕ) (old new : FilesState) (ids : Ids) (f size before : ℕ) (w : World)
     (is : IsSize s f size) where
   pub rest_part : (e : RunEnd) → IsRestOr old new ids f size before e → ReadsPart s x step old new ids f before w w
       (Err e)
@@ -39,7 +39,7 @@ module _ (s : Setting) (x : Place) (step : ℕ) (old new : FilesState) (ids : Id
   rest_part (end.Fault kind statement step_) refused = absurd refused
 
 -- ids stand where the files are read
-module _ (s : Setting) (node : ℕ) (x : Place) (starts : StartsAt s node x) (f : ℕ)
+module _ (s : Setting) (node : ℕ) (x : Standing) (starts : StartsAt s node x) (f : ℕ)
     (reads : IsCall (plain_act x.statement.now.act.now) (call.Read f)) (step found end_to bad : ℕ)
     (op_is : x.plan_node.now.op ≡ op.Read found end_to bad) (old new : FilesState) (ids : Ids) (w : World)
     (placed : ArePlaced (paths_of s) old ids w.files) where

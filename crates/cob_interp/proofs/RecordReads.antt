@@ -16,7 +16,7 @@ use Rattle.cob_interp.specs.declared.ends.RunEnd.{RunEnd}
 use Rattle.cob_interp.specs.declared.ends.RunEnd.TheVariants as end
 use Rattle.cob_interp.specs.declared.parts.Call.TheVariants as call
 use Rattle.cob_interp.specs.declared.setting.Setting.{Setting}
-use Rattle.cob_interp.specs.declared.setting.Place.{Place}
+use Rattle.cob_interp.specs.declared.setting.Standing.{Standing}
 use Rattle.cob_interp.specs.Ends.{is_cut, cut_file}
 use Rattle.cob_interp.specs.Told.{seen, seen_file, seen_files, AreSynced, AreDistinct}
 use Rattle.cob_interp.specs.Tracking.{Ids, ArePlaced}
@@ -133,7 +133,7 @@ read_act _ f is = absurd is
 
 -- ---- all of it
 
-module _ (s : Setting) (node : ℕ) (x : Place) (starts : StartsAt s node x) (apart : AreDistinct (paths_of s)) (f : ℕ)
+module _ (s : Setting) (node : ℕ) (x : Standing) (starts : StartsAt s node x) (apart : AreDistinct (paths_of s)) (f : ℕ)
     (reads : IsCall (plain_act x.statement.now.act.now) (call.Read f)) (budget steps step : ℕ)
     (counted : step ≡ steps + 1) (within : steps < budget) (start : Outside) (sink : SinkState)
     (old new : FilesState) (w : World)

@@ -16,7 +16,7 @@ use Rattle.cob_interp.specs.declared.ends.RunEnd.{RunEnd}
 use Rattle.cob_interp.specs.declared.ends.RunEnd.TheVariants as end
 use Rattle.cob_interp.specs.declared.parts.Call.TheVariants as call
 use Rattle.cob_interp.specs.declared.setting.Setting.{Setting}
-use Rattle.cob_interp.specs.declared.setting.Place.{Place}
+use Rattle.cob_interp.specs.declared.setting.Standing.{Standing}
 use Rattle.cob_interp.specs.Told.{seen, seen_files, AreSynced}
 use Rattle.cob_interp.specs.Ends.{cut_file, cut_by}
 use Rattle.cob_interp.specs.Runs.{Outside}
@@ -98,7 +98,7 @@ free_other (show xs) is = tt
 
 -- ---- from the node on
 
-module _ (s : Setting) (node : ℕ) (x : Place) (is : StartsAt s node x) where
+module _ (s : Setting) (node : ℕ) (x : Standing) (is : StartsAt s node x) where
   abbrev act_ : Act
   act_ = plain_act x.statement.now.act.now
 

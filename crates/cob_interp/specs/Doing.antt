@@ -6,7 +6,7 @@ use Rattle.cob_plan.specs.declared.node.Op.TheVariants as op
 use Rattle.cob_plan.specs.declared.end.DoEnd.{DoEnd}
 use Rattle.cob_plan.specs.declared.end.DoEnd.TheVariants as does
 use Rattle.cob_plan.specs.Doing.{Does}
-use Rattle.cob_interp.specs.declared.setting.Place.{Place}
+use Rattle.cob_interp.specs.declared.setting.Standing.{Standing}
 use Rattle.cob_program.specs.Act.{Act, open_files, close_files, read}
 use Rattle.cob_runs.specs.State.{World, with_files}
 use Rattle.cob_interp.specs.declared.ends.RunEnd.{RunEnd}
@@ -50,7 +50,7 @@ answered statement step (Ok node) = Ok node
 answered statement step (Err e) = Err (halted statement step e)
 
 -- A node's part is done, or it is told why not.
-pub record DoesPart (s : Setting) (x : Place) (step : ℕ) (w v : World) (result : Result ℕ RunEnd) : Type 0 where
+pub record DoesPart (s : Setting) (x : Standing) (step : ℕ) (w v : World) (result : Result ℕ RunEnd) : Type 0 where
   pub outcome : Result ℕ DoEnd
   pub does : Does (program_of s) x.statement.now.number x.plan_node.now.op w v outcome
   pub told : result ≡ answered x.statement.now.number step outcome
@@ -77,7 +77,7 @@ IsRaggedAt s files w file (end.Ragged place count) =
 IsRaggedAt s files w file _ = ⊥
 
 -- A READ's part is done with the next record, or nothing, in place of what the file holds.
-pub record DoesRead (s : Setting) (x : Place) (step : ℕ) (old new : FilesState) (ids : Ids) (file before : ℕ)
+pub record DoesRead (s : Setting) (x : Standing) (step : ℕ) (old new : FilesState) (ids : Ids) (file before : ℕ)
     (w v : World) (result : Result ℕ RunEnd) : Type 0 where
   pub decl : FileDecl
   pub declared : decl_at s.program.now.layout file ≡ Some decl
@@ -88,7 +88,7 @@ pub record DoesRead (s : Setting) (x : Place) (step : ℕ) (old new : FilesState
   pub settles : v ≡ settled file before mid
 
 -- It is done so, or refused, or the file has a rest that is no record.
-abbrev pub ReadsPart : Setting → Place → ℕ → FilesState → FilesState → Ids → ℕ → ℕ → World → World → Result ℕ RunEnd
+abbrev pub ReadsPart : Setting → Standing → ℕ → FilesState → FilesState → Ids → ℕ → ℕ → World → World → Result ℕ RunEnd
     → Type 0
 ReadsPart s x step old new ids file before w v (Err end.ReadFault) = Rose old.reading new.reading
 ReadsPart s x step old new ids file before w v (Err end.WriteFault) = Rose old.writing new.writing

@@ -17,7 +17,7 @@ use Rattle.cob_interp.specs.declared.ends.RunEnd.{RunEnd}
 use Rattle.cob_interp.specs.declared.parts.Call.{Call}
 use Rattle.cob_interp.specs.declared.parts.Call.TheVariants as call
 use Rattle.cob_interp.specs.declared.setting.Setting.{Setting}
-use Rattle.cob_interp.specs.declared.setting.Place.{Place}
+use Rattle.cob_interp.specs.declared.setting.Standing.{Standing}
 use Rattle.cob_interp.specs.Able.{HasItsFiles}
 use Rattle.cob_interp.specs.Told.{AreDistinct}
 
@@ -37,19 +37,19 @@ pub record IsReady (s : Setting) : Type 0 where
   pub count : length s.paths.now ≡ length s.program.now.layout.files
 
 -- A place's statement is the program's, and the operation of its node is one of that statement.
-pub record IsPlaced (s : Setting) (x : Place) : Type 0 where
+pub record IsPlaced (s : Setting) (x : Standing) : Type 0 where
   pub statement : IsStatement (program_of s) x.statement.now
   pub fits : IsFitting (program_of s) x.plan_node.now (plain_act x.statement.now.act.now)
 
 -- A place has the plan's node with a number, and that node's statement.
-pub record IsPlace (s : Setting) (node : ℕ) (x : Place) : Type 0 where
+pub record IsPlace (s : Setting) (node : ℕ) (x : Standing) : Type 0 where
   pub plan_node : IsPlanNode s.graph.now node x.plan_node.now
   pub statement : IsStatement (program_of s) x.statement.now
   pub fits : IsFitting (program_of s) x.plan_node.now (plain_act x.statement.now.act.now)
   pub number : x.statement.now.number ≡ x.plan_node.now.statement
 
 -- It lies before the last node, and leads on.
-pub record FitsPlace (s : Setting) (node : ℕ) (x : Place) : Type 0 where
+pub record FitsPlace (s : Setting) (node : ℕ) (x : Standing) : Type 0 where
   pub above : 1 ≤ node
   pub below : node < length s.plan.nodes.items
   pub at : node_at s.plan.nodes.items node ≡ Some x.plan_node.now
@@ -83,7 +83,7 @@ abbrev pub IsUncalled : Setting → ℕ → Type 0
 IsUncalled s statement = (a : Act) → act_at (program_of s) statement ≡ Some a → is_uncalled a ≡ true
 
 -- A place has the plan's node with a number, at which a step begins, and that node's statement.
-pub record StartsAt (s : Setting) (node : ℕ) (x : Place) : Type 0 where
+pub record StartsAt (s : Setting) (node : ℕ) (x : Standing) : Type 0 where
   pub is : IsPlace s node x
   pub starts : x.plan_node.now.starts ≡ true
 

@@ -14,7 +14,7 @@ ghost use Rattle.cob_interp.specs.Tracking.{AreLeft, AreOpen, ArePlaced, KeepsPl
 use crate::ends::RunEnd;
 use crate::handles::Handles;
 use crate::outside::ready_to_close;
-use crate::setting::{Place, Setting};
+use crate::setting::{Setting, Standing};
 use batch_io::Files;
 use cob_plan::{DoEnd, Op, do_op};
 use cob_world::World;
@@ -39,7 +39,7 @@ fn halt_of(end: DoEnd, statement: u32, step: u64) -> RunEnd
 pub fn do_part(
     alloc: Global,
     setting: &Setting,
-    place: &Place,
+    place: &Standing,
     world: &mut World,
     step: u64,
 ) -> Result<u32, RunEnd>
@@ -60,7 +60,7 @@ pub fn do_part(
 pub fn do_plain(
     alloc: Global,
     setting: &Setting,
-    place: &Place,
+    place: &Standing,
     world: &mut World,
     step: u64,
 ) -> Result<u32, RunEnd>
@@ -90,7 +90,7 @@ pub fn do_close<F: Files>(
     setting: &Setting,
     files: &mut F,
     handles: &mut Handles,
-    place: &Place,
+    place: &Standing,
     closed: &[u32],
     world: &mut World,
     step: u64,

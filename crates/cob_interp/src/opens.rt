@@ -16,7 +16,7 @@ use crate::ends::RunEnd;
 use crate::handles::Handles;
 use crate::nodes::do_part;
 use crate::outside::ready_to_open;
-use crate::setting::{Place, Setting};
+use crate::setting::{Setting, Standing};
 use batch_io::Files;
 use cob_plan::Op;
 use cob_program::Opening;
@@ -72,7 +72,7 @@ pub fn do_open<F: Files>(
     setting: &Setting,
     files: &mut F,
     handles: &mut Handles,
-    place: &Place,
+    place: &Standing,
     openings: &[Opening],
     world: &mut World,
     step: u64,

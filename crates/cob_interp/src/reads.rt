@@ -16,7 +16,7 @@ ghost use Rattle.cob_interp.specs.Tracking.{IsHeldFor, AreLeft, AreOpen, ArePlac
 use crate::ends::RunEnd;
 use crate::handles::Handles;
 use crate::nodes::do_part;
-use crate::setting::{Place, Setting};
+use crate::setting::{Setting, Standing};
 use batch_io::Files;
 use cob_plan::Op;
 use cob_world::{FileMode, World};
@@ -102,7 +102,7 @@ fn do_window<F: Files>(
     files: &mut F,
     handles: &mut Handles,
     world: &mut World,
-    place: &Place,
+    place: &Standing,
     file: u32,
     before: usize,
     step: u64,
@@ -138,7 +138,7 @@ pub fn do_read<F: Files>(
     files: &mut F,
     handles: &mut Handles,
     world: &mut World,
-    place: &Place,
+    place: &Standing,
     node: u32,
     file: u32,
     step: u64,

@@ -21,7 +21,7 @@ pub struct Setting<'a> {
 
 /// A node with its statement.
 #[derive(Drop)]
-pub struct Place<'a, 'b> {
+pub struct Standing<'a, 'b> {
     pub plan_node: &'a PlanNode,
     pub statement: &'a Statement<'b>,
 }
@@ -47,7 +47,7 @@ impl<'b> Setting<'b> {
     }
 
     /// A node that isn't the last one, with its statement.
-    pub fn place(&self, node: u32) -> Place<'_, 'b>
+    pub fn place(&self, node: u32) -> Standing<'_, 'b>
         requires ready { IsReady self.now }
         requires above { 1 ≤ node }
         requires below { node < length self.now.plan.nodes.items }
@@ -58,7 +58,7 @@ impl<'b> Setting<'b> {
             None => unreachable!(),
             Some(plan_node) => match self.plan.statement(plan_node.statement) {
                 None => unreachable!(),
-                Some(statement) => Place {
+                Some(statement) => Standing {
                     plan_node,
                     statement,
                 },

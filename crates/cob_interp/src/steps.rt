@@ -23,7 +23,7 @@ use crate::nodes::{do_close, do_plain};
 use crate::opens::do_open;
 use crate::parts::{Call, call_of};
 use crate::reads::do_read;
-use crate::setting::{Place, Setting};
+use crate::setting::{Setting, Standing};
 use batch_io::Files;
 use cob_program::Opening;
 use cob_world::World;
@@ -94,7 +94,7 @@ fn go(
     alloc: Global,
     setting: &Setting,
     world: &mut World,
-    place: &Place,
+    place: &Standing,
     node: u32,
     step: u64,
 ) -> Result<u32, RunEnd>
@@ -276,7 +276,7 @@ fn go_read<F: Files>(
     files: &mut F,
     handles: &mut Handles,
     world: &mut World,
-    place: &Place,
+    place: &Standing,
     node: u32,
     file: u32,
     step: u64,
@@ -318,7 +318,7 @@ pub fn take_step<F: Files>(
     files: &mut F,
     handles: &mut Handles,
     world: &mut World,
-    place: &Place,
+    place: &Standing,
     node: u32,
     step: u64,
 ) -> Result<u32, RunEnd>

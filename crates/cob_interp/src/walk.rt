@@ -20,7 +20,7 @@ ghost use Rattle.cob_interp.specs.Walking.{as_result, TellsBySink, Flushes, MayF
 use crate::ends::{Ended, RunEnd};
 use crate::handles::{Handles, is_full};
 use crate::outside::write_out;
-use crate::setting::{Place, Setting};
+use crate::setting::{Setting, Standing};
 use crate::steps::take_step;
 use batch_io::{Files, MakeEnd, Sink, show_whole};
 use cob_program::Act;
@@ -57,14 +57,14 @@ fn shows_first(act: &Act) -> bool
 }
 
 /// Whether text that waits is shown before a statement: where all is, or where it is much.
-fn is_flushed_before(place: &Place, world: &World) -> bool
+fn is_flushed_before(place: &Standing, world: &World) -> bool
     ensures { shows_first (plain_act place.now.statement.now.act.now) ≡ true → result ≡ true }
 {
     shows_first(place.statement.act) || world.shown().len() > SHOWN_LIMIT
 }
 
 /// Shows the text that waits, where that's due before a statement.
-fn flush_before<O: Sink>(place: &Place, world: &mut World, out: &mut O) -> Result<(), MakeEnd>
+fn flush_before<O: Sink>(place: &Standing, world: &mut World, out: &mut O) -> Result<(), MakeEnd>
     ensures kept { world.new.program ≡ world.old.program }
     ensures flushes { MatchResult result
         (λ _. MayFlush (O.state out.old) (O.state out.new) world.old.world world.new.world)
@@ -88,7 +88,7 @@ fn is_failure(end: RunEnd) -> bool
 
 /// Behind a statement that was refused: where files failed, what still waits of the text is shown. Answers why the run
 /// halts.
-fn show_rest<O: Sink>(place: &Place, world: &mut World, out: &mut O, end: RunEnd) -> Halt
+fn show_rest<O: Sink>(place: &Standing, world: &mut World, out: &mut O, end: RunEnd) -> Halt
     ensures kept { world.new.program ≡ world.old.program }
     ensures shows { ShowsRest (plain_act place.now.statement.now.act.now) (O.state out.old) (O.state out.new)
         world.old.world world.new.world end result }
@@ -106,7 +106,7 @@ fn show_rest<O: Sink>(place: &Place, world: &mut World, out: &mut O, end: RunEnd
 }
 
 /// The file to which a statement writes a record, if it is a WRITE.
-fn written_file(place: &Place, world: &World) -> Option<usize>
+fn written_file(place: &Standing, world: &World) -> Option<usize>
     ensures { result ≡ written_by world.now.program.layout (plain_act place.now.statement.now.act.now) }
 {
     match place.statement.act {
@@ -130,7 +130,7 @@ fn has_room(setting: &Setting, world: &World, file: usize) -> bool
 }
 
 /// The file that a statement is to write a record to for which there is no room behind those that wait.
-fn full_file(setting: &Setting, place: &Place, world: &World) -> Option<usize>
+fn full_file(setting: &Setting, place: &Standing, world: &World) -> Option<usize>
     requires runs { world.now.program ≡ setting.now.program.now }
     ensures full { (file : ℕ) → result ≡ Some file
         → written_by setting.now.program.now.layout (plain_act place.now.statement.now.act.now) ≡ Some file }
@@ -156,7 +156,7 @@ fn make_room<F: Files>(
     files: &mut F,
     handles: &Handles,
     world: &mut World,
-    place: &Place,
+    place: &Standing,
 ) -> Result<(), RunEnd>
     requires ready { IsReady setting.now }
     requires runs { world.old.program ≡ setting.now.program.now }
@@ -188,7 +188,7 @@ fn take_roomy_step<F: Files>(
     files: &mut F,
     handles: &mut Handles,
     world: &mut World,
-    place: &Place,
+    place: &Standing,
     node: u32,
     step: u64,
 ) -> Result<u32, RunEnd>

@@ -9,7 +9,7 @@ use Rattle.cob_tree.specs.declared.operand.Opnd.TheVariants as opnd
 use Rattle.cob_tree.specs.declared.expr.Sign as plus_minus
 use Rattle.cob_tree.specs.declared.stmt.Subject.{Subject}
 use Rattle.cob_tree.specs.declared.stmt.Subject.TheVariants as subject
-use Rattle.cob_tree.specs.declared.stmt.Opens.{Opens}
+use Rattle.cob_tree.specs.declared.stmt.OpenPhrase.{OpenPhrase}
 use Rattle.cob_tree.specs.declared.stmt.Varying.{Varying}
 use Rattle.cob_tree.specs.Items.{Item, key, keys, name, word_if, behind, each}
 use Rattle.cob_tree.specs.Expr.{Expr, MkExpr, Terms, no_terms, more_terms, Term, MkTerm, Facts, no_facts, more_facts, Fact, MkFact, Primary, operand, group}
@@ -18,7 +18,7 @@ use Rattle.cob_tree.specs.Cond as cond
 use Rattle.cob_tree.specs.Stmt.{Sel, any, range, choice, Loop, times, until}
 use Rattle.cob_tree.specs.PrintExpr.{print_qualifier, print_ref, print_opnd, print_recv, open_mark, close_mark, print_sign, print_scaling, print_sign_if, print_expr, print_terms, print_term, print_facts, print_fact, print_primary, print_not, print_relation, sign_word, print_cond, print_conj, print_conjs, print_neg, print_negs, print_simple}
 use Rattle.cob_tree.specs.PrintFront.{print_if}
-use Rattle.cob_tree.specs.PrintStmt.{print_opnds, print_recvs, print_refs, print_names, print_subject, print_sel, print_choice, mode_word, print_opens, print_place, print_varying, print_loop}
+use Rattle.cob_tree.specs.PrintStmt.{print_opnds, print_recvs, print_refs, print_names, print_subject, print_sel, print_choice, mode_word, print_opens, print_test_point, print_varying, print_loop}
 
 abbrev blank_line : Option ℕ → Option ℕ
 blank_line None = None
@@ -164,7 +164,7 @@ sel_plain d (choice c) = cond_plain d c
 pub choices_plain : (d : ℕ) (ss : List Sel) → Plain (each (print_choice d) ss)
 choices_plain d ss = each_plain (print_choice d) (λ s. ap (λ (z : List Item). key d word.When ∷ z) (sel_plain d s)) ss
 
-pub opens_plain : (d : ℕ) (os : List Opens) → Plain (each (print_opens d) os)
+pub opens_plain : (d : ℕ) (os : List OpenPhrase) → Plain (each (print_opens d) os)
 opens_plain d os = each_plain (print_opens d) (λ o. ap (λ (z : List Item). key d (mode_word o.mode) ∷ z) (names_plain d o.files)) os
 
 varying_plain : (d : ℕ) (v : Varying) → Plain (print_varying d v)
@@ -173,7 +173,7 @@ varying_plain d v = both (print_ref d v.item) (key d word.From ∷ (print_opnd d
 
 loop_plain : (d : ℕ) (l : Loop) → Plain (print_loop d l)
 loop_plain d (times o) = both (print_opnd d o) (key d word.Times ∷ []) (opnd_plain d o) refl
-loop_plain d (until test varying c) = both (behind d (word.Test ∷ []) (print_place d) test) (behind d (word.Varying ∷ []) (print_varying d) varying ++ key d word.Until ∷ print_cond d c) (opened_plain d (word.Test ∷ []) (print_place d) (λ p. refl) test)
+loop_plain d (until test varying c) = both (behind d (word.Test ∷ []) (print_test_point d) test) (behind d (word.Varying ∷ []) (print_varying d) varying ++ key d word.Until ∷ print_cond d c) (opened_plain d (word.Test ∷ []) (print_test_point d) (λ p. refl) test)
     (both (behind d (word.Varying ∷ []) (print_varying d) varying) (key d word.Until ∷ print_cond d c) (opened_plain d (word.Varying ∷ []) (print_varying d) (varying_plain d) varying) (ap (λ (z : List Item). key d word.Until ∷ z) (cond_plain d c)))
 
 pub turns_plain : (d : ℕ) (o : Option Loop) → Plain (print_if (print_loop d) o)

@@ -9,7 +9,7 @@ use Rattle.cob_tree.specs.declared.operand.Opnd.{Opnd}
 use Rattle.cob_tree.specs.declared.operand.Opnd.TheVariants as opnd
 use Rattle.cob_tree.specs.declared.stmt.Subject.TheVariants as subject
 use Rattle.cob_tree.specs.declared.stmt.Mode.TheVariants as mode
-use Rattle.cob_tree.specs.declared.stmt.Opens.{Opens}
+use Rattle.cob_tree.specs.declared.stmt.OpenPhrase.{OpenPhrase}
 use Rattle.cob_tree.specs.Symbols.{Symbol, Key, Name, Number, Text, Mark, Relation, Pic, Stop, Sign}
 use Rattle.cob_tree.specs.Items.{Item, Fits, item_on}
 use Rattle.cob_tree.specs.Expr.{Expr, MkExpr, no_terms, MkTerm, no_facts, MkFact, operand}
@@ -100,7 +100,7 @@ some_ref = record { name = []; of = [] }
 abbrev some_recv : Recv
 some_recv = record { item = some_ref; rounded = false }
 
-abbrev some_opens : Opens
+abbrev some_opens : OpenPhrase
 some_opens = record { mode = mode.Input; files = [] ∷ [] }
 
 abbrev some_opnd : Opnd

@@ -15,7 +15,7 @@ use Rattle.cob_parse_expr.proofs.CondAgree.{cond_wider}
 use Rattle.cob_parse_verb.specs.Words as word
 use Rattle.cob_parse_verb.specs.declared.word.Start.{Start}
 use Rattle.cob_parse_verb.specs.declared.word.Start.TheVariants as start
-use Rattle.cob_parse_verb.specs.Words.{the, equal_of, place_of, begin_of}
+use Rattle.cob_parse_verb.specs.Words.{the, equal_of, test_point_of, begin_of}
 use Rattle.cob_parse_verb.specs.Procedure.{procedure}
 use Rattle.cob_parse_verb.specs.Heads.{arithmetic, if_head}
 use Rattle.cob_parse_verb.specs.Lists.{cons, recvs_at}
@@ -34,7 +34,7 @@ module _ (a b : ℕ) (cond : Agrees (cond_at a) (cond_at b)) (expr : Agrees (exp
   agree_varied = agree_seen make_varied _ _ (agree_choose (stands (the word.Varying)) _ _ _ _ (agree_branch (the word.Varying) _ _ (λ x. agree_follow _ _ _ _ (agree_same varying_at) (λ v. agree_until))) agree_until)
 
   agree_tested : Agrees (tested_at a) (tested_at b)
-  agree_tested = agree_seen make_tested _ _ (agree_choose (stands (the word.Test)) _ _ _ _ (agree_branch (the word.Test) _ _ (λ x. agree_seq _ _ _ _ (agree_same (lead place_of)) agree_varied)) agree_varied)
+  agree_tested = agree_seen make_tested _ _ (agree_choose (stands (the word.Test)) _ _ _ _ (agree_branch (the word.Test) _ _ (λ x. agree_seq _ _ _ _ (agree_same (lead test_point_of)) agree_varied)) agree_varied)
 
   agree_loop : Agrees (loop_at a) (loop_at b)
   agree_loop = agree_seen make_loop _ _ (agree_choose (begins grammar begins_opnd) _ _ _ _ (agree_same times_at) agree_tested)

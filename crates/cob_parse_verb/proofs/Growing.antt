@@ -3,7 +3,7 @@ use Rattle.std.proofs.Common.{◌≡◌, ℕ, suc, ◌-◌, ◌<◌, ◌||◌, �
 use Rattle.cob_tree.specs.declared.keyword.Keyword.TheVariants as key
 use Rattle.cob_tree.specs.declared.operand.Opnd.{Opnd}
 use Rattle.cob_tree.specs.declared.operand.Recv.{Recv}
-use Rattle.cob_tree.specs.declared.stmt.Place.{Place}
+use Rattle.cob_tree.specs.declared.stmt.TestPoint.{TestPoint}
 use Rattle.cob_tree.specs.declared.stmt.Subject.TheVariants as subject
 use Rattle.cob_tree.specs.declared.stmt.Varying.{Varying}
 use Rattle.cob_tree.specs.Symbols.{Key, Sign}
@@ -13,7 +13,7 @@ use Rattle.cob_tree.specs.Cues.{Cue, is, Qualifies, Rounds, Names, Signs, Scales
 use Rattle.cob_tree.specs.Cond.{Cond}
 use Rattle.cob_tree.specs.Stmt.{times, until, Verb, move, set, display, perform_range, go, exit, continue, stop_run, open_, close, write}
 use Rattle.cob_tree.specs.PrintExpr.{print_cond}
-use Rattle.cob_tree.specs.PrintStmt.{print_place, print_varying, print_loop}
+use Rattle.cob_tree.specs.PrintStmt.{print_test_point, print_varying, print_loop}
 use Rattle.cob_tree.specs.Takes.{begins_opnd, begins_loop, takes_cond, takes_recvs, takes_giving, takes_from}
 use Rattle.reading.specs.Printing.{Below, on_mark}
 use Rattle.reading.specs.Law.{Syntax}
@@ -159,11 +159,11 @@ module _ (d top : ℕ) where
     low = g.low;
   }
 
-  abbrev before_until : Option Place → Option Varying → List Item
-  before_until test v = behind d (key.Test ∷ []) (print_place d) test ++ (behind d (key.Varying ∷ []) (print_varying d) v ++ items.key d key.Until ∷ [])
+  abbrev before_until : Option TestPoint → Option Varying → List Item
+  before_until test v = behind d (key.Test ∷ []) (print_test_point d) test ++ (behind d (key.Varying ∷ []) (print_varying d) v ++ items.key d key.Until ∷ [])
 
-  until_text : (test : Option Place) (v : Option Varying) (y : Cond) → print_loop d (until test v y) ≡ before_until test v ++ print_cond d y
-  until_text test v y = split (behind d (key.Test ∷ []) (print_place d) test) (behind d (key.Varying ∷ []) (print_varying d) v) (items.key d key.Until) (print_cond d y)
+  until_text : (test : Option TestPoint) (v : Option Varying) (y : Cond) → print_loop d (until test v y) ≡ before_until test v ++ print_cond d y
+  until_text test v y = split (behind d (key.Test ∷ []) (print_test_point d) test) (behind d (key.Varying ∷ []) (print_varying d) v) (items.key d key.Until) (print_cond d y)
     where
       split : (is js : List Item) (i : Item) (ks : List Item) → is ++ (js ++ i ∷ ks) ≡ (is ++ (js ++ i ∷ [])) ++ ks
       split is js i ks = sym (append_assoc is (js ++ i ∷ []) ks ∙ ap (λ (z : List Item). is ++ z) (append_assoc js (i ∷ []) ks))

@@ -4,7 +4,7 @@ use Rattle.cob_tree.specs.declared.keyword.Keyword.TheVariants as key
 use Rattle.cob_tree.specs.declared.operand.Opnd.{Opnd}
 use Rattle.cob_tree.specs.declared.operand.Recv.{Recv}
 use Rattle.cob_tree.specs.declared.operand.Ref.{Ref}
-use Rattle.cob_tree.specs.declared.stmt.Opens.{Opens}
+use Rattle.cob_tree.specs.declared.stmt.OpenPhrase.{OpenPhrase}
 use Rattle.cob_tree.specs.declared.stmt.Subject.TheVariants as subject
 use Rattle.cob_tree.specs.Symbols.{Symbol, Key, Sign}
 use Rattle.cob_tree.specs.Items.{Item, item}
@@ -174,7 +174,7 @@ stop_view d = record { back = back; print = λ x g. refl; takes = λ x p g. refl
 
 -- ---- OPEN, CLOSE
 
-abbrev open_parts : Head → List Opens
+abbrev open_parts : Head → List OpenPhrase
 open_parts (done (open_ files)) = files
 open_parts _ = []
 

@@ -6,17 +6,17 @@ use Rattle.cob_tree.specs.declared.operand.Opnd.{Opnd}
 use Rattle.cob_tree.specs.declared.operand.Opnd.TheVariants as opnd
 use Rattle.cob_tree.specs.declared.operand.Recv.{Recv}
 use Rattle.cob_tree.specs.declared.operand.Ref.{Ref}
-use Rattle.cob_tree.specs.declared.stmt.Opens.{Opens}
+use Rattle.cob_tree.specs.declared.stmt.OpenPhrase.{OpenPhrase}
 use Rattle.cob_tree.specs.declared.stmt.Subject.{Subject}
 use Rattle.cob_tree.specs.declared.stmt.Subject.TheVariants as subject
-use Rattle.cob_tree.specs.declared.stmt.Place.{Place}
+use Rattle.cob_tree.specs.declared.stmt.TestPoint.{TestPoint}
 use Rattle.cob_tree.specs.declared.stmt.Varying.{Varying}
 use Rattle.cob_tree.specs.Items.{Item, each, behind, word_if, keys}
 use Rattle.cob_tree.specs.Items as items
 use Rattle.cob_tree.specs.Stmt.{Sel, any, range, choice, Loop, times, until, Verb, move, set, display, perform_range, go, exit, continue, stop_run, open_, close, write}
 use Rattle.cob_tree.specs.PrintExpr.{print_qualifier, print_ref, print_opnd, print_recv, print_expr, print_cond}
 use Rattle.cob_tree.specs.PrintFront.{print_if}
-use Rattle.cob_tree.specs.PrintStmt.{print_opnds, print_recvs, print_refs, print_names, print_opens, print_sel, print_choice, print_place, print_varying, print_loop, print_name_only}
+use Rattle.cob_tree.specs.PrintStmt.{print_opnds, print_recvs, print_refs, print_names, print_opens, print_sel, print_choice, print_test_point, print_varying, print_loop, print_name_only}
 use Rattle.reading.specs.Law.{Deepens}
 use Rattle.cob_parse_expr.proofs.OneAnswer.{Leveled, leveled_join}
 use Rattle.cob_parse_expr.proofs.Levels.{expr_level, cond_level}
@@ -78,7 +78,7 @@ module _ (d : ℕ) where
   names_level [] = refl
   names_level (x ∷ xs) = (refl, names_level xs)
 
-  opens_level : (o : Opens) → Leveled d (print_opens d o) d
+  opens_level : (o : OpenPhrase) → Leveled d (print_opens d o) d
   opens_level o = (refl, names_level o.files)
 
   -- ---- loops and selections
@@ -86,10 +86,10 @@ module _ (d : ℕ) where
   varying_level : (v : Varying) → Leveled d (print_varying d v) d
   varying_level v = join (print_ref d v.item) _ (ref_level v.item) (refl, join (print_opnd d v.from) _ (opnd_level v.from) (refl, opnd_level v.by))
 
-  until_level : (test : Option Place) (varying : Option Varying) (is : List Item) → Leveled d is d → Leveled d (behind d (key.Test ∷ []) (print_place d) test ++ (behind d (key.Varying ∷ []) (print_varying d) varying ++ is)) d
-  until_level test varying is l = join (behind d (key.Test ∷ []) (print_place d) test) _ (first test) (join (behind d (key.Varying ∷ []) (print_varying d) varying) is (second varying) l)
+  until_level : (test : Option TestPoint) (varying : Option Varying) (is : List Item) → Leveled d is d → Leveled d (behind d (key.Test ∷ []) (print_test_point d) test ++ (behind d (key.Varying ∷ []) (print_varying d) varying ++ is)) d
+  until_level test varying is l = join (behind d (key.Test ∷ []) (print_test_point d) test) _ (first test) (join (behind d (key.Varying ∷ []) (print_varying d) varying) is (second varying) l)
     where
-      first : (o : Option Place) → Leveled d (behind d (key.Test ∷ []) (print_place d) o) d
+      first : (o : Option TestPoint) → Leveled d (behind d (key.Test ∷ []) (print_test_point d) o) d
       first None = refl
       first (Some p) = (refl, (refl, refl))
 

@@ -10,7 +10,7 @@ use Rattle.cob_tree.specs.declared.operand.Opnd.TheVariants as opnd
 use Rattle.cob_tree.specs.declared.operand.Recv.{Recv}
 use Rattle.cob_tree.specs.declared.operand.Ref.{Ref}
 use Rattle.cob_tree.specs.declared.stmt.Mode.TheVariants as mode
-use Rattle.cob_tree.specs.declared.stmt.Opens.{Opens}
+use Rattle.cob_tree.specs.declared.stmt.OpenPhrase.{OpenPhrase}
 use Rattle.cob_tree.specs.Symbols.{Symbol, Key, Name, Number, Text, Mark, Relation, Pic, Stop, Sign}
 use Rattle.cob_tree.specs.Items.{Item, item, name, each}
 use Rattle.cob_tree.specs.Cues.{Cue, is, key_cue, Qualifies, Rounds, Names, Constants, Zeros, Signs, Scales, Modes}
@@ -157,10 +157,10 @@ recv_syntax d = record { Good = Always; print = print_recv d; takes = λ r. take
 abbrev pub recvs_syntax : ℕ → Syntax Item Cue (List Recv)
 recvs_syntax d = record { Good = IsNotEmpty; print = print_recvs d; takes = takes_recvs }
 
-abbrev pub opens_syntax : ℕ → Syntax Item Cue Opens
+abbrev pub opens_syntax : ℕ → Syntax Item Cue OpenPhrase
 opens_syntax d = record { Good = λ o. IsNotEmpty o.files; print = print_opens d; takes = λ o. is Names }
 
-abbrev pub files_syntax : ℕ → Syntax Item Cue (List Opens)
+abbrev pub files_syntax : ℕ → Syntax Item Cue (List OpenPhrase)
 files_syntax d = record { Good = λ fs. IsNotEmpty fs × AllByRecursion (λ o. IsNotEmpty o.files) fs; print = each (print_opens d); takes = λ fs m. is Names m || is Modes m }
 
 -- ---- operands
@@ -320,6 +320,6 @@ module _ (d top : ℕ) (low : d < top) where
       begin x [] rest good spells = absurd spells
       begin x (t ∷ text) rest good spells = mode_told t (text ++ rest) ∙ ap is_some ((modes d).reads x.mode t tt spells.0)
 
-      takes : (x : Opens) (xs : List Opens) (p : Cue) → (is Names p || is Modes p) ≡ takes_listed (opens_syntax d).takes (is Modes) (x ∷ xs) p
+      takes : (x : OpenPhrase) (xs : List OpenPhrase) (p : Cue) → (is Names p || is Modes p) ≡ takes_listed (opens_syntax d).takes (is Modes) (x ∷ xs) p
       takes x [] p = refl
       takes x (y ∷ xs) p = takes y xs p

@@ -5,8 +5,8 @@ use Rattle.cob_tree.specs.declared.operand.Const.TheVariants as const
 use Rattle.cob_tree.specs.declared.operand.Opnd.{Opnd}
 use Rattle.cob_tree.specs.declared.operand.Opnd.TheVariants as opnd
 use Rattle.cob_tree.specs.declared.operand.Ref.{Ref}
-use Rattle.cob_tree.specs.declared.stmt.Place.{Place}
-use Rattle.cob_tree.specs.declared.stmt.Place.TheVariants as place
+use Rattle.cob_tree.specs.declared.stmt.TestPoint.{TestPoint}
+use Rattle.cob_tree.specs.declared.stmt.TestPoint.TheVariants as test_point
 use Rattle.cob_tree.specs.declared.stmt.Varying.{Varying}
 use Rattle.cob_tree.specs.Symbols.{Symbol, Key, Name, Sign}
 use Rattle.cob_tree.specs.Items.{Item, item, behind}
@@ -103,14 +103,14 @@ GoodTested (until test varying c) = ShapedCond c
 abbrev pub tested_syntax : ℕ → Syntax Item Cue Loop
 tested_syntax d = record { Good = GoodTested; print = print_loop d; takes = takes_loop }
 
-abbrev place_syntax : ℕ → Syntax Item Cue Place
-place_syntax d = lead_syntax Always (λ p. item d (Key (printed.place_word p)))
+abbrev test_point_syntax : ℕ → Syntax Item Cue TestPoint
+test_point_syntax d = lead_syntax Always (λ p. item d (Key (printed.test_point_word p)))
 
-abbrev placed : ℕ → Syntax Item Cue (Place × (Option Varying × Cond))
-placed d = seq_syntax (place_syntax d) (varied_syntax d)
+abbrev placed : ℕ → Syntax Item Cue (TestPoint × (Option Varying × Cond))
+placed d = seq_syntax (test_point_syntax d) (varied_syntax d)
 
 abbrev Tested : Type 0
-Tested = (Unit {0} × (Place × (Option Varying × Cond))) ⊎ (Option Varying × Cond)
+Tested = (Unit {0} × (TestPoint × (Option Varying × Cond))) ⊎ (Option Varying × Cond)
 
 abbrev tested_raw : ℕ → Syntax Item Cue Tested
 tested_raw d = choose_syntax (behind_syntax d word.Test (placed d)) (varied_syntax d)
@@ -273,7 +273,7 @@ module _ (d top : ℕ) (low : d < top) where
     varied_untested (None, c) (t ∷ text) rest g m = word_is word.Test word.Until t m.0.symbol
 
     pub tested_law : Law grammar (tested_at room) (tested_syntax d) top
-    tested_law = seen_law (choose_law (behind_law d word.Test (placed d) low (seq_law (lead_law (places d) top (λ x a. low) place.Before tt) (λ x p g. refl) varied_law)) varied_law
+    tested_law = seen_law (choose_law (behind_law d word.Test (placed d) low (seq_law (lead_law (places d) top (λ x a. low) test_point.Before tt) (λ x p g. refl) varied_law)) varied_law
         (tells_by_one (λ t y z. refl) (λ x text rest g m. behind_stands d word.Test (placed d) word.Test x text rest m) varied_untested)) (tested_view (some_tree (law_of_conditions room d top e)).0 d)
 
     pub loop_law : Law grammar (loop_at room) (loop_syntax d) top

@@ -6,8 +6,8 @@ use Rattle.cob_tree.specs.declared.token.Rel.{Rel}
 use Rattle.cob_tree.specs.declared.token.Rel.TheVariants as rel
 use Rattle.cob_tree.specs.declared.stmt.Mode.{Mode}
 use Rattle.cob_tree.specs.declared.stmt.Mode.TheVariants as mode
-use Rattle.cob_tree.specs.declared.stmt.Place.{Place}
-use Rattle.cob_tree.specs.declared.stmt.Place.TheVariants as place
+use Rattle.cob_tree.specs.declared.stmt.TestPoint.{TestPoint}
+use Rattle.cob_tree.specs.declared.stmt.TestPoint.TheVariants as test_point
 use Rattle.cob_tree.specs.Symbols.{Symbol, Key, Name, Number, Text, Mark, Relation, Pic, Stop, Sign}
 use Rattle.cob_tree.specs.Items.{Fits, item, item_on}
 use Rattle.cob_tree.specs.PrintExpr.{print_relation}
@@ -23,7 +23,7 @@ use Rattle.cob_parse_verb.specs.declared.word.Start.{Start}
 use Rattle.cob_parse_verb.specs.declared.word.Start.TheVariants as start
 use Rattle.cob_parse_verb.specs.declared.word.Begin.{Begin}
 use Rattle.cob_parse_expr.proofs.WordLemmas.{own_key, only_the}
-use Rattle.cob_parse_verb.specs.Words.{Word, key_of, the_key, the, mode_key, mode_of, place_key, place_of, equal_rel, equal_symbol, equal_of, start_word, start_key, begin_on, begin_of}
+use Rattle.cob_parse_verb.specs.Words.{Word, key_of, the_key, the, mode_key, mode_of, test_point_key, test_point_of, equal_rel, equal_symbol, equal_of, start_word, start_key, begin_on, begin_of}
 
 -- ---- one word
 
@@ -69,21 +69,21 @@ mode_spelled _ = tt
 pub modes : (d : ℕ) → Class grammar mode_of Always (λ m. item d (Key (printed.mode_word m)))
 modes d = keyed mode_key printed.mode_word mode_own (λ k m e. subst (mode_so k) e (mode_spelled k)) d
 
-place_own : (p : Place) → place_key (printed.place_word p) ≡ Some p
-place_own place.Before = refl
-place_own place.After = refl
+test_point_own : (p : TestPoint) → test_point_key (printed.test_point_word p) ≡ Some p
+test_point_own test_point.Before = refl
+test_point_own test_point.After = refl
 
-abbrev place_so : Keyword → Option Place → Type 0
-place_so k None = Unit {0}
-place_so k (Some p) = k ≡ printed.place_word p
+abbrev test_point_so : Keyword → Option TestPoint → Type 0
+test_point_so k None = Unit {0}
+test_point_so k (Some p) = k ≡ printed.test_point_word p
 
-place_spelled : (k : Keyword) → place_so k (place_key k)
-place_spelled key.Before = refl
-place_spelled key.After = refl
-place_spelled _ = tt
+test_point_spelled : (k : Keyword) → test_point_so k (test_point_key k)
+test_point_spelled key.Before = refl
+test_point_spelled key.After = refl
+test_point_spelled _ = tt
 
-pub places : (d : ℕ) → Class grammar place_of Always (λ p. item d (Key (printed.place_word p)))
-places d = keyed place_key printed.place_word place_own (λ k p e. subst (place_so k) e (place_spelled k)) d
+pub places : (d : ℕ) → Class grammar test_point_of Always (λ p. item d (Key (printed.test_point_word p)))
+places d = keyed test_point_key printed.test_point_word test_point_own (λ k p e. subst (test_point_so k) e (test_point_spelled k)) d
 
 -- ---- the relation =
 

@@ -4,7 +4,7 @@ use Rattle.cob_tree.specs.declared.operand.Opnd.{Opnd}
 use Rattle.cob_tree.specs.declared.operand.Recv.{Recv}
 use Rattle.cob_tree.specs.declared.operand.Ref.{Ref}
 use Rattle.cob_tree.specs.declared.stmt.Mode.{Mode}
-use Rattle.cob_tree.specs.declared.stmt.Opens.{Opens}
+use Rattle.cob_tree.specs.declared.stmt.OpenPhrase.{OpenPhrase}
 use Rattle.cob_tree.specs.Symbols.{Sign}
 use Rattle.cob_tree.specs.Cues.{Cue, is, Names, Modes}
 use Rattle.cob_tree.specs.Takes.{begins_opnd}
@@ -42,11 +42,11 @@ abbrev pub recvs_at : Reader Sign (List Recv)
 recvs_at = some_at (is Names) recv_at
 
 -- INPUT or OUTPUT, and files
-abbrev pub make_opens : Mode × List (List ℕ) → Opens
+abbrev pub make_opens : Mode × List (List ℕ) → OpenPhrase
 make_opens x = record { mode = x.0; files = x.1 }
 
-abbrev pub opens_at : Reader Sign Opens
+abbrev pub opens_at : Reader Sign OpenPhrase
 opens_at = seen make_opens (branch mode_of (λ m. names_at))
 
-abbrev pub files_at : Reader Sign (List Opens)
+abbrev pub files_at : Reader Sign (List OpenPhrase)
 files_at = some_at (is Modes) opens_at

@@ -3,7 +3,7 @@ use Rattle.std.specs.Prelude.{ℕ, ◌⊎◌, List, Option, is_some}
 use Rattle.std.proofs.Common.{inl, inr}
 use Rattle.cob_tree.specs.declared.operand.Opnd.{Opnd}
 use Rattle.cob_tree.specs.declared.operand.Ref.{Ref}
-use Rattle.cob_tree.specs.declared.stmt.Opens.{Opens}
+use Rattle.cob_tree.specs.declared.stmt.OpenPhrase.{OpenPhrase}
 use Rattle.cob_tree.specs.declared.stmt.Subject.TheVariants as subject
 use Rattle.cob_tree.specs.Symbols.{Sign}
 use Rattle.cob_tree.specs.Stmt.{move, set, display, go, exit, continue, stop_run, open_, close, write}
@@ -65,7 +65,7 @@ make_stop x = done stop_run
 abbrev pub stop_at : Reader Sign Head
 stop_at = seen make_stop (lead (the word.Run))
 
-abbrev pub make_open : List Opens → Head
+abbrev pub make_open : List OpenPhrase → Head
 make_open files = done (open_ files)
 
 abbrev pub open_at : Reader Sign Head

@@ -5,7 +5,7 @@ use Rattle.cob_tree.specs.declared.operand.Const.{Const}
 use Rattle.cob_tree.specs.declared.operand.Opnd.{Opnd}
 use Rattle.cob_tree.specs.declared.operand.Opnd.TheVariants as opnd
 use Rattle.cob_tree.specs.declared.operand.Ref.{Ref}
-use Rattle.cob_tree.specs.declared.stmt.Place.{Place}
+use Rattle.cob_tree.specs.declared.stmt.TestPoint.{TestPoint}
 use Rattle.cob_tree.specs.declared.stmt.Varying.{Varying}
 use Rattle.cob_tree.specs.Symbols.{Sign}
 use Rattle.cob_tree.specs.Expr.{Expr}
@@ -22,7 +22,7 @@ use Rattle.cob_parse_expr.specs.Reading.{second, make_ref, ref_at, opnd_at, qual
 use Rattle.cob_parse_expr.specs.CondReading.{cond_at}
 use Rattle.cob_parse_verb.specs.Words as word
 use Rattle.cob_parse_verb.specs.Procedure.{procedure}
-use Rattle.cob_parse_verb.specs.Words.{the, place_of}
+use Rattle.cob_parse_verb.specs.Words.{the, test_point_of}
 use Rattle.cob_parse_verb.specs.Heads.{Head, done, perform_head}
 use Rattle.cob_parse_verb.specs.Lists.{some_at}
 
@@ -48,13 +48,13 @@ make_varied (inr x) = (None, x.1)
 abbrev pub varied_at : ℕ → Reader Sign (Option Varying × Cond)
 varied_at room = seen make_varied (choose (stands (the word.Varying)) (branch (the word.Varying) (λ x. follow varying_at (λ v. until_at room))) (until_at room))
 
-abbrev pub make_tested : (Unit {0} × (Place × (Option Varying × Cond))) ⊎ (Option Varying × Cond) → Loop
+abbrev pub make_tested : (Unit {0} × (TestPoint × (Option Varying × Cond))) ⊎ (Option Varying × Cond) → Loop
 make_tested (inl x) = until (Some x.1.0) x.1.1.0 x.1.1.1
 make_tested (inr x) = until None x.0 x.1
 
 -- [TEST ..] [VARYING ..] UNTIL ..
 abbrev pub tested_at : ℕ → Reader Sign Loop
-tested_at room = seen make_tested (choose (stands (the word.Test)) (branch (the word.Test) (λ x. seq (lead place_of) (varied_at room))) (varied_at room))
+tested_at room = seen make_tested (choose (stands (the word.Test)) (branch (the word.Test) (λ x. seq (lead test_point_of) (varied_at room))) (varied_at room))
 
 abbrev pub make_loop : (Opnd × Unit {0}) ⊎ Loop → Loop
 make_loop (inl x) = times x.0

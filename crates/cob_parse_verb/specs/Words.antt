@@ -6,8 +6,8 @@ use Rattle.cob_tree.specs.declared.token.Rel.{Rel}
 use Rattle.cob_tree.specs.declared.token.Rel.TheVariants as rel
 use Rattle.cob_tree.specs.declared.stmt.Mode.{Mode}
 use Rattle.cob_tree.specs.declared.stmt.Mode.TheVariants as mode
-use Rattle.cob_tree.specs.declared.stmt.Place.{Place}
-use Rattle.cob_tree.specs.declared.stmt.Place.TheVariants as place
+use Rattle.cob_tree.specs.declared.stmt.TestPoint.{TestPoint}
+use Rattle.cob_tree.specs.declared.stmt.TestPoint.TheVariants as test_point
 use Rattle.cob_tree.specs.Symbols.{Symbol, Relation, Sign}
 use Rattle.cob_parse_expr.specs.LexemeClasses.{of, word_symbol}
 use Rattle.cob_parse_expr.specs.LexemeClasses as known
@@ -80,13 +80,13 @@ abbrev pub mode_of : Sign → Option Mode
 mode_of s = word_symbol mode_key s.symbol
 
 -- the keyword is BEFORE or AFTER
-abbrev pub place_key : Keyword → Option Place
-place_key key.Before = Some place.Before
-place_key key.After = Some place.After
-place_key _ = None
+abbrev pub test_point_key : Keyword → Option TestPoint
+test_point_key key.Before = Some test_point.Before
+test_point_key key.After = Some test_point.After
+test_point_key _ = None
 
-abbrev pub place_of : Sign → Option Place
-place_of s = word_symbol place_key s.symbol
+abbrev pub test_point_of : Sign → Option TestPoint
+test_point_of s = word_symbol test_point_key s.symbol
 
 -- the relation =
 abbrev pub equal_rel : Rel → Option (Unit {0})

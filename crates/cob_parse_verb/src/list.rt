@@ -6,7 +6,7 @@ ghost use Rattle.cob_parse_verb.specs.Lists.{names_at, refs_at, opnds_at, recv_a
 use crate::ahead::{mode_begins, name_begins, operand_begins};
 use crate::token::mode_in;
 use cob_parse_expr::{Halt, Lexeme, behind, name_at, opnd_in, ref_in};
-use cob_tree::{Keyword, Many, Name, Opens, Opnd, Recv, Ref};
+use cob_tree::{Keyword, Many, Name, OpenPhrase, Opnd, Recv, Ref};
 use std::alloc::Global;
 
 // Each list is the longest one of one or more in front.
@@ -96,17 +96,17 @@ pub fn recvs_in(alloc: Global, lexemes: &[Lexeme]) -> Result<(Vec<Recv>, &[Lexem
 }
 
 // INPUT or OUTPUT, and files.
-fn opens_in(alloc: Global, lexemes: &[Lexeme]) -> Result<(Opens, &[Lexeme]), Halt>
+fn opens_in(alloc: Global, lexemes: &[Lexeme]) -> Result<(OpenPhrase, &[Lexeme]), Halt>
     ensures gives { Gives (λ x. (x.0, signs x.1.now)) result (opens_at (signs lexemes.now)) }
     ensures rest { IfOk result (λ x. length x.1.now < length lexemes.now) }
 {
     let (mode, rest) = or_leave!(mode_in(lexemes));
     let (files, rest) = or_leave!(names_in(alloc, rest));
     let files = Many::of(files);
-    Ok((Opens { mode, files }, rest))
+    Ok((OpenPhrase { mode, files }, rest))
 }
 
-pub fn files_in(alloc: Global, lexemes: &[Lexeme]) -> Result<(Vec<Opens>, &[Lexeme]), Halt>
+pub fn files_in(alloc: Global, lexemes: &[Lexeme]) -> Result<(Vec<OpenPhrase>, &[Lexeme]), Halt>
     ensures gives { Gives (λ x. (x.0.items, signs x.1.now)) result (files_at (signs lexemes.now)) }
     ensures rest { IfOk result (λ x. length x.1.now ≤ length lexemes.now) }
 {

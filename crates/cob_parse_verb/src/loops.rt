@@ -9,9 +9,9 @@ ghost use Rattle.cob_parse_expr.specs.Steps.{signs, Gives};
 ghost use Rattle.cob_parse_verb.specs.Turning.{times_at, varying_at, until_at, varied_at, tested_at, loop_at};
 
 use crate::ahead::operand_begins;
-use crate::token::place_in;
+use crate::token::test_point_in;
 use cob_parse_expr::{Halt, Lexeme, behind, cond_in, expect, opnd_in, ref_in};
-use cob_tree::{Cond, Keyword, Loop, Opnd, Place, Varying};
+use cob_tree::{Cond, Keyword, Loop, Opnd, TestPoint, Varying};
 use std::alloc::Global;
 
 pub fn times(count: Opnd) -> Loop
@@ -20,7 +20,7 @@ pub fn times(count: Opnd) -> Loop
     Loop::Times(count)
 }
 
-fn until(test: Option<Place>, varying: Option<Varying>, cond: Cond) -> Loop
+fn until(test: Option<TestPoint>, varying: Option<Varying>, cond: Cond) -> Loop
     ensures { plain_loop result ≡ until test varying (plain_cond cond) }
 {
     Loop::Until {
@@ -97,7 +97,7 @@ pub fn tested_in(
 {
     match behind(Keyword::Test, lexemes) {
         Some(rest) => {
-            let (place, rest) = or_leave!(place_in(rest));
+            let (place, rest) = or_leave!(test_point_in(rest));
             let (varying, cond, takes_not, rest) = or_leave!(varied_in(alloc, rest, room));
             Ok((until(Some(place), varying, cond), takes_not, rest))
         }

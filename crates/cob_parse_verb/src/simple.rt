@@ -10,7 +10,7 @@ ghost use Rattle.cob_parse_verb.specs.VerbSteps.{plain_head};
 use crate::head::Head;
 use crate::list::{files_in, names_in, opnds_in, refs_in};
 use cob_parse_expr::{Halt, Lexeme, behind, expect, name_at, opnd_in, ref_in};
-use cob_tree::{Keyword, Many, Name, Opens, Opnd, Ref, Verb};
+use cob_tree::{Keyword, Many, Name, OpenPhrase, Opnd, Ref, Verb};
 use std::alloc::Global;
 
 // Each statement is made in a function of its own, which says what it is seen as.
@@ -57,7 +57,7 @@ fn stop_run() -> Head
     Head::Done(Verb::StopRun)
 }
 
-fn open(files: Many<Opens>) -> Head
+fn open(files: Many<OpenPhrase>) -> Head
     ensures head { plain_head result ≡ done (open_ files) }
 {
     Head::Done(Verb::Open(files))

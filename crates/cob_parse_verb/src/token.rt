@@ -5,11 +5,11 @@ ghost use Rattle.cob_parse_expr.specs.LexemeClasses.{word_symbol};
 ghost use Rattle.cob_parse_expr.specs.Lexemes.{plain_symbol};
 ghost use Rattle.cob_parse_expr.specs.Steps.{signs, Gives};
 ghost use Rattle.cob_parse_expr.specs.Classes.{name_of, const_of, of_key, of_of};
-ghost use Rattle.cob_parse_verb.specs.Words.{mode_key, mode_of, place_key, place_of, equal_symbol, equal_of, start_key, begin_of};
+ghost use Rattle.cob_parse_verb.specs.Words.{mode_key, mode_of, test_point_key, test_point_of, equal_symbol, equal_of, start_key, begin_of};
 
 use crate::word::{Begin, Start, start_of};
 use cob_parse_expr::{Halt, Lexeme, Symbol, is_constant, is_name, next};
-use cob_tree::{Keyword, Mode, Place, Rel};
+use cob_tree::{Keyword, Mode, Rel, TestPoint};
 
 fn key_mode(keyword: Keyword) -> Option<Mode>
     ensures { result ≡ mode_key keyword }
@@ -30,21 +30,21 @@ fn symbol_mode(symbol: &Symbol) -> Option<Mode>
     }
 }
 
-fn key_place(keyword: Keyword) -> Option<Place>
-    ensures { result ≡ place_key keyword }
+fn key_test_point(keyword: Keyword) -> Option<TestPoint>
+    ensures { result ≡ test_point_key keyword }
 {
     match keyword {
-        Keyword::Before => Some(Place::Before),
-        Keyword::After => Some(Place::After),
+        Keyword::Before => Some(TestPoint::Before),
+        Keyword::After => Some(TestPoint::After),
         _ => None,
     }
 }
 
-fn symbol_place(symbol: &Symbol) -> Option<Place>
-    ensures { result ≡ word_symbol place_key (plain_symbol symbol.now) }
+fn symbol_test_point(symbol: &Symbol) -> Option<TestPoint>
+    ensures { result ≡ word_symbol test_point_key (plain_symbol symbol.now) }
 {
     match symbol {
-        Symbol::Key(keyword) => key_place(*keyword),
+        Symbol::Key(keyword) => key_test_point(*keyword),
         _ => None,
     }
 }
@@ -96,13 +96,13 @@ pub fn mode_in(lexemes: &[Lexeme]) -> Result<(Mode, &[Lexeme]), Halt>
 }
 
 /// BEFORE or AFTER.
-pub fn place_in(lexemes: &[Lexeme]) -> Result<(Place, &[Lexeme]), Halt>
-    ensures gives { Gives (λ x. (x.0, signs x.1.now)) result (lead place_of (signs lexemes.now)) }
+pub fn test_point_in(lexemes: &[Lexeme]) -> Result<(TestPoint, &[Lexeme]), Halt>
+    ensures gives { Gives (λ x. (x.0, signs x.1.now)) result (lead test_point_of (signs lexemes.now)) }
     ensures rest { IfOk result (λ x. length x.1.now < length lexemes.now) }
 {
     match next(lexemes) {
         None => Err(Halt::Stop(lexemes.len())),
-        Some((lexeme, rest)) => match symbol_place(&lexeme.symbol) {
+        Some((lexeme, rest)) => match symbol_test_point(&lexeme.symbol) {
             None => Err(Halt::Stop(lexemes.len())),
             Some(place) => Ok((place, rest)),
         },

@@ -3,3 +3,4 @@ pub mod PictureLemmas
 pub mod PictureLaws
 pub mod FormLaws
 pub mod NumericLaws
+pub mod KindLaws

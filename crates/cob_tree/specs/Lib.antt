@@ -17,3 +17,4 @@ pub mod Pictures
 pub mod PictureForms
 pub mod Forms
 pub mod Limits
+pub mod Kinds

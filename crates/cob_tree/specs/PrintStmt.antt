@@ -12,9 +12,9 @@ use Rattle.cob_tree.specs.declared.stmt.Subject.{Subject}
 use Rattle.cob_tree.specs.declared.stmt.Subject.TheVariants as subject
 use Rattle.cob_tree.specs.declared.stmt.Mode.{Mode}
 use Rattle.cob_tree.specs.declared.stmt.Mode.TheVariants as mode
-use Rattle.cob_tree.specs.declared.stmt.Opens.{Opens}
-use Rattle.cob_tree.specs.declared.stmt.Place.{Place}
-use Rattle.cob_tree.specs.declared.stmt.Place.TheVariants as place
+use Rattle.cob_tree.specs.declared.stmt.OpenPhrase.{OpenPhrase}
+use Rattle.cob_tree.specs.declared.stmt.TestPoint.{TestPoint}
+use Rattle.cob_tree.specs.declared.stmt.TestPoint.TheVariants as test_point
 use Rattle.cob_tree.specs.declared.stmt.Varying.{Varying}
 use Rattle.cob_tree.specs.declared.tree.EndProgram.{EndProgram}
 use Rattle.cob_tree.specs.Symbols.{Key, Name}
@@ -58,15 +58,15 @@ abbrev pub mode_word : Mode → Keyword
 mode_word mode.Input = word.Input
 mode_word mode.Output = word.Output
 
-abbrev pub print_opens : ℕ → Opens → List Item
+abbrev pub print_opens : ℕ → OpenPhrase → List Item
 print_opens d o = key d (mode_word o.mode) ∷ print_names d o.files
 
-abbrev pub place_word : Place → Keyword
-place_word place.Before = word.Before
-place_word place.After = word.After
+abbrev pub test_point_word : TestPoint → Keyword
+test_point_word test_point.Before = word.Before
+test_point_word test_point.After = word.After
 
-abbrev pub print_place : ℕ → Place → List Item
-print_place d p = key d (place_word p) ∷ []
+abbrev pub print_test_point : ℕ → TestPoint → List Item
+print_test_point d p = key d (test_point_word p) ∷ []
 
 abbrev pub print_varying : ℕ → Varying → List Item
 print_varying d v =
@@ -75,7 +75,7 @@ print_varying d v =
 abbrev pub print_loop : ℕ → Loop → List Item
 print_loop d (times o) = print_opnd d o ++ key d word.Times ∷ []
 print_loop d (until test varying c) =
-    behind d (word.Test ∷ []) (print_place d) test ++ (behind d (word.Varying ∷ []) (print_varying d) varying
+    behind d (word.Test ∷ []) (print_test_point d) test ++ (behind d (word.Varying ∷ []) (print_varying d) varying
     ++ key d word.Until ∷ print_cond d c)
 
 abbrev pub print_name_only : ℕ → List ℕ → List Item

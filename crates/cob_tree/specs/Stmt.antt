@@ -5,8 +5,8 @@ use Rattle.cob_tree.specs.declared.operand.Recv.{Recv}
 use Rattle.cob_tree.specs.declared.operand.Ref.{Ref}
 use Rattle.cob_tree.specs.declared.stmt.Way.{Way}
 use Rattle.cob_tree.specs.declared.stmt.Subject.{Subject}
-use Rattle.cob_tree.specs.declared.stmt.Opens.{Opens}
-use Rattle.cob_tree.specs.declared.stmt.Place.{Place}
+use Rattle.cob_tree.specs.declared.stmt.OpenPhrase.{OpenPhrase}
+use Rattle.cob_tree.specs.declared.stmt.TestPoint.{TestPoint}
 use Rattle.cob_tree.specs.declared.stmt.Varying.{Varying}
 use Rattle.cob_tree.specs.declared.front.Front.{Front}
 use Rattle.cob_tree.specs.declared.tree.EndProgram.{EndProgram}
@@ -20,7 +20,7 @@ pub data Sel : Type 0 where
 
 pub data Loop : Type 0 where
   times : Opnd → Loop
-  until : Option Place → Option Varying → Cond → Loop
+  until : Option TestPoint → Option Varying → Cond → Loop
 
 mutual
   pub data Stmt : Type 0 where
@@ -47,7 +47,7 @@ mutual
     exit : Verb
     continue : Verb
     stop_run : Verb
-    open_ : List Opens → Verb
+    open_ : List OpenPhrase → Verb
     close : List (List ℕ) → Verb
     read : List ℕ → Option Ref → Phrase → Phrase → Bool → Verb
     write : Ref → Option Opnd → Bool → Verb

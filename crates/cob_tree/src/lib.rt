@@ -9,6 +9,7 @@ mod fault;
 mod form;
 mod front;
 mod keyword;
+mod kinds;
 mod laws;
 mod list;
 mod operand;
@@ -28,10 +29,13 @@ pub use front::{
     SelClause, Select,
 };
 pub use keyword::{Keyword, keyword_of, keywords_differ};
+pub use kinds::{Kinds, all_kinds};
 pub use laws::{one_form, picture_form_is};
 pub use list::Many;
 pub use operand::{Const, Opnd, Recv, Ref};
 pub use picture::{PicEnd, picture_of};
-pub use stmt::{Loop, Mode, Opens, Place, Sel, Stmt, Subject, Tail, Varying, Verb, Way, When};
+pub use stmt::{
+    Loop, Mode, OpenPhrase, Sel, Stmt, Subject, Tail, TestPoint, Varying, Verb, Way, When,
+};
 pub use token::{Num, Rel, Tok, Token};
 pub use tree::{EndProgram, Paragraph, Sentence, Tree};

@@ -106,7 +106,7 @@ pub enum Verb {
     Exit,
     Continue,
     StopRun,
-    Open(Many<Opens>),
+    Open(Many<OpenPhrase>),
     Close(Many<Name>),
     Read {
         file: Name,
@@ -163,7 +163,7 @@ pub enum Sel {
 
 /// Files to be opened in one way.
 #[derive(Drop)]
-pub struct Opens {
+pub struct OpenPhrase {
     pub mode: Mode,
     pub files: Many<Name>,
 }
@@ -180,7 +180,7 @@ pub enum Mode {
 pub enum Loop {
     Times(Opnd),
     Until {
-        test: Option<Place>,
+        test: Option<TestPoint>,
         varying: Option<Varying>,
         until: Cond,
     },
@@ -188,7 +188,7 @@ pub enum Loop {
 
 /// Where a loop tests.
 #[derive(Clone, Copy, PartialEq, Eq)]
-pub enum Place {
+pub enum TestPoint {
     Before,
     After,
 }

@@ -6,3 +6,4 @@ pub mod ListLemmas
 pub mod ParaLemmas
 pub mod StmtLemmas
 pub mod Weights
+pub mod RuleNumbers

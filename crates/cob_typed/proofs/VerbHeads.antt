@@ -7,7 +7,7 @@ use Rattle.cob_tree.specs.declared.operand.Recv.{Recv}
 use Rattle.cob_tree.specs.declared.operand.Ref.{Ref}
 use Rattle.cob_tree.specs.declared.stmt.Way.{Way}
 use Rattle.cob_tree.specs.declared.stmt.Subject.{Subject}
-use Rattle.cob_tree.specs.declared.stmt.Opens.{Opens}
+use Rattle.cob_tree.specs.declared.stmt.OpenPhrase.{OpenPhrase}
 use Rattle.cob_tree.specs.declared.stmt.Loop.{Loop}
 use Rattle.cob_tree.specs.declared.stmt.Stmt.{Stmt}
 use Rattle.cob_tree.specs.declared.stmt.When.{When}
@@ -178,7 +178,7 @@ module _ (s : Scope) (v : declared_verb.Verb) where
       ap (λ x. head s (plain_verb x)) (is ∙ sym (rolls-Go name)) ∙ ap (head s) (fold-roll-Verb _ _ _ _ _ _ _ _
       (layer.Go name))
 
-  pub open_head : (files : List Opens) (files_ : List Opens) → v ≡ variant.Open files → files_ ≡ files → head s
+  pub open_head : (files : List OpenPhrase) (files_ : List OpenPhrase) → v ≡ variant.Open files → files_ ≡ files → head s
       (plain_verb v) ≡ seen_as done (open_act s files_)
   open_head files files_ is files_is =
       ap (λ x. head s (plain_verb x)) (is ∙ sym (rolls-Open files)) ∙ ap (head s) (fold-roll-Verb _ _ _ _ _ _ _ _

@@ -2,8 +2,8 @@
 use Rattle.std.specs.Prelude.{ℕ, suc, ◌+◌, Bool, true, false, List, [], ◌∷◌, ◌++◌, Option, Some, None}
 use Rattle.cob_tree.specs.declared.operand.Opnd.{Opnd}
 use Rattle.cob_tree.specs.declared.operand.Ref.{Ref}
-use Rattle.cob_tree.specs.declared.stmt.Place.{Place}
-use Rattle.cob_tree.specs.declared.stmt.Place.TheVariants as place_
+use Rattle.cob_tree.specs.declared.stmt.TestPoint.{TestPoint}
+use Rattle.cob_tree.specs.declared.stmt.TestPoint.TheVariants as test_point
 use Rattle.cob_tree.specs.declared.stmt.Varying.{Varying}
 use Rattle.cob_tree.specs.Stmt as tree
 use Rattle.cob_tree.specs.Forms.{is_number_form}
@@ -22,8 +22,8 @@ use Rattle.cob_typed_conds.specs.Selections.{looked_at, selection}
 use Rattle.cob_typed_verbs.specs.Verbs.{move_act, set_act, show_act, open_act, close_act, read_parts, write_act}
 use Rattle.cob_typed_verbs.specs.Arithmetic.{Worked, add_to, add_giving, subtract_from, subtract_giving, multiply_by, multiply_giving, divide_into, divide_giving, compute}
 
-abbrev pub is_after : Option Place → Bool
-is_after (Some place_.After) = true
+abbrev pub is_after : Option TestPoint → Bool
+is_after (Some test_point.After) = true
 is_after _ = false
 
 module _ (s : Scope) where
@@ -35,7 +35,7 @@ module _ (s : Scope) where
   abbrev pub varied : Ref → Judged ℕ
   varied r = the_item s r >>= λ place. demand Q10 (is_number_form (form_at s place)) place
 
-  abbrev pub turns_until : Option Place → Option Varying → Logic → Judged Turns
+  abbrev pub turns_until : Option TestPoint → Option Varying → Logic → Judged Turns
   turns_until at None t = sound (until (is_after at) t)
   turns_until at (Some v) t =
       varied v.item >>= λ place. number_operand v.from >>= λ start. number_operand v.by >>= λ by. sound (varying (is_after at) place start by t)

@@ -1,9 +1,9 @@
 -- A tree as a program of the profile, and what is answered where it is none.
-use Rattle.std.specs.Prelude.{ℕ, ◌-◌, ◌==◌, if◌then◌else◌, Bool, true, false, List, [], ◌∷◌, ◌++◌, map, Some, None}
+use Rattle.std.specs.Prelude.{◌≡◌, ℕ, ◌-◌, ◌==◌, if◌then◌else◌, Bool, true, false, List, [], ◌∷◌, ◌++◌, map, Some, None}
 use Rattle.std.specs.Str.{bytes_eq}
 use Rattle.cob_tree.specs.Stmt as tree
 use Rattle.cob_data.specs.declared.end.Rule.{Rule}
-use Rattle.cob_data.specs.declared.end.Rule.TheVariants.{Q1, Q2, Q3, Q4, Q5, Q6, Q7, Q8, Q9, Q10, Q11, N5}
+use Rattle.cob_data.specs.declared.end.Rule.TheVariants.{L1, L2, L3, L4, L5, L6, L7, L8, L9, L10, L11, L12, Q1, Q2, Q3, Q4, Q5, Q6, Q7, Q8, Q9, Q10, Q11, N5, N1, N2, N3, N4}
 use Rattle.cob_data.specs.declared.layout.Layout.{Layout}
 use Rattle.rule_order.specs.Order.{IsFirstBroken, AreKept, line_if}
 use Rattle.cob_program.specs.Act.{Stmts, no_stmts, more_stmts, Para, Program}
@@ -41,7 +41,7 @@ typed l t = record { layout = l; paras = (typed_all l t).value; statements = (ty
 
 -- ---- the lines at which a rule is broken
 
--- Statements break these rules alone, and no others are asked for here, so that all others share one number.
+-- each rule has a number of its own, those on statements the first ones
 abbrev pub rule_number : Rule → ℕ
 rule_number Q1 = 1
 rule_number Q2 = 2
@@ -55,7 +55,26 @@ rule_number Q9 = 9
 rule_number Q10 = 10
 rule_number Q11 = 11
 rule_number N5 = 12
-rule_number _ = 0
+rule_number L1 = 13
+rule_number L2 = 14
+rule_number L3 = 15
+rule_number L4 = 16
+rule_number L5 = 17
+rule_number L6 = 18
+rule_number L7 = 19
+rule_number L8 = 20
+rule_number L9 = 21
+rule_number L10 = 22
+rule_number L11 = 23
+rule_number L12 = 24
+rule_number N1 = 25
+rule_number N2 = 26
+rule_number N3 = 27
+rule_number N4 = 28
+
+-- so rules are told apart by their numbers
+abbrev pub RulesAreToldApart : Type 0
+RulesAreToldApart = (a b : Rule) → rule_number a ≡ rule_number b → a ≡ b
 
 abbrev pub lines_among : Rule → List (Rule × ℕ) → List ℕ
 lines_among rule [] = []

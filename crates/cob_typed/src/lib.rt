@@ -20,9 +20,11 @@ macro_rules! or_leave {
 mod acts;
 mod end;
 mod heads;
+mod laws;
 mod performs;
 mod statements;
 mod typing;
 
 pub use end::TypedEnd;
+pub use laws::rules_are_told_apart;
 pub use typing::typed_of;

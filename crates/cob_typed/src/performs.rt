@@ -12,18 +12,18 @@ ghost use Rattle.cob_typed.specs.Statements.{is_after, number_operand, varied, t
 use crate::acts::{go_of, perform_of, range_of};
 use cob_data::{Rule, Sender};
 use cob_program::{Act, Logic, Turns};
-use cob_tree::{Loop, Name, Opnd, Place, Ref, Varying};
+use cob_tree::{Loop, Name, Opnd, Ref, TestPoint, Varying};
 use cob_typed_conds::condition;
 use cob_typed_exprs::{Finding, Scope, demand, exactly_one, is_number_form};
 use std::alloc::AllocError;
 
 // ---- loops
 
-fn is_after(place: Option<Place>) -> bool
+fn is_after(place: Option<TestPoint>) -> bool
     ensures { result ≡ is_after place }
 {
     match place {
-        Some(Place::After) => true,
+        Some(TestPoint::After) => true,
         _ => false,
     }
 }
@@ -60,7 +60,7 @@ fn turns_until(
     scope: &Scope,
     findings: &mut Vec<Finding>,
     line: u32,
-    at: Option<Place>,
+    at: Option<TestPoint>,
     varying: Option<&Varying>,
     test: Logic,
 ) -> Result<Turns, AllocError>

@@ -215,7 +215,22 @@ fn rule_number(rule: Rule) -> u8
         Rule::Q10 => 10,
         Rule::Q11 => 11,
         Rule::N5 => 12,
-        _ => 0,
+        Rule::L1 => 13,
+        Rule::L2 => 14,
+        Rule::L3 => 15,
+        Rule::L4 => 16,
+        Rule::L5 => 17,
+        Rule::L6 => 18,
+        Rule::L7 => 19,
+        Rule::L8 => 20,
+        Rule::L9 => 21,
+        Rule::L10 => 22,
+        Rule::L11 => 23,
+        Rule::L12 => 24,
+        Rule::N1 => 25,
+        Rule::N2 => 26,
+        Rule::N3 => 27,
+        Rule::N4 => 28,
     }
 }
 

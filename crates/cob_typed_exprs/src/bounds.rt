@@ -9,7 +9,7 @@ ghost use Rattle.cob_typed_exprs.specs.Sizes.{bound_at, plain_size, plain_root, 
 use crate::scope::Scope;
 use cob_program::{Atom, Factor, Part, Sum};
 use cob_tree::{Form, Num};
-use dec_num::pow10;
+use dec_num::{SIZE_LIMIT, pow10};
 
 /// The greatest absolute value that something can have, in units of a scale. What isn't below `10^37` counts as `10^37`.
 #[derive(Clone, Copy)]
@@ -18,7 +18,7 @@ pub struct Size {
     pub scale: u32,
 }
 
-const HUGE: u128 = 10_000_000_000_000_000_000_000_000_000_000_000_000;
+const HUGE: u128 = SIZE_LIMIT;
 
 const ZERO: Size = Size { most: 0, scale: 0 };
 

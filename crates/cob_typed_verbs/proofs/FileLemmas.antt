@@ -1,7 +1,7 @@
 -- Lists of files, gathered in a loop.
 use Rattle.std.proofs.Common.{◌≡◌, ℕ, ◌+◌, ◌<◌, ◌≤◌, List, [], ◌∷◌, ◌++◌, append_assoc, append-nil, length, get_or, map, drop, Option, Some, None, refl, sym, ap, ◌∙◌}
 use Rattle.std.proofs.lemmas.List.{drop_all, get_or_default}
-use Rattle.cob_tree.specs.declared.stmt.Opens.{Opens}
+use Rattle.cob_tree.specs.declared.stmt.OpenPhrase.{OpenPhrase}
 use Rattle.cob_program.specs.declared.act.Opening.{Opening}
 use Rattle.cob_typed_exprs.specs.declared.finding.Finding.{Finding}
 use Rattle.cob_typed_exprs.specs.Judged.{Judged, each_of, noted}
@@ -33,14 +33,14 @@ opening_pushed of_file xs i d old new whole within made so_far =
     ap (λ ys. ys ++ rest) made ∙ append_assoc old (of_file x ∷ []) rest
     ∙ sym (ap (λ ys. old ++ map of_file ys) (item_step xs i x within (get_or_default xs i d x within))) ∙ so_far
 
-module _ (s : Scope) (xs : List Opens) where
-  pub openings_value : (i : ℕ) (x : Opens) (old new whole : List Opening) → i < length xs → x ≡ get_or xs i x → new ≡ old ++ (openings s x).value →
+module _ (s : Scope) (xs : List OpenPhrase) where
+  pub openings_value : (i : ℕ) (x : OpenPhrase) (old new whole : List Opening) → i < length xs → x ≡ get_or xs i x → new ≡ old ++ (openings s x).value →
       old ++ (all_openings s (drop i xs)).value ≡ whole → new ++ (all_openings s (drop (i + 1) xs)).value ≡ whole
   openings_value i x old new whole within is made so_far =
       let rest = (all_openings s (drop (i + 1) xs)).value in
       ap (λ ys. ys ++ rest) made ∙ append_assoc old (openings s x).value rest ∙ sym (ap (λ ys. old ++ (all_openings s ys).value) (item_step xs i x within is)) ∙ so_far
 
-  pub openings_noted : (i line : ℕ) (x : Opens) (old new whole : List Finding) → i < length xs → x ≡ get_or xs i x → new ≡ noted line old (openings s x).broken →
+  pub openings_noted : (i line : ℕ) (x : OpenPhrase) (old new whole : List Finding) → i < length xs → x ≡ get_or xs i x → new ≡ noted line old (openings s x).broken →
       noted line old (all_openings s (drop i xs)).broken ≡ whole → noted line new (all_openings s (drop (i + 1) xs)).broken ≡ whole
   openings_noted i line x old new whole within is made so_far =
       ap (λ fs. noted line fs (all_openings s (drop (i + 1) xs)).broken) made

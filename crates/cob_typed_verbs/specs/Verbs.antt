@@ -4,7 +4,7 @@ use Rattle.cob_tree.specs.declared.operand.Opnd.{Opnd}
 use Rattle.cob_tree.specs.declared.operand.Ref.{Ref}
 use Rattle.cob_tree.specs.declared.stmt.Mode.{Mode}
 use Rattle.cob_tree.specs.declared.stmt.Mode.TheVariants as mode
-use Rattle.cob_tree.specs.declared.stmt.Opens.{Opens}
+use Rattle.cob_tree.specs.declared.stmt.OpenPhrase.{OpenPhrase}
 use Rattle.cob_data.specs.declared.end.Rule.TheVariants.{Q2, Q8, Q9}
 use Rattle.cob_data.specs.declared.layout.Item.{Item}
 use Rattle.cob_data.specs.declared.layout.Flag.{Flag}
@@ -69,14 +69,14 @@ module _ (s : Scope) where
   abbrev pub the_file : List ℕ → Judged (Option ℕ)
   the_file text = one_of_kind Q9 (means_something s (plain_name text)) (file_named s text)
 
-  abbrev pub openings : Opens → Judged (List Opening)
+  abbrev pub openings : OpenPhrase → Judged (List Opening)
   openings o = seen_as (λ files. map (opening (is_output o.mode)) (some_of files)) (each_of the_file o.files)
 
-  abbrev pub all_openings : List Opens → Judged (List Opening)
+  abbrev pub all_openings : List OpenPhrase → Judged (List Opening)
   all_openings [] = sound []
   all_openings (o ∷ os) = openings o >>= λ here. all_openings os >>= λ others. sound (here ++ others)
 
-  abbrev pub open_act : List Opens → Judged Act
+  abbrev pub open_act : List OpenPhrase → Judged Act
   open_act files = seen_as open_files (all_openings files)
 
   abbrev pub close_act : List (List ℕ) → Judged Act

@@ -10,7 +10,7 @@ ghost use Rattle.cob_typed_verbs.specs.Verbs.{receiver, move_act, first_value, s
 use crate::acts::{close_of, move_of, nothing, open_of, show_of, write_of};
 use cob_data::{FileDecl, Flag, Item, Pair, Rule, Sender};
 use cob_program::{Act, Opening};
-use cob_tree::{Many, Mode, Name, Opens, Opnd, Ref};
+use cob_tree::{Many, Mode, Name, OpenPhrase, Opnd, Ref};
 use cob_typed_exprs::{Finding, Scope, demand, one_of_kind};
 use std::alloc::{AllocError, Global};
 
@@ -256,7 +256,7 @@ fn add_openings(
     scope: &Scope,
     findings: &mut Vec<Finding>,
     line: u32,
-    opens: &Opens,
+    opens: &OpenPhrase,
     list: &mut Vec<Opening>,
 ) -> Result<(), AllocError>
     ensures value { OnOk result (list.new.items ≡ list.old.items ++ (openings scope.now opens.now).value) }
@@ -278,7 +278,7 @@ pub fn open_act(
     scope: &Scope,
     findings: &mut Vec<Finding>,
     line: u32,
-    opens: &[Opens],
+    opens: &[OpenPhrase],
 ) -> Result<Act, AllocError>
     ensures value { IfOk result (λ act. plain_act act ≡ (open_act scope.now opens.now).value) }
     ensures noted { OnOk result (findings.new.items ≡ noted line findings.old.items (open_act scope.now opens.now).broken) }

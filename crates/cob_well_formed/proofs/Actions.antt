@@ -9,7 +9,7 @@ use Rattle.cob_tree.specs.Items.{behind, key}
 use Rattle.cob_tree.specs.Stmt.{Loop, times, until}
 use Rattle.cob_tree.specs.PrintExpr.{print_opnd, print_ref, print_cond}
 use Rattle.cob_tree.specs.PrintFront.{print_if}
-use Rattle.cob_tree.specs.PrintStmt.{print_place, print_varying, print_loop}
+use Rattle.cob_tree.specs.PrintStmt.{print_test_point, print_varying, print_loop}
 use Rattle.cob_tree.specs.Forms.{is_number_form}
 use Rattle.cob_data.specs.declared.end.Rule.TheVariants.{Q2, Q9, Q10}
 use Rattle.cob_data.specs.declared.layout.Flag.{Flag}
@@ -104,7 +104,7 @@ module _ (s : Scope) (flags : HasWellFormedFlags s.layout) where
       (whole_number s x (met Q10 (is_whole s x) (omega arith) is.1))
   able_turns d (Some (until at None c)) short is = able_cond s flags c is.0
   able_turns d (Some (until at (Some v) c)) short is =
-      let test = behind d (word.Test ∷ []) (print_place d) at in
+      let test = behind d (word.Test ∷ []) (print_test_point d) at in
       let varying_ = behind d (word.Varying ∷ []) (print_varying d) (Some v) in
       let until_ = key d word.Until ∷ print_cond d c in
       let here = short_left varying_ until_ (short_right test (varying_ ++ until_) short) in

@@ -5,7 +5,7 @@ use Rattle.std.proofs.lemmas.List.{length-map}
 use Rattle.std.proofs.lemmas.Bool.{and_parts, or_right, eqb-true, eq-eqb}
 use Rattle.rule_order.specs.Order.{line_if}
 use Rattle.cob_tree.specs.declared.operand.Ref.{Ref}
-use Rattle.cob_tree.specs.declared.stmt.Opens.{Opens}
+use Rattle.cob_tree.specs.declared.stmt.OpenPhrase.{OpenPhrase}
 use Rattle.cob_tree.specs.Shaped.{IsNotEmpty}
 use Rattle.cob_data.specs.declared.end.Rule.{Rule}
 use Rattle.cob_data.specs.declared.end.Rule.TheVariants.{Q1, Q9}
@@ -71,7 +71,7 @@ module _ (s : Scope) (line : ℕ) where
       let here = clean_left (found_on line (the_file s x).broken) (found_on line (each_of (the_file s) xs).broken) clean in
       some_first (the_file s x).value (each_of (the_file s) xs).value (one_there line (means_something s (plain_name x)) (file_named s x) here)
 
-  pub some_openings : (os : List Opens) → IsNotEmpty os → AllByRecursion (λ o. IsNotEmpty o.files) os → IsClean (found_on line (all_openings s os).broken) → 1 ≤ length (all_openings s os).value
+  pub some_openings : (os : List OpenPhrase) → IsNotEmpty os → AllByRecursion (λ o. IsNotEmpty o.files) os → IsClean (found_on line (all_openings s os).broken) → 1 ≤ length (all_openings s os).value
   some_openings [] some each clean = absurd some
   some_openings (o ∷ os) some each clean =
       let here = clean_left (found_on line (openings s o).broken) (found_on line (both (all_openings s os).broken kept)) clean in

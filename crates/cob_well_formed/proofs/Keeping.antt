@@ -1,5 +1,5 @@
 -- Rules that are kept, in lists of what was found and in what was judged.
-use Rattle.std.proofs.Common.{◌≡◌, ℕ, ◌≤◌, Bool, true, false, eqb, List, [], ◌∷◌, ◌++◌, refl, arith}
+use Rattle.std.proofs.Common.{◌≡◌, ℕ, ◌≤◌, ◌<◌, Bool, true, false, eqb, List, [], ◌∷◌, ◌++◌, refl, arith}
 use Rattle.rule_order.specs.Order.{line_if, AreKept}
 use Rattle.cob_data.specs.declared.end.Rule.{Rule}
 use Rattle.cob_data.specs.declared.end.Rule.TheVariants.{L1, L2, L3, L4, L5, L6, L7, L8, L9, L10, L11, L12, Q1, Q2, Q3, Q4, Q5, Q6, Q7, Q8, Q9, Q10, Q11, N5, N1, N2, N3, N4}
@@ -50,10 +50,10 @@ silent_right xs ys none = all_right typing_rules xs ys none
 -- a rule that is broken is none of those on statements
 abbrev pub IsKept : Broken → Type 0
 IsKept kept = Unit {0}
-IsKept (one rule) = rule_number rule ≡ 0
+IsKept (one rule) = 12 < rule_number rule
 IsKept (both a b) = IsKept a × IsKept b
 
-other_rule : (rule : Rule) (line : ℕ) → IsSilent ((rule, line) ∷ []) → rule_number rule ≡ 0
+other_rule : (rule : Rule) (line : ℕ) → IsSilent ((rule, line) ∷ []) → 12 < rule_number rule
 other_rule Q1 line none = let h = none.0 in absurd (cc)
 other_rule Q2 line none = let h = none.1.0 in absurd (cc)
 other_rule Q3 line none = let h = none.1.1.0 in absurd (cc)
@@ -66,22 +66,22 @@ other_rule Q9 line none = let h = none.1.1.1.1.1.1.1.1.0 in absurd (cc)
 other_rule Q10 line none = let h = none.1.1.1.1.1.1.1.1.1.0 in absurd (cc)
 other_rule Q11 line none = let h = none.1.1.1.1.1.1.1.1.1.1.0 in absurd (cc)
 other_rule N5 line none = let h = none.1.1.1.1.1.1.1.1.1.1.1.0 in absurd (cc)
-other_rule N1 line none = refl
-other_rule N2 line none = refl
-other_rule N3 line none = refl
-other_rule N4 line none = refl
-other_rule L1 line none = refl
-other_rule L2 line none = refl
-other_rule L3 line none = refl
-other_rule L4 line none = refl
-other_rule L5 line none = refl
-other_rule L6 line none = refl
-other_rule L7 line none = refl
-other_rule L8 line none = refl
-other_rule L9 line none = refl
-other_rule L10 line none = refl
-other_rule L11 line none = refl
-other_rule L12 line none = refl
+other_rule N1 line none = omega arith
+other_rule N2 line none = omega arith
+other_rule N3 line none = omega arith
+other_rule N4 line none = omega arith
+other_rule L1 line none = omega arith
+other_rule L2 line none = omega arith
+other_rule L3 line none = omega arith
+other_rule L4 line none = omega arith
+other_rule L5 line none = omega arith
+other_rule L6 line none = omega arith
+other_rule L7 line none = omega arith
+other_rule L8 line none = omega arith
+other_rule L9 line none = omega arith
+other_rule L10 line none = omega arith
+other_rule L11 line none = omega arith
+other_rule L12 line none = omega arith
 
 pub kept_on : (line : ℕ) (b : Broken) → IsSilent (found_on line b) → IsKept b
 kept_on line kept none = tt
@@ -90,6 +90,6 @@ kept_on line (both a b) none =
     (kept_on line a (silent_left (found_on line a) (found_on line b) none), kept_on line b (silent_right (found_on line a) (found_on line b) none))
 
 -- what a rule that is kept demands holds
-pub met : (rule : Rule) (x : Bool) → 1 ≤ rule_number rule → IsKept (unless rule x) → x ≡ true
+pub met : (rule : Rule) (x : Bool) → rule_number rule ≤ 12 → IsKept (unless rule x) → x ≡ true
 met rule true some is = refl
 met rule false some is = absurd (omega (arith, some, is))

@@ -1,7 +1,7 @@
 -- Files that statements name are those of the layout, where no rule on names is broken.
 use Rattle.std.proofs.Common.{◌≡◌, ℕ, ◌<◌, ◌≤◌, zero, suc, Bool, true, false, List, [], ◌∷◌, length, map, slice_get, Option, Some, None, unwrap_or, refl, arith}
 use Rattle.std.specs.List.{AllByRecursion}
-use Rattle.cob_tree.specs.declared.stmt.Opens.{Opens}
+use Rattle.cob_tree.specs.declared.stmt.OpenPhrase.{OpenPhrase}
 use Rattle.cob_tree.specs.Stmt as tree
 use Rattle.cob_data.specs.declared.end.Rule.TheVariants.{Q9}
 use Rattle.cob_data.specs.declared.layout.Flag.{Flag}
@@ -56,7 +56,7 @@ module _ (s : Scope) where
   opened_below output [] all = tt
   opened_below output (f ∷ fs) all = (all.0, opened_below output fs all.1)
 
-  openings_below : (os : List Opens) → AllByRecursion OpensFile (all_openings s os).value
+  openings_below : (os : List OpenPhrase) → AllByRecursion OpensFile (all_openings s os).value
   openings_below [] = tt
   openings_below (o ∷ os) =
       all_append OpensFile (openings s o).value (all_openings s os).value

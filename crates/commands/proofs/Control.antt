@@ -6,7 +6,8 @@ use Rattle.cob_data.specs.declared.end.Which.{Which}
 use Rattle.cob_data.specs.declared.end.Which.TheVariants as which
 use Rattle.cob_program.specs.Act.{Program}
 use Rattle.cob_graph.specs.Nesting.{IsBroken, IsOutside}
-use Rattle.cob_graph.specs.Graphs.{IsOver, most_told}
+use Rattle.cob_graph.specs.Graphs.{IsOver}
+use Rattle.cob_graph.specs.Limits.{most_told}
 use Rattle.cob_graph.proofs.OneCopy.{one_count}
 use Rattle.cob_front.specs.declared.refusal.Refusal.{Refusal}
 use Rattle.cob_front.specs.declared.refusal.Refusal.TheVariants as end

@@ -8,7 +8,8 @@ use Rattle.cob_data.specs.declared.end.Which.TheVariants as which
 use Rattle.cob_program.specs.Act.{Program}
 use Rattle.cob_graph.specs.declared.graph.Graph.{Graph}
 use Rattle.cob_graph.specs.Nesting.{IsBroken, IsNested, before}
-use Rattle.cob_graph.specs.Graphs.{IsGraph, cells_of, final_of, most_told}
+use Rattle.cob_graph.specs.Graphs.{IsGraph, cells_of, final_of}
+use Rattle.cob_graph.specs.Limits.{most_told, most_cells, most_nodes}
 use Rattle.cob_graph.proofs.Lengths.{final_is}
 use Rattle.cob_graph_build.specs.Limits.{IsWithinLimits}
 use Rattle.cob_front.specs.declared.refusal.Refusal.{Refusal}
@@ -85,14 +86,14 @@ module _ (p : Program) (none : (cause : Refusal) → IsControlCause p cause → 
   -- ---- so no limit is exceeded
 
   module _ (g : Graph) (is : IsGraph p g) where
-    few_cells : length (cells_of p) ≤ 512
+    few_cells : length (cells_of p) ≤ most_cells
     few_cells =
-        at_most (length (cells_of p)) 512 (λ (over : 512 < length (cells_of p)).
+        at_most (length (cells_of p)) most_cells (λ (over : most_cells < length (cells_of p)).
         none (end.Limit which.Cells (length (cells_of p))) (is_nested, record { counted = refl; over = over }))
 
-    few_nodes : final_of is.copies ≤ 4096
+    few_nodes : final_of is.copies ≤ most_nodes
     few_nodes =
-        at_most (final_of is.copies) 4096 (λ (over : 4096 < final_of is.copies).
+        at_most (final_of is.copies) most_nodes (λ (over : most_nodes < final_of is.copies).
         none (end.Limit which.Nodes (min (final_of is.copies) most_told)) (
           is_nested,
           record {

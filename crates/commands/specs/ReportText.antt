@@ -1,18 +1,11 @@
 -- The text of a report: `clean`, or a line for each alarm and their number.
 use Rattle.std.specs.Prelude.{ℕ, List, [], ◌∷◌, ◌++◌, length, codes, decimal}
 use Rattle.std.specs.List.{flat_map}
-use Rattle.cob_tree.specs.declared.fault.Kind.{Kind}
-use Rattle.cob_tree.specs.declared.fault.Kind.TheVariants as kind
+use Rattle.cob_tree.specs.Kinds.{kind_text}
 use Rattle.commands.specs.declared.alarms.Alarm.{Alarm}
 
 abbrev pub line_end : List ℕ
 line_end = 10 ∷ []
-
-abbrev pub kind_text : Kind → List ℕ
-kind_text kind.Size = codes "SIZE"
-kind_text kind.Truncation = codes "TRUNCATION"
-kind_text kind.Zero = codes "ZERO"
-kind_text kind.Class = codes "CLASS"
 
 abbrev pub alarm_text : Alarm → List ℕ
 alarm_text alarm =

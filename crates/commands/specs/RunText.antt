@@ -6,7 +6,8 @@ use Rattle.cob_interp.specs.declared.ends.RunEnd.{RunEnd}
 use Rattle.cob_interp.specs.declared.ends.RunEnd.TheVariants as run
 use Rattle.cob_runs.specs.Files.{status_bytes}
 use Rattle.cob_tree.specs.declared.fault.Kind.{Kind}
-use Rattle.commands.specs.ReportText.{line_end, kind_text}
+use Rattle.cob_tree.specs.Kinds.{kind_text}
+use Rattle.commands.specs.ReportText.{line_end}
 use Rattle.commands.specs.Text.{memory_line, read_fault_line, write_fault_line}
 
 -- the external name of the file at a place

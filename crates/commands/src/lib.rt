@@ -29,7 +29,7 @@ pub use cert_check::{CheckEnd, accepted_claims_cover_runs, check as check_claims
 pub use certificate::{CERTIFICATE_LIMIT, check, check_certificate};
 pub use findings::{Findings, findings_for, found_for, tell};
 pub use laws::bytes_are_of_the_profile_or_not;
-pub use report_text::{kind_text, push_number, push_report, report};
+pub use report_text::{push_number, push_report, report};
 pub use show::{
     CERTIFICATE_REFUSED, OUT_OF_MEMORY, READ_FAULT, WRITE_FAULT, show_found, show_line, show_text,
     status_of,

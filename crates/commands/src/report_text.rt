@@ -2,11 +2,11 @@
 ghost use Rattle.std.specs.Prelude.{◌≡◌, ◌++◌, OnOk, IfOk};
 ghost use Rattle.cob_program.specs.ActView.{plain_program};
 ghost use Rattle.commands.specs.Alarms.{alarms_of};
-ghost use Rattle.commands.specs.ReportText.{alarm_text, kind_text, report_text};
+ghost use Rattle.commands.specs.ReportText.{alarm_text, report_text};
 
 use crate::alarms::{Alarm, alarms_of};
 use cob_program::Program;
-use cob_tree::{Kind, Open};
+use cob_tree::Open;
 use itoa::{Buffer, Integer};
 use std::alloc::{AllocError, Global};
 
@@ -18,22 +18,10 @@ pub fn push_number<I: Integer>(text: &mut Vec<u8>, number: I) -> Result<(), Allo
     text.extend_from_slice(buffer.format(number).as_bytes())
 }
 
-/// The word by which reports and refusals name a kind of fault.
-pub fn kind_text(kind: Kind) -> &'static [u8]
-    ensures { result.now ≡ kind_text kind }
-{
-    match kind {
-        Kind::Size => b"SIZE",
-        Kind::Truncation => b"TRUNCATION",
-        Kind::Zero => b"ZERO",
-        Kind::Class => b"CLASS",
-    }
-}
-
 fn push_alarm(text: &mut Vec<u8>, alarm: &Alarm) -> Result<(), AllocError>
     ensures { OnOk result (text.new.items ≡ text.old.items ++ alarm_text alarm.now) }
 {
-    text.extend_from_slice(kind_text(alarm.kind))?;
+    text.extend_from_slice(alarm.kind.text().as_bytes())?;
     text.extend_from_slice(b" statement ")?;
     push_number(text, alarm.statement)?;
     text.extend_from_slice(b" line ")?;

@@ -2,7 +2,7 @@
 ghost use Rattle.std.specs.Prelude.{◌≡◌, ◌++◌, OnOk, IfOk};
 ghost use Rattle.commands.specs.RunText.{external_at, fault_line, number_line, ragged_line, run_text, stop_line};
 
-use crate::report_text::{kind_text, push_number};
+use crate::report_text::push_number;
 use cob_data::FileDecl;
 use cob_interp::RunEnd;
 use cob_tree::Kind;
@@ -56,7 +56,7 @@ fn push_fault(text: &mut Vec<u8>, kind: Kind, statement: u32, step: u64) -> Resu
     ensures { OnOk result (text.new.items ≡ text.old.items ++ fault_line kind statement step) }
 {
     text.extend_from_slice(b"E18 ")?;
-    text.extend_from_slice(kind_text(kind))?;
+    text.extend_from_slice(kind.text().as_bytes())?;
     text.extend_from_slice(b" statement ")?;
     push_number(text, statement)?;
     text.extend_from_slice(b" step ")?;

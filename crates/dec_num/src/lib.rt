@@ -6,6 +6,7 @@
 #![tactic(auto)]
 
 mod fitting;
+mod limits;
 mod quotient;
 mod rounding;
 mod scaled;
@@ -13,6 +14,7 @@ mod tens;
 mod types;
 
 pub use fitting::fit;
+pub use limits::{LIMIT, NO_NUMBER, SIZE_LIMIT};
 pub use quotient::quot;
 pub use scaled::{add, align, mul, sub};
 pub use tens::pow10;

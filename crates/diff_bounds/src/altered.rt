@@ -7,9 +7,7 @@ ghost use Rattle.diff_bounds.specs.Assigned.{less_place};
 ghost use Rattle.diff_bounds.specs.Changed.{IsSet, IsLess, IsWithout};
 
 use crate::{Lin, lin_scale};
-
-// Small numbers are below it.
-const LIMIT: i128 = 10_000_000_000_000_000_000_000_000_000_000_000_000;
+use dec_num::LIMIT;
 
 /// The form times -1.
 pub fn negated(form: &Lin) -> Lin

@@ -9,11 +9,9 @@ ghost use Rattle.diff_bounds.specs.Values.{IsOver};
 ghost use Rattle.diff_bounds.specs.Assigned.{upper_less, less_upper, AreAssigned, with_value, IsValue};
 
 use super::altered::{has_less, less, negated};
+use super::words::NONE;
 use crate::Lin;
 use crate::bounds::upper;
-
-/// The word of no bound.
-pub(crate) const NONE: i128 = 100_000_000_000_000_000_000_000_000_000_000_000_000;
 
 // as many words as a row can have
 type Words = [i128; 9];

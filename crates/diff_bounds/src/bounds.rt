@@ -6,8 +6,9 @@ ghost use Rattle.diff_bounds.specs.Numbers.{number_of, word_of, added, times};
 ghost use Rattle.diff_bounds.specs.Upper.{terms, without, by_zero, by_pair, least_to, upper, coef_at, upper_of};
 ghost use Rattle.diff_bounds.specs.FormSums.{sum_of, IsWithin, AreCoefs, ArePair};
 
-use super::sums::{NONE, cut_whole, plus, plus_pair, scaled};
+use super::sums::{cut_whole, plus, plus_pair, scaled};
 use super::terms::{place_of, terms_of};
+use super::words::NONE;
 use crate::Lin;
 
 // the form's bound by row 0

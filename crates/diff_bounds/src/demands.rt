@@ -10,7 +10,7 @@ ghost use Rattle.diff_bounds.specs.Values.{IsOver};
 ghost use Rattle.diff_bounds.specs.Demanded.{divided, if_positive, if_opposite, factor, demanded, lowered, AreDemanded, IsMet};
 
 use super::altered::{negated, without};
-use super::assignment::NONE;
+use super::words::NONE;
 use crate::Lin;
 use crate::bounds::upper;
 

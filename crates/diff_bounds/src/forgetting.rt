@@ -4,7 +4,8 @@ ghost use Rattle.diff_bounds.specs.Matrix.{word, IsMatrix};
 ghost use Rattle.diff_bounds.specs.Storages.{StandsIn};
 ghost use Rattle.diff_bounds.specs.Forgotten.{AreForgotten, AgreeBut};
 
-use super::assignment::{NONE, put_column, put_row};
+use super::assignment::{put_column, put_row};
+use super::words::NONE;
 
 /// Leaves nothing that the matrix says of a cell, and keeps the other words.
 ///

@@ -4,10 +4,11 @@ ghost use Rattle.std.specs.List.{AllByRecursion};
 ghost use Rattle.diff_bounds.specs.Lattice.{matrix_of, bottom_word};
 ghost use Rattle.diff_bounds.specs.PackRows.{words_of, matrices_beside, are_at_most, is_least, lists_of};
 
+use super::words::LARGEST;
 use crate::sizes::words_of;
 
 // the least word of a matrix off its diagonal
-const LOWEST: i128 = -10_000_000_000_000_000_000_000_000_000_000_000_000;
+const LOWEST: i128 = -LARGEST;
 
 // a word of the least matrix
 fn least_word(size: usize, at: usize) -> i128

@@ -88,6 +88,7 @@ pub use row_laws::rows_are_a_lattice;
 pub use settling::settled;
 pub use sizes::{height_of, width_of, words_of};
 pub use widening::widen_rows;
+pub use words::{LARGEST, NONE};
 
 /// Cells whose differences are tracked together, by their places from 1, in rising order.
 #[derive(PartialEq, Eq, Drop)]

@@ -2,8 +2,7 @@
 ghost use Rattle.std.specs.Prelude.{◌+ℤ◌, ◌*ℤ◌, SomeIff};
 ghost use Rattle.interval_domain.specs.Bounds.{IsSmall};
 
-// Small numbers are below it.
-const LIMIT: i128 = 10_000_000_000_000_000_000_000_000_000_000_000_000;
+use dec_num::LIMIT;
 
 // the number, if it is small
 fn small(z: i128) -> Option<i128>

@@ -4,11 +4,7 @@ ghost use Rattle.diff_bounds.specs.Matrix.{IsWord};
 ghost use Rattle.diff_bounds.specs.Numbers.{number_of, word_of, added, cut, times};
 ghost use Rattle.diff_bounds.specs.FormSums.{sum_of, IsWithin};
 
-/// The word of no bound.
-pub(crate) const NONE: i128 = 100_000_000_000_000_000_000_000_000_000_000_000_000;
-
-// the greatest number that a word can be
-const LARGEST: i128 = 10_000_000_000_000_000_000_000_000_000_000_000_000;
+use super::words::{LARGEST, NONE};
 
 // none among sums
 const NO_SUM: i128 = i128::MAX;

@@ -1,11 +1,13 @@
 //! The words of a matrix and their places.
 ghost use Rattle.std.specs.Prelude.{◌≡◌, ◌+◌, ◌*◌, ◌<◌, ◌≤◌};
 
+use dec_num::{LIMIT, NO_NUMBER};
+
 /// The word of no bound.
-pub(crate) const NONE: i128 = 100_000_000_000_000_000_000_000_000_000_000_000_000;
+pub const NONE: i128 = NO_NUMBER;
 
 /// The greatest number that a word can be.
-pub(crate) const LARGEST: i128 = 10_000_000_000_000_000_000_000_000_000_000_000_000;
+pub const LARGEST: i128 = LIMIT;
 
 // the place of a word, where a row has so many
 #[inline(always)]

@@ -14,7 +14,7 @@ use Rattle.sum_ranges.specs.SumRanges.{sum_range}
 use Rattle.sum_forms.specs.Constants.{item_form}
 use Rattle.transfer_ranges.specs.declared.amounts.Taken.{Taken}
 use Rattle.interval_domain.specs.Known.{Known}
-use Rattle.cell_steps.specs.Homes.{of_item}
+use Rattle.cob_graph.specs.declared.homes.Home.TheVariants.{Item as of_item}
 use Rattle.cell_steps.specs.Seen.{Seen}
 use Rattle.cell_steps.specs.Stores.{range_at}
 use Rattle.diff_steps.specs.Packs.{Pack, cell_of, pack_decimals}

@@ -7,7 +7,7 @@ use Rattle.cob_runs.specs.Contents.{form_at}
 use Rattle.cob_edge_parts.specs.Parts.{Amount}
 use Rattle.diff_bounds.specs.declared.form.Lin.{Lin}
 use Rattle.transfer_ranges.specs.Receivers.{receiver_of}
-use Rattle.cell_steps.specs.Homes.{of_item}
+use Rattle.cob_graph.specs.declared.homes.Home.TheVariants.{Item as of_item}
 use Rattle.cell_steps.specs.Seen.{Seen}
 use Rattle.cell_steps.specs.Stores.{amount_at}
 use Rattle.diff_steps.specs.Packs.{Pack, size_of, unit_of}

@@ -12,7 +12,8 @@ use Rattle.interval_domain.specs.Elements.{CellsFit}
 use Rattle.interval_domain.specs.Rows as rows
 use Rattle.interval_domain.specs.Rows.{cells_of}
 use Rattle.interval_domain.proofs.Rows.{element_back}
-use Rattle.cell_steps.specs.Homes.{homes_of, owns}
+use Rattle.cob_graph.specs.Homes.{homes_of}
+use Rattle.cell_steps.specs.OwnRanges.{owns}
 use Rattle.cell_laws.specs.Entry.{entry_known, entry_cells}
 use Rattle.cell_layer.specs.ProgramRows.{IsRowOf}
 use Rattle.diff_steps.specs.Packs.{Pack, size_of}

@@ -15,7 +15,7 @@ use Rattle.transfer_ranges.specs.declared.amounts.AmountRange.TheVariants as ran
 use Rattle.transfer_ranges.specs.Receivers.{receiver_of}
 use Rattle.interval_domain.specs.Known.{Known}
 use Rattle.interval_domain.specs.Elements.{Element}
-use Rattle.cell_steps.specs.Homes.{of_item, of_count}
+use Rattle.cob_graph.specs.declared.homes.Home.TheVariants.{Item as of_item, Count as of_count}
 use Rattle.cell_steps.specs.Seen.{Seen}
 use Rattle.cell_steps.specs.Stores.{with_taken, taking, amount_at, behind_store}
 use Rattle.cell_steps.specs.Steps.{with_cells_if}

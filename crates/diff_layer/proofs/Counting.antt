@@ -6,7 +6,9 @@ use Rattle.sum_ranges.specs.Ranged.{ranged}
 use Rattle.sum_ranges.specs.Sizes.{IsSmallRange}
 use Rattle.interval_domain.specs.Known.{Known}
 use Rattle.interval_domain.specs.Elements.{CellsFit}
-use Rattle.cell_steps.specs.Homes.{of_count, homes_of, owns}
+use Rattle.cob_graph.specs.declared.homes.Home.TheVariants.{Count as of_count}
+use Rattle.cob_graph.specs.Homes.{homes_of}
+use Rattle.cell_steps.specs.OwnRanges.{owns}
 use Rattle.cell_steps.specs.Cells.{units_of}
 use Rattle.cell_layer.proofs.CounterRanges.{count_is_small, count_is_ordered}
 

@@ -1,23 +1,19 @@
 -- A divisor that the matrix of a pack shows not to be 0.
-use Rattle.std.proofs.Common.{◌≡◌, List, length, ℤ, Option, sym, ap, ◌∙◌}
-use Rattle.std.proofs.lemmas.List.{length-map}
+use Rattle.std.proofs.Common.{◌≡◌, List, length, ℤ, Option, ap, ◌∙◌}
 use Rattle.cob_program.specs.Sum.{Atom}
 use Rattle.cob_program.specs.Act.{Program}
 use Rattle.diff_bounds.specs.declared.form.Lin.{Lin}
 use Rattle.sum_forms.specs.SumForms.{atom_form}
 use Rattle.interval_domain.specs.Known.{Known}
-use Rattle.cell_steps.specs.Homes.{of_item}
+use Rattle.cob_graph.specs.declared.homes.Home.TheVariants.{Item as of_item}
 use Rattle.cell_steps.specs.Stores.{range_at}
 use Rattle.diff_steps.specs.Packs.{Pack, cell_of, pack_decimals}
 use Rattle.diff_layer.specs.Receiving.{is_apart}
-use Rattle.diff_layer.specs.declared.cells.PackCell.{PackCell}
-use Rattle.diff_layer.specs.Cells.{plain_cell, plain_cells}
+use Rattle.cob_graph.specs.declared.homes.Home.{Home}
 use Rattle.diff_layer.specs.Clears.{divisor_apart}
 
-pub apart_is : (p : Program) (known : List Known) (d : Atom) (cells : List PackCell) (pack : Pack) (m : List ℤ) (form : Option Lin) → plain_cells cells ≡ pack →
-    form ≡ atom_form (pack_decimals p.layout (plain_cells cells)) (λ place. cell_of (plain_cells cells) (of_item place)) (range_at p known) d →
+pub apart_is : (p : Program) (known : List Known) (d : Atom) (cells : List Home) (pack : Pack) (m : List ℤ) (form : Option Lin) → cells ≡ pack →
+    form ≡ atom_form (pack_decimals p.layout cells) (λ place. cell_of cells (of_item place)) (range_at p known) d →
     is_apart (length cells) m form ≡ divisor_apart p known d pack m
 apart_is p known d cells pack m form same e =
-    ap (is_apart (length cells) m) e
-    ∙ (ap (λ n. is_apart n m (atom_form (pack_decimals p.layout (plain_cells cells)) (λ place. cell_of (plain_cells cells) (of_item place)) (range_at p known) d)) (sym (length-map cells plain_cell))
-    ∙ ap (λ k. divisor_apart p known d k m) same)
+    ap (is_apart (length cells) m) e ∙ ap (λ k. divisor_apart p known d k m) same

@@ -53,8 +53,3 @@ module _ {X Y : Type 0} (f : X → Y) where
 
   pub fill_ends : (xs : List X) (ys : List Y) (k : ℕ) → IsFilledTo xs ys k → length xs ≤ k → ys ≡ map f xs
   fill_ends xs ys k is past = all_filled xs ys k is.width past is.so_far
-
--- one map behind another
-pub map_twice : {X Y Z : Type 0} (g : X → Y) (f : Y → Z) (xs : List X) → map (λ x. f (g x)) xs ≡ map f (map g xs)
-map_twice g f [] = refl
-map_twice g f (x ∷ xs) = ap (λ ys. f (g x) ∷ ys) (map_twice g f xs)

@@ -6,13 +6,11 @@ use Rattle.cob_program.specs.Act.{Program}
 use Rattle.cob_edge_parts.specs.Parts.{Part, read, unread, divide, store, bytes_in, guard, read_count, set_count, count_down, guard_count}
 use Rattle.transfer_ranges.specs.declared.amounts.Taken.{Taken}
 use Rattle.interval_domain.specs.Known.{Known}
-use Rattle.cell_steps.specs.Homes.{Home}
+use Rattle.cob_graph.specs.declared.homes.Home.{Home}
 use Rattle.cell_layer.specs.Latest.{Latest}
 use Rattle.diff_steps.specs.Moments.{Bytes}
 use Rattle.diff_steps.specs.Packs.{Pack}
 use Rattle.diff_steps.specs.Steps.{each_pack, all_closed}
-use Rattle.diff_layer.specs.declared.cells.PackCell.{PackCell}
-use Rattle.diff_layer.specs.Cells.{plain_cell, plain_cells}
 use Rattle.diff_layer.specs.Closed.{AreClosedBy, IsIdle}
 use Rattle.diff_layer.specs.Parts.{plan_changed}
 use Rattle.diff_layer.proofs.PackRows.{split_is}
@@ -42,6 +40,6 @@ module _ (p : Program) (before known : List Known) (common : Option Taken) (late
 
 -- ---- the first cell, and those behind it
 
-pub all_cells : (P : Home → Type 0) (pack : List PackCell) (d : PackCell) → 1 ≤ length pack → P (plain_cell (get_or pack 0 d))
-    → AllByRecursion P (plain_cells (take (length pack - 1) (drop 1 pack))) → AllByRecursion P (plain_cells pack)
-all_cells P pack d some here rest = subst (λ (cs : List PackCell). AllByRecursion P (plain_cells cs)) (sym (split_is pack d some)) (here, rest)
+pub all_cells : (P : Home → Type 0) (pack : List Home) (d : Home) → 1 ≤ length pack → P (get_or pack 0 d)
+    → AllByRecursion P (take (length pack - 1) (drop 1 pack)) → AllByRecursion P pack
+all_cells P pack d some here rest = subst (λ (cs : List Home). AllByRecursion P cs) (sym (split_is pack d some)) (here, rest)

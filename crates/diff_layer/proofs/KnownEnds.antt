@@ -10,7 +10,9 @@ use Rattle.cob_program.specs.Act.{Program}
 use Rattle.diff_bounds.specs.Matrix.{largest}
 use Rattle.interval_domain.specs.Known.{Known, KnownFits}
 use Rattle.interval_domain.specs.Elements.{CellsFit}
-use Rattle.cell_steps.specs.Homes.{Home, homes_of, home_range, owns}
+use Rattle.cob_graph.specs.declared.homes.Home.{Home}
+use Rattle.cob_graph.specs.Homes.{homes_of}
+use Rattle.cell_steps.specs.OwnRanges.{home_range, owns}
 use Rattle.cell_steps.specs.Storages.{known_of}
 use Rattle.cell_laws.proofs.CellLists.{known_fits}
 use Rattle.cell_layer.proofs.Stepping.{held_at}

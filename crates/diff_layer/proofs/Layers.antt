@@ -17,7 +17,10 @@ use Rattle.dom_laws.specs.Lattice.{IsElement}
 use Rattle.dom_laws.specs.Flow.{IsEdge, IsNode}
 use Rattle.graph_runs.specs.Places.{no_edge, edge_at}
 use Rattle.interval_domain.specs.Rows.{IsRow, element_of}
-use Rattle.cell_steps.specs.Homes.{Home, homes_of, home_range, owns}
+use Rattle.cob_graph.specs.declared.homes.Home.{Home}
+use Rattle.cob_graph.specs.Homes.{homes_of}
+use Rattle.cob_graph.specs.Limits.{most_cells}
+use Rattle.cell_steps.specs.OwnRanges.{home_range, owns}
 use Rattle.cell_layer.specs.Held.{IsHeld}
 use Rattle.cell_layer.proofs.Making.{sound_items}
 use Rattle.diff_bounds.specs.declared.Pack as declared
@@ -138,7 +141,7 @@ module _ (p : Program) (g : Graph) (ss : List (Bor declared_stmt.Stmt)) (held : 
 
   -- ---- facts
 
-  pub few_facts : length g.cells ≤ 512 → (row : List ℤ) → IsRow (owns p) row → length row ≤ 1025
+  pub few_facts : length g.cells ≤ most_cells → (row : List ℤ) → IsRow (owns p) row → length row ≤ 1025
   few_facts few row is =
       let wide = facts.width_is (owns p) row is in
       let many : length (owns p) ≡ length g.cells = length-map (homes_of p) (home_range p.layout) ∙ sym (cells_for_homes p g ss held) in

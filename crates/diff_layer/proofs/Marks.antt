@@ -1,7 +1,7 @@
 -- Cells that are forgotten by their marks.
 use Rattle.std.proofs.Common.{◌≡◌, ℕ, suc, ◌+◌, ◌<◌, ◌≤◌, Bool, List, [], ◌∷◌, length, get_or, drop, map, ℤ, refl, sym, ap, ◌∙◌, arith}
 use Rattle.std.proofs.lemmas.List.{drop_all, drop_more}
-use Rattle.cell_steps.specs.Homes.{Home}
+use Rattle.cob_graph.specs.declared.homes.Home.{Home}
 use Rattle.diff_steps.specs.Stores.{forgotten_cells}
 use Rattle.diff_layer.specs.PackGone.{forgotten_if, forgotten_marked}
 

@@ -21,12 +21,10 @@ use Rattle.sum_forms.specs.Values.{IsForm, IsWithin}
 use Rattle.sum_forms.proofs.Shows.{if_there}
 use Rattle.sum_forms.proofs.Within.{constant_within, range_within, cell_within, sum_within, scaled_within, turned_within, item_within, sum_form_within}
 use Rattle.transfer_ranges.specs.declared.amounts.Taken.{Taken}
-use Rattle.cell_steps.specs.Homes.{Home}
+use Rattle.cob_graph.specs.declared.homes.Home.{Home}
 use Rattle.diff_steps.specs.Packs.{cell_of}
 use Rattle.diff_steps.specs.Forms.{whole_sum, added_forms, turned_if}
 use Rattle.diff_layer.specs.Forms.{IsFormOf}
-use Rattle.diff_layer.specs.declared.cells.PackCell.{PackCell}
-use Rattle.diff_layer.specs.Cells.{plain_cell, plain_cells}
 use Rattle.diff_layer.proofs.Places.{cell_below}
 use Rattle.diff_layer.specs.Working.{settled_if, kept_by, taken_by, item_by, sender_by, own_by, read_by, multiplied_by, operands_by, computed_by, amount_by}
 
@@ -99,9 +97,9 @@ module _ (size f : ℕ) (cell : ℕ → Option ℕ) (few : (place k : ℕ) → c
 
 -- ---- a pack as the code has it
 
-pub few : (cells : List PackCell) (home : Home) (k : ℕ) → cell_of (plain_cells cells) home ≡ Some k → k < length cells
+pub few : (cells : List Home) (home : Home) (k : ℕ) → cell_of cells home ≡ Some k → k < length cells
 few cells home k e =
-    subst (λ n. k < n) (length-map cells plain_cell) (subst (λ (o : Option ℕ). IfSome o (λ j. j < length (plain_cells cells))) e (cell_below home (plain_cells cells)))
+    subst (λ (o : Option ℕ). IfSome o (λ j. j < length cells)) e (cell_below home cells)
 
 -- a form is of the pack's size if one that equals it is within it
 pub is_of_pack : (size : ℕ) (o q : Option Lin) → IfSome o IsForm → o ≡ q → IfSome q (IsWithin size) → IfSome o (IsFormOf size)

@@ -4,7 +4,7 @@ use Rattle.cob_program.specs.Values.{◌>>=◌}
 use Rattle.cob_program.specs.Act.{Program}
 use Rattle.diff_bounds.specs.Matrix.{IsMatrix}
 use Rattle.interval_domain.specs.Known.{Known}
-use Rattle.cell_steps.specs.Homes.{homes_of}
+use Rattle.cob_graph.specs.Homes.{homes_of}
 use Rattle.diff_steps.specs.Matrices.{put_closed}
 use Rattle.diff_steps.specs.Steps.{each_pack, all_closed}
 use Rattle.diff_steps.specs.Clearing.{some_pack}

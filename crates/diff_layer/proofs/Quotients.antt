@@ -7,14 +7,13 @@ use Rattle.dec_num.specs.declared.types.Mode.TheVariants.{Trunc}
 use Rattle.interval_domain.specs.declared.bounds.Interval.{Interval}
 use Rattle.interval_domain.specs.Corners.{either_of}
 use Rattle.interval_domain.specs.Results.{IsQuotient}
-use Rattle.sum_ranges.proofs.Operations.{LeastIfAny}
+use Rattle.sum_ranges.proofs.Operations.{LeastIfAny, quotients_least}
 use Rattle.cob_program.specs.Values.{quotient_scale}
 use Rattle.sum_ranges.specs.declared.ranged.Ranged.{Ranged}
 use Rattle.sum_ranges.specs.Ranged.{ranged}
 use Rattle.sum_ranges.specs.SumRanges.{shift, quotients, quotient_range}
 use Rattle.sum_ranges.specs.Sizes.{IsSmallRange}
 use Rattle.sum_ranges.specs.Working.{CanDivideRanges}
-use Rattle.sum_ranges.proofs.Operations.{quotients_least}
 
 pub quotient_small : (a b : Ranged) (o : Option Ranged) → CanDivideRanges a b → o ≡ quotient_range a b → IfSome o IsSmallRange
 quotient_small a b o can e = subst (λ (q : Option Ranged). IfSome q IsSmallRange) (sym e) (go (quotients (pos (shift a b)) a.units b.units) (quotients_least (pos (shift a b)) a.units b.units can.left.ordered can.right.ordered))

@@ -11,7 +11,7 @@ use Rattle.cob_graph.specs.declared.graph.Edge.{Edge}
 use Rattle.cob_graph.specs.declared.graph.Graph.{Graph}
 use Rattle.interval_domain.specs.Known.{Known}
 use Rattle.interval_domain.specs.Elements.{Element}
-use Rattle.cell_steps.specs.Homes.{Home}
+use Rattle.cob_graph.specs.declared.homes.Home.{Home}
 use Rattle.cell_laws.specs.Layer.{left}
 use Rattle.diff_bounds.specs.declared.Pack as declared
 use Rattle.diff_bounds.specs.Lattice.{matrices}

@@ -16,7 +16,10 @@ use Rattle.cob_program.specs.Statements.{program_statements}
 use Rattle.cob_runs.specs.Contents.{item_at, form_at, scale_of}
 use Rattle.cob_store.specs.WellFormed.{IsWellFormedForm, IsWellFormedItem, HasWellFormedItems}
 use Rattle.interval_domain.specs.declared.bounds.Interval.{Interval}
-use Rattle.cell_steps.specs.Homes.{Home, of_item, of_count, if_named, home_of, item_homes, turns_homes, act_homes, count_homes, homes_of, picture_range, form_range}
+use Rattle.cob_graph.specs.declared.homes.Home.{Home}
+use Rattle.cob_graph.specs.declared.homes.Home.TheVariants.{Item as of_item, Count as of_count}
+use Rattle.cob_graph.specs.Homes.{if_named, home_of, item_homes, turns_homes, act_homes, count_homes, homes_of}
+use Rattle.cell_steps.specs.OwnRanges.{picture_range, form_range}
 use Rattle.diff_layer.specs.Plans.{IsShortHome}
 
 -- ---- pictures

@@ -15,7 +15,10 @@ use Rattle.cob_program.specs.Act.{once, times, until, varying, Stmt, MkStmt, Act
 use Rattle.cob_program.specs.Statements.{program_statements}
 use Rattle.cob_runs.specs.Contents.{item_at, form_at, scale_of}
 use Rattle.cob_store.specs.WellFormed.{IsWellFormedForm, IsWellFormedItem, HasWellFormedItems}
-use Rattle.cell_steps.specs.Homes.{Home, of_item, of_count, picture_range, form_range, if_named, home_of, item_homes, act_homes, count_homes, homes_of}
+use Rattle.cob_graph.specs.declared.homes.Home.{Home}
+use Rattle.cob_graph.specs.declared.homes.Home.TheVariants.{Item as of_item, Count as of_count}
+use Rattle.cell_steps.specs.OwnRanges.{picture_range, form_range}
+use Rattle.cob_graph.specs.Homes.{if_named, home_of, item_homes, act_homes, count_homes, homes_of}
 use Rattle.diff_steps.specs.Packs.{Pack}
 use Rattle.pack_laws.specs.Agreeing.{IsPackOf}
 use Rattle.diff_layer.specs.Plans.{IsShortHome}

@@ -13,7 +13,9 @@ use Rattle.diff_bounds.specs.Closed.{closed, IsClosed}
 use Rattle.diff_bounds.proofs.Tight.{tight_of_closure}
 use Rattle.interval_domain.specs.Known.{Known}
 use Rattle.interval_domain.specs.Elements.{CellsFit}
-use Rattle.cell_steps.specs.Homes.{Home, homes_of, owns}
+use Rattle.cob_graph.specs.declared.homes.Home.{Home}
+use Rattle.cob_graph.specs.Homes.{homes_of}
+use Rattle.cell_steps.specs.OwnRanges.{owns}
 use Rattle.cell_steps.specs.Storages.{known_of}
 use Rattle.cell_layer.proofs.Stepping.{held_at}
 use Rattle.diff_steps.specs.Packs.{Pack, size_of, unit_of}

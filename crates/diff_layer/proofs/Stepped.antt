@@ -11,7 +11,7 @@ use Rattle.edge_amounts.specs.Working.{CanWork}
 use Rattle.interval_domain.specs.Known.{Known}
 use Rattle.cell_steps.specs.Agreeing.{of_operands}
 use Rattle.cell_steps.specs.Seen.{Seen}
-use Rattle.cell_steps.specs.Stores.{range_at, taking}
+use Rattle.cell_steps.specs.Stores.{range_at, keeps_receiver, taking}
 use Rattle.cell_laws.specs.Sizes.{IsSmallPart}
 use Rattle.cell_layer.specs.Kept.{step_at}
 use Rattle.cell_layer.specs.Latest.{Latest, latest_behind}
@@ -89,7 +89,7 @@ module _ (p : Program) (a : Act) (x : Action) where
 
   -- ---- both rows
 
-  bytes_same : (y : Part) → written_by p a x y ≡ part_bytes p.layout y
+  bytes_same : (y : Part) → written_by p a x y ≡ part_bytes (keeps_receiver a x) p.layout y
   bytes_same (read place) = refl
   bytes_same unread = refl
   bytes_same (divide d) = refl
@@ -105,7 +105,7 @@ module _ (p : Program) (a : Act) (x : Action) where
     pub stepped : (y : Part) (s t : Seen) (known : List Known) (latest before : Latest) (wrote : List Bytes) (ms out : List (List ℤ)) (b : Bool) →
         IsSmallPart p a x y → step_small p a x y s ≡ Some t → latest ≡ latest_behind p a x y s before → known ≡ s.cells →
         all_closed p t.cells packs (each_pack (plan_changed p known t.common latest wrote y) packs ms) ≡ (if b then Some out else None) →
-        step2_small p packs a x y s (seen2 wrote ms) ≡ passed_to b t (seen2 (part_bytes p.layout y ++ wrote) out)
+        step2_small p packs a x y s (seen2 wrote ms) ≡ passed_to b t (seen2 (part_bytes (keeps_receiver a x) p.layout y ++ wrote) out)
     stepped y s t known latest before wrote ms out b small e told cells closes =
         ap (λ (o : Option Seen). o >>= λ u. all_closed p u.cells packs c.packs >>= λ ks. Some (u, with_packs c ks)) e
         ∙ (ap (λ (o : Option (List (List ℤ))). o >>= λ ks. Some (t, with_packs c ks)) (ap (all_closed p t.cells packs) (sym changes) ∙ closes) ∙ go b)
@@ -121,7 +121,7 @@ module _ (p : Program) (a : Act) (x : Action) where
         changes : each_pack (plan_changed p known t.common latest wrote y) packs ms ≡ c.packs
         changes = each_same (plan_changed p known t.common latest wrote y) (changed_pack p a x y s wrote) one packs ms
 
-        go : (d : Bool) → ((if d then Some out else None) >>= λ ks. Some (t, with_packs c ks)) ≡ passed_to d t (seen2 (part_bytes p.layout y ++ wrote) out)
+        go : (d : Bool) → ((if d then Some out else None) >>= λ ks. Some (t, with_packs c ks)) ≡ passed_to d t (seen2 (part_bytes (keeps_receiver a x) p.layout y ++ wrote) out)
         go true = ap (λ bs. Some (t, seen2 (bs ++ wrote) out)) (bytes_same y)
         go false = refl
 

@@ -12,7 +12,7 @@ use Rattle.edge_amounts.specs.PartView.{edge_parts}
 use Rattle.interval_domain.specs.Known.{Known}
 use Rattle.interval_domain.specs.Rows.{cells_of}
 use Rattle.interval_domain.specs.Elements.{CellsFit}
-use Rattle.cell_steps.specs.Homes.{owns}
+use Rattle.cell_steps.specs.OwnRanges.{owns}
 use Rattle.cell_steps.specs.Seen.{Seen, beginning}
 use Rattle.cell_laws.specs.Sizes.{IsSmallPart}
 use Rattle.cell_layer.specs.declared.kept.Kept.{Kept}

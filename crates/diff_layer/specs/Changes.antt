@@ -14,7 +14,7 @@ use Rattle.transfer_ranges.specs.declared.amounts.AmountRange.TheVariants as ran
 use Rattle.transfer_ranges.specs.Receivers.{receiver_of}
 use Rattle.sum_ranges.specs.declared.ranged.Ranged.{Ranged}
 use Rattle.interval_domain.specs.Known.{Known}
-use Rattle.cell_steps.specs.Homes.{of_item, of_count}
+use Rattle.cob_graph.specs.declared.homes.Home.TheVariants.{Item as of_item, Count as of_count}
 use Rattle.cell_steps.specs.Stores.{range_at}
 use Rattle.cell_layer.specs.Latest.{Latest}
 use Rattle.diff_steps.specs.Packs.{Pack, cell_of, decimals_of}

@@ -1,7 +1,9 @@
 -- Cells that a part leaves nothing known of.
 use Rattle.std.specs.Prelude.{◌&&◌, ◌||◌, not, Bool}
 use Rattle.cob_data.specs.declared.layout.Layout.{Layout}
-use Rattle.cell_steps.specs.Homes.{Home, of_item, is_home}
+use Rattle.cob_graph.specs.declared.homes.Home.{Home}
+use Rattle.cob_graph.specs.declared.homes.Home.TheVariants.{Item as of_item}
+use Rattle.cob_graph.specs.Homes.{is_home}
 use Rattle.cell_steps.specs.Cells.{is_in_bytes, is_beside}
 use Rattle.diff_layer.specs.declared.gone.Gone.{Gone}
 use Rattle.diff_layer.specs.declared.gone.Gone.TheVariants.{Others, Lost, Bytes}

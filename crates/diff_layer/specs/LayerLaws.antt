@@ -18,7 +18,9 @@ use Rattle.graph_runs.specs.Sources.{IsSourceGraph}
 use Rattle.interval_domain.specs.Known.{Known, KnownFits}
 use Rattle.interval_domain.specs.Elements.{Element, CellsFit, ElementFits}
 use Rattle.interval_domain.specs.Rows.{IsRow, element_of}
-use Rattle.cell_steps.specs.Homes.{Home, homes_of, owns}
+use Rattle.cob_graph.specs.declared.homes.Home.{Home}
+use Rattle.cob_graph.specs.Homes.{homes_of}
+use Rattle.cell_steps.specs.OwnRanges.{owns}
 use Rattle.cell_layer.proofs.FirstCells.{homes_many}
 use Rattle.cell_layer.specs.Held.{IsHeld}
 use Rattle.diff_bounds.specs.declared.Pack as declared

@@ -4,7 +4,6 @@ pub mod Forms
 pub mod PackGone
 pub mod Receiving
 pub mod Tight
-pub mod Cells
 pub mod Views
 pub mod Sizes
 pub mod PackWriting

@@ -2,21 +2,12 @@
 use Rattle.std.specs.Prelude.{◌≡◌, ℕ, List, map, length}
 use Rattle.std.specs.List.{AllByRecursion}
 use Rattle.cob_data.specs.declared.layout.Layout.{Layout}
-use Rattle.cell_steps.specs.Homes.{Home, of_item, of_count}
+use Rattle.cob_graph.specs.declared.homes.Home.{Home}
 use Rattle.diff_bounds.specs.declared.Pack as declared
 use Rattle.diff_steps.specs.Packs.{pack_decimals}
-use Rattle.diff_layer.specs.declared.cells.PackCell.{PackCell}
-use Rattle.diff_layer.specs.declared.cells.PackCell.TheVariants.{Item, Count}
 use Rattle.diff_layer.specs.declared.plans.PackPlan.{PackPlan}
 use Rattle.diff_layer.specs.Plans.{plain_plan, plain_plans}
 use Rattle.pack_laws.specs.Packs.{pack_in, packs_in}
-
-abbrev pub cell_of : Home → PackCell
-cell_of (of_item place) = Item place
-cell_of (of_count statement) = Count statement
-
-abbrev pub cells_of : List Home → List PackCell
-cells_of homes = map cell_of homes
 
 -- ---- plans
 

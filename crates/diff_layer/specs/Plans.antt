@@ -3,15 +3,15 @@ use Rattle.std.specs.Prelude.{◌≡◌, ◌≤◌, ◌^◌, List, map, length, 
 use Rattle.std.specs.List.{AllByRecursion}
 use Rattle.cob_data.specs.declared.layout.Layout.{Layout}
 use Rattle.cob_program.specs.Act.{Program}
-use Rattle.cell_steps.specs.Homes.{Home, home_range}
+use Rattle.cob_graph.specs.declared.homes.Home.{Home}
+use Rattle.cell_steps.specs.OwnRanges.{home_range}
 use Rattle.diff_steps.specs.Packs.{Pack, size_of, decimals_of, pack_decimals}
 use Rattle.diff_bounds.specs.PackRows.{width_of, matrices_in}
 use Rattle.pack_laws.specs.Agreeing.{AreMatrices, IsPackOf}
-use Rattle.diff_layer.specs.Cells.{plain_cells}
 use Rattle.diff_layer.specs.declared.plans.PackPlan.{PackPlan}
 
 abbrev pub plain_plan : PackPlan → Pack
-plain_plan plan = plain_cells plan.cells.items
+plain_plan plan = plan.cells.items
 
 abbrev pub plain_plans : List PackPlan → List Pack
 plain_plans plans = map plain_plan plans

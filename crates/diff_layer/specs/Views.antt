@@ -6,15 +6,14 @@ use Rattle.cob_program.specs.ActView.{plain_program}
 use Rattle.transfer_ranges.specs.declared.amounts.Taken.{Taken}
 use Rattle.interval_domain.specs.Known.{Known}
 use Rattle.interval_domain.specs.Rows.{cells_of}
-use Rattle.cell_steps.specs.Homes.{of_item}
+use Rattle.cob_graph.specs.declared.homes.Home.TheVariants.{Item as of_item}
 use Rattle.cell_steps.specs.Seen.{Seen}
 use Rattle.cell_layer.specs.declared.items.KnownItems.{KnownItems}
 use Rattle.diff_steps.specs.Packs.{Pack, cell_of, pack_decimals}
 use Rattle.diff_layer.specs.declared.pack.PackView.{PackView}
-use Rattle.diff_layer.specs.Cells.{plain_cells}
 
 abbrev pub plain_pack : PackView → Pack
-plain_pack pack = plain_cells pack.cells.now
+plain_pack pack = pack.cells.now
 
 -- the pack's unit is that of its finest cell
 abbrev pub HasUnit : Layout → PackView → Type 0

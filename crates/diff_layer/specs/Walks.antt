@@ -9,6 +9,7 @@ use Rattle.cob_edge_parts.specs.Parts.{Part}
 use Rattle.edge_amounts.specs.PartView.{edge_parts}
 use Rattle.interval_domain.specs.Known.{Known}
 use Rattle.cell_steps.specs.Seen.{Seen, beginning}
+use Rattle.cell_steps.specs.Stores.{keeps_receiver}
 use Rattle.cell_layer.specs.NumberedStatements.{act_in}
 use Rattle.cell_layer.specs.Walks.{step_small}
 use Rattle.diff_steps.specs.Packs.{Pack}
@@ -54,7 +55,7 @@ module _ (p : Program) (packs : List Pack) (y : Stmt) (x : Action) where
 
 -- the bytes that the part with a number writes to
 abbrev pub bytes_at : Program → Stmt → Action → ℕ → List Bytes
-bytes_at p y x k = option_map_or (part_bytes p.layout) (slice_get (edge_parts p y x) k) []
+bytes_at p y x k = option_map_or (part_bytes (keeps_receiver (act_in y) x) p.layout) (slice_get (edge_parts p y x) k) []
 
 -- ---- the edge
 

@@ -1,5 +1,5 @@
 -- The bytes that parts write to, and the items that an edge's operands are read of.
-use Rattle.std.specs.Prelude.{ℕ, List, [], ◌∷◌, Option, Some, None}
+use Rattle.std.specs.Prelude.{ℕ, Bool, if◌then◌else◌, List, [], ◌∷◌, Option, Some, None}
 use Rattle.cob_data.specs.declared.layout.Layout.{Layout}
 use Rattle.cob_program.specs.Sum.{Part as Product, MkPart}
 use Rattle.cob_program.specs.Act.{Act}
@@ -13,11 +13,11 @@ use Rattle.diff_layer.specs.PackWriting.{amount_items}
 abbrev pub bytes : ℕ → ℕ → Bytes
 bytes offset count = record { offset = offset; count = count }
 
--- the bytes that a part writes to
-abbrev pub part_bytes : Layout → Part → List Bytes
-part_bytes l (store place mode y) = item_bytes l place
-part_bytes l (bytes_in offset count) = bytes offset count ∷ []
-part_bytes l _ = []
+-- The bytes that a part writes to. A store writes to none on an edge that keeps its receiver, which the first argument tells.
+abbrev pub part_bytes : Bool → Layout → Part → List Bytes
+part_bytes keeps l (store place mode y) = if keeps then [] else item_bytes l place
+part_bytes keeps l (bytes_in offset count) = bytes offset count ∷ []
+part_bytes keeps l _ = []
 
 -- the items of a product
 abbrev pub product_items : Product → List ℕ

@@ -15,7 +15,7 @@ ghost use Rattle.transfer_ranges.specs.Operands.{is_whole};
 ghost use Rattle.edge_amounts.specs.Small.{is_small_amount};
 ghost use Rattle.edge_amounts.specs.Working.{CanSettle, CanWork};
 ghost use Rattle.interval_domain.specs.Elements.{CellsFit};
-ghost use Rattle.cell_steps.specs.Homes.{owns};
+ghost use Rattle.cell_steps.specs.OwnRanges.{owns};
 ghost use Rattle.cell_steps.specs.Stores.{range_at};
 ghost use Rattle.diff_steps.specs.Forms as forms;
 ghost use Rattle.diff_steps.specs.Moments.{Bytes};
@@ -25,7 +25,6 @@ ghost use Rattle.diff_layer.specs.Views.{plain_pack, item_cell, HasUnit, program
 ghost use Rattle.diff_layer.specs.Working.{settled_if, own_by, product_by, multiplied_by, computed_by, amount_by};
 ghost use Rattle.diff_layer.specs.PackWriting.{amount_items, are_written};
 
-use crate::cells::PackCell;
 use crate::form_sums::{added, scaled, turned};
 use crate::literals::whole_sum;
 use crate::operands::operands_form;
@@ -33,6 +32,7 @@ use crate::pack::{PackView, cell_in};
 use crate::senders::form_of_sender;
 use crate::taken::settled_operands;
 use cell_layer::{KnownItems, item_range};
+use cob_graph::Home;
 use cob_program::{How, Sum};
 use diff_bounds::Lin;
 use edge_amounts::Amount;
@@ -57,7 +57,7 @@ fn own_form(items: &KnownItems, pack: &PackView, place: u32) -> Option<Lin>
     ensures value { result ≡ own_by pack.now.decimals (item_cell pack.now) (range_at (program_of items.now) (known_in items.now)) place }
     ensures good { IfSome result IsForm }
 {
-    match cell_in(pack, PackCell::Item(place)) {
+    match cell_in(pack, Home::Item(place)) {
         Some(cell) => Some(cell_form(cell)),
         None => range_form(pack.decimals, own_range(items, place)),
     }

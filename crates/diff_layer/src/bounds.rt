@@ -9,12 +9,9 @@ ghost use Rattle.diff_layer.specs.PackEnds.{IsNumber};
 ghost use Rattle.diff_layer.specs.Forms.{IsFormOf};
 ghost use Rattle.diff_layer.specs.Receiving.{upper_if, upper_negated_if, is_apart};
 
-use diff_bounds::{Known, Lin, negated, upper};
+use diff_bounds::{Known, Lin, NONE, negated, upper};
 use sum_ranges::Ranged;
 use transfer_ranges::AmountRange;
-
-// the word of no bound
-const NONE: i128 = 100_000_000_000_000_000_000_000_000_000_000_000_000;
 
 /// The least bound that the matrix shows of the form, if it shows one: a number of at most 10^37 in absolute value.
 pub fn bound(size: usize, m: &[i128], form: &Lin) -> Option<i128>

@@ -1,31 +1,22 @@
 //! What the cells of a pack are of, and their units.
 ghost use Rattle.std.specs.Prelude.{◌≡◌, ◌-◌, ◌^◌, ◌≤◌, pos};
 ghost use Rattle.cob_runs.specs.Contents.{form_at, scale_of};
-ghost use Rattle.cell_steps.specs.Homes.{is_home};
+ghost use Rattle.cob_graph.specs.Homes.{is_home};
 ghost use Rattle.diff_steps.specs.Packs as packs;
 ghost use Rattle.diff_steps.specs.Packs.{decimals_of};
-ghost use Rattle.diff_layer.specs.Cells.{plain_cell, plain_cells};
 
 use cob_data::Layout;
+use cob_graph::Home;
 use dec_num::pow10;
 use edge_amounts::receiver_at;
 
-/// What a cell of a pack is of.
-#[derive(Clone, Copy, PartialEq, Eq)]
-pub enum PackCell {
-    /// The item at a place.
-    Item(u32),
-    /// The counter of the PERFORM with TIMES that has a statement's number.
-    Count(u32),
-}
-
 /// Whether both are of one item, or of one counter.
-pub(crate) fn is_same(one: PackCell, other: PackCell) -> bool
-    ensures { result ≡ is_home (plain_cell one) (plain_cell other) }
+pub(crate) fn is_same(one: Home, other: Home) -> bool
+    ensures { result ≡ is_home one other }
 {
     match (one, other) {
-        (PackCell::Item(place), PackCell::Item(another)) => place == another,
-        (PackCell::Count(statement), PackCell::Count(another)) => statement == another,
+        (Home::Item(place), Home::Item(another)) => place == another,
+        (Home::Count(statement), Home::Count(another)) => statement == another,
         _ => false,
     }
 }
@@ -39,18 +30,18 @@ pub(crate) fn item_decimals(layout: &Layout, place: u32) -> u32
 }
 
 /// The decimals of a cell's own unit.
-fn decimals_of(layout: &Layout, cell: PackCell) -> u32
-    ensures { result ≡ decimals_of layout.now (plain_cell cell) }
+fn decimals_of(layout: &Layout, cell: Home) -> u32
+    ensures { result ≡ decimals_of layout.now cell }
 {
     match cell {
-        PackCell::Item(place) => item_decimals(layout, place),
-        PackCell::Count(_) => 0,
+        Home::Item(place) => item_decimals(layout, place),
+        Home::Count(_) => 0,
     }
 }
 
 /// The decimals of a pack's unit, which is that of its finest cell.
-pub fn pack_decimals(layout: &Layout, cells: &[PackCell]) -> u32
-    ensures { result ≡ packs.pack_decimals layout.now (plain_cells cells.now) }
+pub fn pack_decimals(layout: &Layout, cells: &[Home]) -> u32
+    ensures { result ≡ packs.pack_decimals layout.now cells.now }
 {
     let mut most = 0;
     for k in (0..cells.len()).rev() {
@@ -60,9 +51,9 @@ pub fn pack_decimals(layout: &Layout, cells: &[PackCell]) -> u32
 }
 
 /// How many of the pack's units, which has so many decimals, are one unit of a cell.
-pub fn unit_of(layout: &Layout, decimals: u32, cell: PackCell) -> i128
+pub fn unit_of(layout: &Layout, decimals: u32, cell: Home) -> i128
     requires { decimals ≤ 37 }
-    ensures { result ≡ pos (10 ^ (decimals - decimals_of layout.now (plain_cell cell))) }
+    ensures { result ≡ pos (10 ^ (decimals - decimals_of layout.now cell)) }
 {
     pow10(decimals.saturating_sub(decimals_of(layout, cell)))
 }

@@ -16,7 +16,7 @@ ghost use Rattle.edge_amounts.specs.Small.{has_small_sum};
 ghost use Rattle.edge_amounts.specs.Working.{CanWork, amount_from as found_amount};
 ghost use Rattle.interval_domain.specs.Elements.{CellsFit};
 ghost use Rattle.interval_domain.specs.Rows.{cells_of};
-ghost use Rattle.cell_steps.specs.Homes.{owns};
+ghost use Rattle.cell_steps.specs.OwnRanges.{owns};
 ghost use Rattle.cell_steps.specs.Stores.{range_at};
 ghost use Rattle.cell_layer.specs.Kept.{seen};
 ghost use Rattle.cell_layer.specs.ProgramRows.{IsRowOf};

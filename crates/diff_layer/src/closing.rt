@@ -5,7 +5,8 @@ ghost use Rattle.diff_bounds.specs.Matrix.{IsMatrix};
 ghost use Rattle.interval_domain.specs.Known.{IsOrdered};
 ghost use Rattle.interval_domain.specs.Elements.{CellsFit};
 ghost use Rattle.interval_domain.specs.Rows.{cells_of};
-ghost use Rattle.cell_steps.specs.Homes.{homes_of, owns};
+ghost use Rattle.cob_graph.specs.Homes.{homes_of};
+ghost use Rattle.cell_steps.specs.OwnRanges.{owns};
 ghost use Rattle.cell_steps.specs.Storages.{known_of};
 ghost use Rattle.cell_layer.specs.ProgramRows.{IsRowOf};
 ghost use Rattle.diff_steps.specs.Matrices.{put_closed};
@@ -13,41 +14,35 @@ ghost use Rattle.diff_steps.specs.Packs as packs;
 ghost use Rattle.diff_steps.specs.Packs.{size_of};
 ghost use Rattle.diff_steps.specs.Steps.{all_closed};
 ghost use Rattle.diff_layer.specs.KnownCells.{cell, known_cells};
-ghost use Rattle.diff_layer.specs.Cells.{plain_cell};
 ghost use Rattle.diff_layer.specs.Closed.{IsClosedBy, IsClosedRow};
 ghost use Rattle.diff_layer.specs.Plans.{plain_plan, plain_plans, IsPlanOf, ArePlansOf, matrices_for, IsRowFor};
 
-use crate::cells::{PackCell, unit_of};
+use crate::cells::unit_of;
 use crate::pack_closings::KnownCell;
 use crate::plans::{PackPlan, words_for};
 use cell_layer::{known_of_count, known_of_item};
+use cob_graph::Home;
 use cob_program::Program;
 use cob_runs::Cell;
 use interval_domain::Interval;
 
 // what a row says of what a cell is of
-fn known_of(program: &Program, cells: &[Cell], row: &[i128], cell: PackCell) -> Option<Interval>
+fn known_of(program: &Program, cells: &[Cell], row: &[i128], cell: Home) -> Option<Interval>
     requires { IsRowOf (plain_program program.now) cells.now row.now }
-    ensures value { result ≡ known_of (homes_of (plain_program program.now)) (cells_of row.now) (plain_cell cell) }
+    ensures value { result ≡ known_of (homes_of (plain_program program.now)) (cells_of row.now) cell }
     ensures ordered { IsOrdered result }
 {
     match cell {
-        PackCell::Item(place) => known_of_item(program, cells, row, place),
-        PackCell::Count(statement) => known_of_count(program, cells, row, statement),
+        Home::Item(place) => known_of_item(program, cells, row, place),
+        Home::Count(statement) => known_of_count(program, cells, row, statement),
     }
 }
 
-fn known_cell(
-    program: &Program,
-    cells: &[Cell],
-    row: &[i128],
-    decimals: u32,
-    of: PackCell,
-) -> KnownCell
+fn known_cell(program: &Program, cells: &[Cell], row: &[i128], decimals: u32, of: Home) -> KnownCell
     requires row { IsRowOf (plain_program program.now) cells.now row.now }
     requires decimals { decimals ≤ 37 }
-    ensures { result ≡ cell (known_of (homes_of (plain_program program.now)) (cells_of row.now) (plain_cell of))
-        (10 ^ (decimals - packs.decimals_of program.now.layout (plain_cell of))) }
+    ensures { result ≡ cell (known_of (homes_of (plain_program program.now)) (cells_of row.now) of)
+        (10 ^ (decimals - packs.decimals_of program.now.layout of)) }
 {
     KnownCell {
         known: known_of(program, cells, row, of),

@@ -3,7 +3,8 @@ ghost use Rattle.std.specs.Prelude.{◌≡◌, ◌≤◌, length, List, Option, 
 ghost use Rattle.diff_bounds.specs.Matrix.{IsMatrix};
 ghost use Rattle.transfer_ranges.specs.declared.amounts.Taken.{Taken};
 ghost use Rattle.interval_domain.specs.Elements.{CellsFit};
-ghost use Rattle.cell_steps.specs.Homes.{of_count, owns};
+ghost use Rattle.cob_graph.specs.declared.homes.Home.TheVariants.{Count as of_count};
+ghost use Rattle.cell_steps.specs.OwnRanges.{owns};
 ghost use Rattle.diff_steps.specs.Forms as forms;
 ghost use Rattle.diff_steps.specs.Moments.{Bytes};
 ghost use Rattle.diff_steps.specs.Packs.{cell_of};
@@ -13,13 +14,13 @@ ghost use Rattle.diff_layer.specs.Views.{plain_pack, HasUnit, program_of, known_
 ghost use Rattle.diff_layer.specs.PackWriting.{sender_items, are_written};
 ghost use Rattle.diff_layer.specs.Changes.{cell_assigned};
 
-use crate::cells::PackCell;
 use crate::images::assign_or_forget;
 use crate::pack::{PackView, cell_in};
 use crate::pack_counters::lowered_form;
 use crate::senders::set_form;
 use cell_layer::{Kept, KnownItems};
 use cob_data::Sender;
+use cob_graph::Home;
 use diff_bounds::Lin;
 
 // makes the counter's cell, where the pack has it, a form
@@ -29,7 +30,7 @@ fn set_cell(pack: &PackView, m: &mut [i128], statement: u32, form: Option<Lin>)
     ensures value { m.new ≡ cell_assigned (length pack.now.cells.now) form (cell_of (plain_pack pack.now) (of_count statement)) m.old }
     ensures matrix { IsMatrix (length pack.now.cells.now) m.new }
 {
-    match cell_in(pack, PackCell::Count(statement)) {
+    match cell_in(pack, Home::Count(statement)) {
         None => {}
         Some(cell) => assign_or_forget(pack.cells.len(), m, cell + 1, form),
     }

@@ -10,7 +10,7 @@ ghost use Rattle.transfer_ranges.specs.ResultRanges.{most, near_range};
 ghost use Rattle.transfer_ranges.specs.Sizes.{IsReceiver};
 ghost use Rattle.interval_domain.specs.Elements.{CellsFit};
 ghost use Rattle.interval_domain.specs.Rows.{cells_of};
-ghost use Rattle.cell_steps.specs.Homes.{owns};
+ghost use Rattle.cell_steps.specs.OwnRanges.{owns};
 ghost use Rattle.cell_layer.specs.ProgramRows.{IsRowOf};
 ghost use Rattle.diff_steps.specs.Clearing.{high_fits, low_fits, some_pack, high_shown, low_shown};
 ghost use Rattle.diff_steps.specs.Moments.{Bytes};

@@ -3,10 +3,11 @@ ghost use Rattle.std.specs.Prelude.{◌≡◌, ◌≤◌, length, map, IfOk};
 ghost use Rattle.std.specs.List.{AllByRecursion};
 ghost use Rattle.cob_program.specs.ActView.{plain_program};
 ghost use Rattle.cob_graph.specs.Graphs.{cells_of};
+ghost use Rattle.cob_graph.specs.Limits.{most_cells};
 ghost use Rattle.cob_store.specs.WellFormed.{HasWellFormedItems};
 ghost use Rattle.interval_domain.specs.Elements.{CellsFit};
 ghost use Rattle.interval_domain.specs.Rows.{row_of as known_row};
-ghost use Rattle.cell_steps.specs.Homes.{owns};
+ghost use Rattle.cell_steps.specs.OwnRanges.{owns};
 ghost use Rattle.cell_laws.specs.Entry.{entry_cells};
 ghost use Rattle.diff_steps.specs.Packs.{size_of};
 ghost use Rattle.diff_steps.specs.Edges.{no_bounds, entry_packs};
@@ -19,11 +20,8 @@ use crate::plans::PackPlan;
 use cell_layer::entry_row;
 use cob_program::Program;
 use cob_runs::Cell;
-use diff_bounds::{set_least, width_of, words_of};
+use diff_bounds::{NONE, set_least, width_of, words_of};
 use std::alloc::{AllocError, Global};
-
-/// The word of no bound.
-const NONE: i128 = 100_000_000_000_000_000_000_000_000_000_000_000_000;
 
 // a word of the matrix that bounds nothing
 fn free_word(size: usize, at: usize) -> i128
@@ -99,7 +97,7 @@ pub fn entry_words(
 ) -> Result<Vec<i128>, AllocError>
     requires sound { HasWellFormedItems program.now.layout }
     requires cells { cells.now ≡ cells_of (plain_program program.now) }
-    requires few { length cells.now ≤ 512 }
+    requires few { length cells.now ≤ most_cells }
     requires fits { CellsFit (owns (plain_program program.now)) (entry_cells (plain_program program.now)) }
     requires plans { ArePlansOf (plain_program program.now) plans.now }
     requires packs { length plans.now ≤ 32 }

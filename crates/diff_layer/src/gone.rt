@@ -3,16 +3,16 @@ ghost use Rattle.std.specs.Prelude.{◌≡◌, ◌≤◌, length, map};
 ghost use Rattle.std.specs.Option.{option_copied};
 ghost use Rattle.cob_runs.specs.Contents.{item_at};
 ghost use Rattle.diff_bounds.specs.Matrix.{IsMatrix};
-ghost use Rattle.cell_steps.specs.Homes.{of_item, is_home};
+ghost use Rattle.cob_graph.specs.declared.homes.Home.TheVariants.{Item as of_item};
+ghost use Rattle.cob_graph.specs.Homes.{is_home};
 ghost use Rattle.cell_steps.specs.Cells.{is_in_bytes, is_beside};
 ghost use Rattle.diff_steps.specs.Stores.{forgotten_cells};
-ghost use Rattle.diff_layer.specs.Cells.{plain_cell, plain_cells};
 ghost use Rattle.diff_layer.specs.Gone.{is_gone};
 
-use crate::cells::PackCell;
 use crate::pack_gone::forget_cells;
 use cell_layer::share_bytes;
 use cob_data::{Item, Layout};
+use cob_graph::Home;
 
 /// Which cells are forgotten.
 #[derive(Clone, Copy)]
@@ -41,18 +41,18 @@ fn has_bytes(layout: &Layout, offset: u32, count: u32, place: u32) -> bool
     }
 }
 
-fn is_in_bytes(layout: &Layout, offset: u32, count: u32, cell: PackCell) -> bool
-    ensures { result ≡ is_in_bytes layout.now offset count (plain_cell cell) }
+fn is_in_bytes(layout: &Layout, offset: u32, count: u32, cell: Home) -> bool
+    ensures { result ≡ is_in_bytes layout.now offset count cell }
 {
     match cell {
-        PackCell::Item(place) => has_bytes(layout, offset, count, place),
-        PackCell::Count(_) => false,
+        Home::Item(place) => has_bytes(layout, offset, count, place),
+        Home::Count(_) => false,
     }
 }
 
 // whether a cell has bytes of the item at a place
-fn is_beside(layout: &Layout, place: u32, cell: PackCell) -> bool
-    ensures { result ≡ is_beside layout.now place (plain_cell cell) }
+fn is_beside(layout: &Layout, place: u32, cell: Home) -> bool
+    ensures { result ≡ is_beside layout.now place cell }
 {
     match item_at(layout, place) {
         None => false,
@@ -60,17 +60,17 @@ fn is_beside(layout: &Layout, place: u32, cell: PackCell) -> bool
     }
 }
 
-fn is_item(place: u32, cell: PackCell) -> bool
-    ensures { result ≡ is_home (plain_cell cell) (of_item place) }
+fn is_item(place: u32, cell: Home) -> bool
+    ensures { result ≡ is_home cell (of_item place) }
 {
     match cell {
-        PackCell::Item(own) => own == place,
-        PackCell::Count(_) => false,
+        Home::Item(own) => own == place,
+        Home::Count(_) => false,
     }
 }
 
-fn is_gone(layout: &Layout, gone: Gone, cell: PackCell) -> bool
-    ensures { result ≡ is_gone layout.now gone (plain_cell cell) }
+fn is_gone(layout: &Layout, gone: Gone, cell: Home) -> bool
+    ensures { result ≡ is_gone layout.now gone cell }
 {
     match gone {
         Gone::Others(place) => is_beside(layout, place, cell) && !is_item(place, cell),
@@ -79,9 +79,9 @@ fn is_gone(layout: &Layout, gone: Gone, cell: PackCell) -> bool
     }
 }
 
-fn mark(layout: &Layout, gone: Gone, cells: &[PackCell], marks: &mut [bool])
+fn mark(layout: &Layout, gone: Gone, cells: &[Home], marks: &mut [bool])
     requires { length marks.old ≡ length cells.now }
-    ensures { marks.new ≡ map (is_gone layout.now gone) (plain_cells cells.now) }
+    ensures { marks.new ≡ map (is_gone layout.now gone) cells.now }
 {
     for k in 0..marks.len() {
         marks[k] = is_gone(layout, gone, cells[k]);
@@ -89,10 +89,10 @@ fn mark(layout: &Layout, gone: Gone, cells: &[PackCell], marks: &mut [bool])
 }
 
 /// Leaves nothing that the matrix of a pack says of some cells.
-pub(crate) fn forget(layout: &Layout, gone: Gone, cells: &[PackCell], m: &mut [i128])
+pub(crate) fn forget(layout: &Layout, gone: Gone, cells: &[Home], m: &mut [i128])
     requires few { length cells.now ≤ 8 }
     requires m { IsMatrix (length cells.now) m.old }
-    ensures value { m.new ≡ forgotten_cells (length cells.now) (is_gone layout.now gone) 1 (plain_cells cells.now) m.old }
+    ensures value { m.new ≡ forgotten_cells (length cells.now) (is_gone layout.now gone) 1 cells.now m.old }
     ensures matrix { IsMatrix (length cells.now) m.new }
 {
     let mut room = [false; 8];

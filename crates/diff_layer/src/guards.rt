@@ -8,7 +8,7 @@ ghost use Rattle.diff_bounds.specs.Matrix.{IsMatrix};
 ghost use Rattle.transfer_ranges.specs.Small.{is_small_test};
 ghost use Rattle.transfer_ranges.specs.declared.amounts.Taken.{Taken};
 ghost use Rattle.interval_domain.specs.Elements.{CellsFit};
-ghost use Rattle.cell_steps.specs.Homes.{owns};
+ghost use Rattle.cell_steps.specs.OwnRanges.{owns};
 ghost use Rattle.cell_steps.specs.Stores.{range_at};
 ghost use Rattle.diff_steps.specs.Guards as guards;
 ghost use Rattle.diff_layer.specs.Views.{plain_pack, item_cell, HasUnit, program_of, known_in};

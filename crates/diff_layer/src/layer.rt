@@ -13,6 +13,7 @@ ghost use Rattle.diff_layer.specs.Plans.{plain_plans};
 ghost use Rattle.pack_laws.specs.Layer.{AreFacts, sizes_of};
 ghost use Rattle.pack_laws.specs.Packs.{packs_of, ArePacksOfCells};
 ghost use Rattle.diff_layer.specs.Planning.{HaveUnits};
+ghost use Rattle.cob_graph.specs.Limits.{most_cells, most_nodes};
 
 use crate::entry::entry_words;
 use crate::planning::{plans_of, sizes_of};
@@ -54,8 +55,8 @@ pub struct DiffLayer<'a, R: Rows> {
     ghost begun: { entry.items ≡ row_of (entry_packs (plain_program program.now) (packs_of (plain_program program.now) packs.now)
         (entry_cells (plain_program program.now))) },
     ghost few: { length packs.now ≤ 32 },
-    ghost words: { length graph.now.cells ≤ 512 },
-    ghost nodes: { length graph.now.nodes ≤ 4096 },
+    ghost words: { length graph.now.cells ≤ most_cells },
+    ghost nodes: { length graph.now.nodes ≤ most_nodes },
     ghost edges: { length graph.now.edges ≤ 12288 },
 }
 
@@ -72,8 +73,8 @@ impl<'a, R: Rows> DiffLayer<'a, R> {
         facts: &'a R,
     ) -> Result<DiffLayer<'a, R>, AllocError>
         requires source { ∥ IsSourceGraph (plain_program program.now) graph.now ∥₁ }
-        requires cells { length graph.now.cells ≤ 512 }
-        requires nodes { length graph.now.nodes ≤ 4096 }
+        requires cells { length graph.now.cells ≤ most_cells }
+        requires nodes { length graph.now.nodes ≤ most_nodes }
         requires few { length packs.now ≤ 32 }
         requires packs { ArePacksOfCells (length graph.now.cells) packs.now }
         requires listed { length thresholds.now ≡ length packs.now }

@@ -26,7 +26,6 @@ mod form_sums;
 mod forms;
 mod gone;
 mod guards;
-mod homes;
 mod images;
 mod layer;
 mod literals;

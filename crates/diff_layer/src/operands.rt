@@ -11,7 +11,7 @@ ghost use Rattle.transfer_ranges.specs.Stores as stores;
 ghost use Rattle.edge_amounts.specs.Small.{is_small_amount};
 ghost use Rattle.edge_amounts.specs.Working.{CanSettle};
 ghost use Rattle.interval_domain.specs.Elements.{CellsFit};
-ghost use Rattle.cell_steps.specs.Homes.{owns};
+ghost use Rattle.cell_steps.specs.OwnRanges.{owns};
 ghost use Rattle.cell_steps.specs.Operands.{settled};
 ghost use Rattle.cell_steps.specs.Stores.{range_at};
 ghost use Rattle.transfer_ranges.specs.declared.amounts.Taken as declared_taken;

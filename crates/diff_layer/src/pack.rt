@@ -1,24 +1,24 @@
 //! Where the cells of a pack stand.
 ghost use Rattle.std.specs.Prelude.{◌≡◌, ◌<◌, ◌≤◌, length, IfSome};
-ghost use Rattle.cell_steps.specs.Homes.{of_item};
+ghost use Rattle.cob_graph.specs.declared.homes.Home.TheVariants.{Item as of_item};
 ghost use Rattle.diff_steps.specs.Packs.{cell_of};
-ghost use Rattle.diff_layer.specs.Cells.{plain_cell, plain_cells};
 
-use crate::cells::{PackCell, is_same};
+use crate::cells::is_same;
+use cob_graph::Home;
 use sum_forms::PackCells;
 
 /// A pack: its cells in turn, at most eight, and the decimals of its unit.
 #[derive(Drop)]
 pub struct PackView<'a> {
-    pub cells: &'a [PackCell],
+    pub cells: &'a [Home],
     pub decimals: u32,
     pub ghost few: { length cells.now ≤ 8 },
     pub ghost small: { decimals ≤ 37 },
 }
 
 // the place from 0 on of the first cell that is of the same item or counter
-fn place_of(cells: &[PackCell], sought: PackCell) -> Option<usize>
-    ensures value { result ≡ cell_of (plain_cells cells.now) (plain_cell sought) }
+fn place_of(cells: &[Home], sought: Home) -> Option<usize>
+    ensures value { result ≡ cell_of cells.now sought }
     ensures within { IfSome result (λ k. k < length cells.now) }
 {
     for k in 0..cells.len() {
@@ -30,8 +30,8 @@ fn place_of(cells: &[PackCell], sought: PackCell) -> Option<usize>
 }
 
 /// The place of the pack's cell that is of the same item or counter, cells counted from 0.
-pub fn cell_in(pack: &PackView, sought: PackCell) -> Option<usize>
-    ensures value { result ≡ cell_of (plain_cells pack.now.cells.now) (plain_cell sought) }
+pub fn cell_in(pack: &PackView, sought: Home) -> Option<usize>
+    ensures value { result ≡ cell_of pack.now.cells.now sought }
     ensures within { IfSome result (λ k. k < length pack.now.cells.now) }
     ensures few { IfSome result (λ k. k < 8) }
 {
@@ -39,12 +39,12 @@ pub fn cell_in(pack: &PackView, sought: PackCell) -> Option<usize>
 }
 
 impl<'a> PackCells for PackView<'a> {
-    ghost cell_at = { λ pack place. cell_of (plain_cells pack.cells.now) (of_item place) };
+    ghost cell_at = { λ pack place. cell_of pack.cells.now (of_item place) };
 
     ghost decimals_of = { λ pack. pack.decimals };
 
     fn cell(&self, place: u32) -> Option<usize> {
-        cell_in(self, PackCell::Item(place))
+        cell_in(self, Home::Item(place))
     }
 
     fn decimals(&self) -> u32 {

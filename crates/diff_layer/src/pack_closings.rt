@@ -5,7 +5,7 @@ ghost use Rattle.diff_bounds.specs.Matrix.{word, IsMatrix};
 ghost use Rattle.diff_bounds.specs.Closed.{closed};
 ghost use Rattle.diff_bounds.specs.Settled.{IsTightBut};
 ghost use Rattle.interval_domain.specs.Known.{Known};
-ghost use Rattle.cell_steps.specs.Homes.{Home};
+ghost use Rattle.cob_graph.specs.declared.homes.Home.{Home};
 ghost use Rattle.diff_steps.specs.Packs.{Pack};
 ghost use Rattle.diff_steps.specs.Matrices.{with_words, put_closed};
 ghost use Rattle.diff_layer.specs.KnownCells.{put_cells, closed_with, known_cells, HasEnds, HaveEnds, IsPutAt};

@@ -8,7 +8,9 @@ ghost use Rattle.sum_forms.specs.Constants as constants;
 ghost use Rattle.sum_forms.specs.Values.{IsForm};
 ghost use Rattle.transfer_ranges.specs.declared.amounts.Taken as declared_taken;
 ghost use Rattle.interval_domain.specs.Elements.{CellsFit};
-ghost use Rattle.cell_steps.specs.Homes.{of_count, homes_of, owns};
+ghost use Rattle.cob_graph.specs.declared.homes.Home.TheVariants.{Count as of_count};
+ghost use Rattle.cob_graph.specs.Homes.{homes_of};
+ghost use Rattle.cell_steps.specs.OwnRanges.{owns};
 ghost use Rattle.cell_steps.specs.Cells.{units_of};
 ghost use Rattle.diff_steps.specs.Forms as forms;
 ghost use Rattle.diff_steps.specs.Moments.{Bytes};
@@ -16,10 +18,10 @@ ghost use Rattle.diff_steps.specs.Packs.{cell_of};
 ghost use Rattle.diff_layer.specs.Forms.{IsFormOf};
 ghost use Rattle.diff_layer.specs.Views.{plain_pack, HasUnit, program_of, known_in, taken_at};
 
-use crate::cells::PackCell;
 use crate::form_sums::added;
 use crate::pack::{PackView, cell_in};
 use cell_layer::{KnownItems, count_units};
+use cob_graph::Home;
 use diff_bounds::Lin;
 use sum_forms::{cell_form, range_form};
 use sum_ranges::{Ranged, point};
@@ -41,7 +43,7 @@ fn counter_form(items: &KnownItems, pack: &PackView, statement: u32) -> Option<L
         (ranged (units_of (program_of items.now).layout (homes_of (program_of items.now)) (known_in items.now) (of_count statement)) 0) }
     ensures good { IfSome result IsForm }
 {
-    match cell_in(pack, PackCell::Count(statement)) {
+    match cell_in(pack, Home::Count(statement)) {
         Some(cell) => Some(cell_form(cell)),
         None => range_form(pack.decimals, count_range(items, statement)),
     }

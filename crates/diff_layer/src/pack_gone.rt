@@ -1,7 +1,7 @@
 //! Cells that are forgotten.
 ghost use Rattle.std.specs.Prelude.{◌≡◌, ◌+◌, ◌≤◌, Bool, List, length, map};
 ghost use Rattle.diff_bounds.specs.Matrix.{IsMatrix};
-ghost use Rattle.cell_steps.specs.Homes.{Home};
+ghost use Rattle.cob_graph.specs.declared.homes.Home.{Home};
 ghost use Rattle.diff_steps.specs.Stores.{forgotten_cells};
 ghost use Rattle.diff_layer.specs.PackGone.{forgotten_if, forgotten_marked};
 

@@ -9,23 +9,23 @@ ghost use Rattle.cob_graph.specs.Graphs.{cells_of as program_cells};
 ghost use Rattle.interval_domain.specs.Elements.{CellsFit};
 ghost use Rattle.interval_domain.specs.Rows.{IsReached, cells_of};
 ghost use Rattle.edge_amounts.specs.Numbers.{number_of};
-ghost use Rattle.cell_steps.specs.Homes.{homes_of, owns};
+ghost use Rattle.cob_graph.specs.Homes.{homes_of};
+ghost use Rattle.cell_steps.specs.OwnRanges.{owns};
 ghost use Rattle.cell_layer.specs.Kept.{latest_of};
 ghost use Rattle.cell_layer.specs.ProgramRows.{known_in, IsCellNumber, IsRowOf};
 ghost use Rattle.diff_steps.specs.Matrices.{put_closed};
 ghost use Rattle.diff_steps.specs.Moments.{Bytes};
 ghost use Rattle.diff_steps.specs.Packs.{size_of};
 ghost use Rattle.diff_steps.specs.Steps.{each_pack, all_closed};
-ghost use Rattle.diff_layer.specs.Cells.{plain_cell, plain_cells};
 ghost use Rattle.diff_layer.specs.Closed.{IsClosedBy, IsClosedRow, IsKnownAlike, IsIdle};
 ghost use Rattle.diff_layer.specs.Parts.{CanChange, IsWrittenTo, plan_changed};
 ghost use Rattle.diff_layer.specs.Plans.{plain_plan, plain_plans, IsPlanOf, ArePlansOf, matrices_for};
 
-use crate::cells::PackCell;
 use crate::changing::change_plan;
 use crate::closing::close_again;
 use crate::plans::{PackPlan, words_for};
 use cell_layer::Kept;
+use cob_graph::Home;
 use cob_program::Program;
 use cob_runs::Cell;
 use edge_amounts::{EdgePart, cell_of, cell_of_count};
@@ -41,13 +41,13 @@ fn is_same(one: &[i128], other: &[i128]) -> bool
 // ---- what is known of cells
 
 // the number of a pack's cell among those of the program
-fn number_of(program: &Program, cells: &[Cell], cell: PackCell) -> Option<usize>
+fn number_of(program: &Program, cells: &[Cell], cell: Home) -> Option<usize>
     requires { cells.now ≡ program_cells (plain_program program.now) }
-    ensures { result ≡ number_of (plain_program program.now) (plain_cell cell) }
+    ensures { result ≡ number_of (plain_program program.now) cell }
 {
     match cell {
-        PackCell::Item(place) => cell_of(cells, place),
-        PackCell::Count(statement) => cell_of_count(program, cells, statement),
+        Home::Item(place) => cell_of(cells, place),
+        Home::Count(statement) => cell_of_count(program, cells, statement),
     }
 }
 
@@ -83,11 +83,11 @@ fn is_known_alike(
     cells: &[Cell],
     before: &[i128],
     row: &[i128],
-    cell: &PackCell,
+    cell: &Home,
 ) -> bool
     requires before { IsRowOf (plain_program program.now) cells.now before.now }
     requires row { IsRowOf (plain_program program.now) cells.now row.now }
-    ensures { IsTrue result → IsKnownAlike (plain_program program.now) (cells_of before.now) (cells_of row.now) (plain_cell cell.now) }
+    ensures { IsTrue result → IsKnownAlike (plain_program program.now) (cells_of before.now) (cells_of row.now) cell.now }
 {
     is_numbered_alike(before, row, number_of(program, cells, *cell))
 }
@@ -97,11 +97,11 @@ fn are_known_alike(
     cells: &[Cell],
     before: &[i128],
     row: &[i128],
-    pack: &[PackCell],
+    pack: &[Home],
 ) -> bool
     requires before { IsRowOf (plain_program program.now) cells.now before.now }
     requires row { IsRowOf (plain_program program.now) cells.now row.now }
-    ensures { IsTrue result → AllByRecursion (IsKnownAlike (plain_program program.now) (cells_of before.now) (cells_of row.now)) (plain_cells pack.now) }
+    ensures { IsTrue result → AllByRecursion (IsKnownAlike (plain_program program.now) (cells_of before.now) (cells_of row.now)) pack.now }
 {
     match pack {
         [] => true,

@@ -2,37 +2,32 @@
 ghost use Rattle.std.specs.Prelude.{◌≡◌, ◌≤◌, length, IfOk};
 ghost use Rattle.cob_program.specs.ActView.{plain_program};
 ghost use Rattle.cob_program.specs.Statements.{plain_references, program_statements};
-ghost use Rattle.cell_steps.specs.Homes.{homes_of};
-ghost use Rattle.diff_layer.specs.Cells.{plain_cell, plain_cells};
+ghost use Rattle.cob_graph.specs.Homes.{homes_of};
 ghost use Rattle.diff_layer.specs.Plans.{plain_plans};
 ghost use Rattle.pack_laws.specs.Packs.{home_at, pack_in, packs_in, AreRisingNumbers, ArePacksOfCells};
 ghost use Rattle.diff_layer.specs.Planning.{IsPlanFor, ArePlansFor, sizes_in};
 
-use crate::cells::{PackCell, pack_decimals};
-use crate::homes::homes_of;
+use crate::cells::pack_decimals;
 use crate::plans::PackPlan;
 use cob_data::Layout;
+use cob_graph::{Home, homes_of};
 use cob_program::{Program, Stmt};
 use diff_bounds::Pack;
 use std::alloc::{AllocError, Global};
 
 // what the cell with a number is of, which counts from 1
-fn cell_with(homes: &[PackCell], number: u32) -> PackCell
+fn cell_with(homes: &[Home], number: u32) -> Home
     requires first { 1 ≤ number }
     requires last { number ≤ length homes.now }
-    ensures { plain_cell result ≡ home_at (plain_cells homes.now) number }
+    ensures { result ≡ home_at homes.now number }
 {
     homes[number as usize - 1]
 }
 
 #[tactic(auto, using(crate::proofs::Steps::cell_pushed))]
-fn cells_with(
-    alloc: Global,
-    homes: &[PackCell],
-    numbers: &[u32],
-) -> Result<Vec<PackCell>, AllocError>
+fn cells_with(alloc: Global, homes: &[Home], numbers: &[u32]) -> Result<Vec<Home>, AllocError>
     requires { AreRisingNumbers (length homes.now) numbers.now }
-    ensures { IfOk result (λ cells. plain_cells cells.items ≡ pack_in (plain_cells homes.now) numbers.now) }
+    ensures { IfOk result (λ cells. cells.items ≡ pack_in homes.now numbers.now) }
 {
     let mut cells = Vec::with_capacity(alloc, numbers.len())?;
     for number in numbers {
@@ -44,11 +39,11 @@ fn cells_with(
 fn plan_for(
     alloc: Global,
     layout: &Layout,
-    homes: &[PackCell],
+    homes: &[Home],
     pack: &Pack,
 ) -> Result<PackPlan, AllocError>
     requires { AreRisingNumbers (length homes.now) pack.now.cells.items }
-    ensures { IfOk result (IsPlanFor layout.now (plain_cells homes.now) pack.now) }
+    ensures { IfOk result (IsPlanFor layout.now homes.now pack.now) }
 {
     let cells = cells_with(alloc, homes, pack.cells.as_slice())?;
     let decimals = pack_decimals(layout, cells.as_slice());
@@ -60,11 +55,11 @@ fn plan_for(
 fn plans_for(
     alloc: Global,
     layout: &Layout,
-    homes: &[PackCell],
+    homes: &[Home],
     packs: &[Pack],
 ) -> Result<Vec<PackPlan>, AllocError>
     requires { ArePacksOfCells (length homes.now) packs.now }
-    ensures { IfOk result (λ plans. ArePlansFor layout.now (plain_cells homes.now) packs.now plans.items) }
+    ensures { IfOk result (λ plans. ArePlansFor layout.now homes.now packs.now plans.items) }
 {
     let mut plans = Vec::with_capacity(alloc, packs.len())?;
     for pack in packs {

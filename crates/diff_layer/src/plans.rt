@@ -5,14 +5,14 @@ ghost use Rattle.diff_layer.specs.Views.{plain_pack};
 ghost use Rattle.diff_bounds.specs.PackRows.{words_of};
 ghost use Rattle.diff_layer.specs.Plans.{plain_plan};
 
-use crate::cells::PackCell;
 use crate::pack::PackView;
+use cob_graph::Home;
 use diff_bounds::words_of;
 
 /// A pack: its cells in turn, at most eight, and the decimals of its unit.
 #[derive(Drop)]
 pub struct PackPlan {
-    pub cells: Vec<PackCell>,
+    pub cells: Vec<Home>,
     pub decimals: u32,
 }
 

@@ -10,11 +10,12 @@ ghost use Rattle.diff_layer.specs.Views.{plain_pack, item_cell, HasUnit, program
 ghost use Rattle.diff_layer.specs.Working.{item_by, sender_by};
 ghost use Rattle.diff_layer.specs.PackWriting.{sender_items, are_written};
 
-use crate::cells::{PackCell, item_decimals};
+use crate::cells::item_decimals;
 use crate::pack::{PackView, cell_in};
 use crate::taken::kept_form;
 use cell_layer::KnownItems;
 use cob_data::{Layout, Sender};
+use cob_graph::Home;
 use diff_bounds::Lin;
 use sum_forms::cell_form;
 use transfer_ranges::Taken;
@@ -25,7 +26,7 @@ fn item_form(pack: &PackView, place: u32, common: Option<Taken>, written: bool) 
     ensures value { result ≡ item_by pack.now.decimals (item_cell pack.now) common written (item_cell pack.now place) }
     ensures good { IfSome result IsForm }
 {
-    match cell_in(pack, PackCell::Item(place)) {
+    match cell_in(pack, Home::Item(place)) {
         None => kept_form(pack.decimals, common),
         Some(cell) => {
             if written {

@@ -7,7 +7,7 @@ ghost use Rattle.edge_amounts.specs.PartView.{plain_divisor};
 ghost use Rattle.sum_ranges.specs.SumRanges as ranges;
 ghost use Rattle.sum_forms.specs.SumForms.{atom_form};
 ghost use Rattle.interval_domain.specs.Elements.{CellsFit};
-ghost use Rattle.cell_steps.specs.Homes.{owns};
+ghost use Rattle.cell_steps.specs.OwnRanges.{owns};
 ghost use Rattle.cell_steps.specs.Stores.{range_at};
 ghost use Rattle.diff_steps.specs.Guards as guards;
 ghost use Rattle.diff_steps.specs.Guards.{has_decimals};

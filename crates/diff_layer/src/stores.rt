@@ -9,7 +9,8 @@ ghost use Rattle.transfer_ranges.specs.Receivers.{receiver_of};
 ghost use Rattle.edge_amounts.specs.Small.{is_small_amount};
 ghost use Rattle.edge_amounts.specs.Working.{CanWork};
 ghost use Rattle.interval_domain.specs.Elements.{CellsFit};
-ghost use Rattle.cell_steps.specs.Homes.{of_item, owns};
+ghost use Rattle.cob_graph.specs.declared.homes.Home.TheVariants.{Item as of_item};
+ghost use Rattle.cell_steps.specs.OwnRanges.{owns};
 ghost use Rattle.cell_steps.specs.Stores.{range_at};
 ghost use Rattle.cell_layer.specs.Kept.{latest_of};
 ghost use Rattle.diff_steps.specs.Forms as forms;
@@ -21,12 +22,13 @@ ghost use Rattle.diff_layer.specs.PackWriting.{amount_items, are_written};
 ghost use Rattle.diff_layer.specs.Changes.{decimal_in, cell_stored, fitting_stored, store_changed};
 
 use crate::amounts::amount_form;
-use crate::cells::{PackCell, unit_of};
+use crate::cells::unit_of;
 use crate::gone::{Gone, forget};
 use crate::operands::has_operands;
 use crate::pack::{PackView, cell_in};
 use crate::pack_stores::store_at;
 use cell_layer::{Kept, KnownItems};
+use cob_graph::Home;
 use dec_num::Mode;
 use diff_bounds::set_least_matrix;
 use edge_amounts::{Amount, receiver_at};
@@ -67,12 +69,12 @@ fn store_cell(
         (cell_of (plain_pack pack.now) (of_item place)) m.old }
     ensures matrix { IsMatrix (length pack.now.cells.now) m.new }
 {
-    match cell_in(pack, PackCell::Item(place)) {
+    match cell_in(pack, Home::Item(place)) {
         None => {}
         Some(cell) => {
             let form = amount_form(items, pack, place, amount, kept.common, written);
             let receiver = receiver_at(&items.program.layout, place);
-            let unit = unit_of(&items.program.layout, pack.decimals, PackCell::Item(place));
+            let unit = unit_of(&items.program.layout, pack.decimals, Home::Item(place));
             store_at(
                 pack.cells.len(),
                 m,

@@ -9,7 +9,7 @@ ghost use Rattle.sum_ranges.specs.Taking.{is_small_taken};
 ghost use Rattle.sum_forms.specs.SumForms as sums;
 ghost use Rattle.sum_forms.specs.Values.{IsForm};
 ghost use Rattle.interval_domain.specs.Elements.{CellsFit};
-ghost use Rattle.cell_steps.specs.Homes.{owns};
+ghost use Rattle.cell_steps.specs.OwnRanges.{owns};
 ghost use Rattle.cell_steps.specs.Stores.{range_at};
 ghost use Rattle.edge_amounts.specs.PartView.{plain_divisor};
 ghost use Rattle.diff_layer.specs.Views.{item_cell, program_of, known_in};

@@ -6,6 +6,7 @@ ghost use Rattle.cob_edge_parts.specs.Parts.{is_handled};
 ghost use Rattle.edge_amounts.specs.PartView.{edge_parts, plain_part};
 ghost use Rattle.cell_laws.specs.Sizes.{IsSmallPart};
 ghost use Rattle.interval_domain.specs.Rows.{cells_of};
+ghost use Rattle.cell_steps.specs.Stores.{keeps_receiver};
 ghost use Rattle.cell_layer.specs.Kept.{seen};
 ghost use Rattle.cell_layer.specs.ProgramRows.{IsRowOf};
 ghost use Rattle.cell_layer.specs.SmallCells.{has_small_cells};
@@ -31,7 +32,7 @@ use edge_amounts::{EdgePart, part_at, part_count};
 
 // whether a part writes to bytes of the items of the operands
 fn writes(program: &Program, statement: &Stmt, action: Action, part: EdgePart) -> bool
-    ensures { result ≡ are_written program.now.layout (part_bytes program.now.layout (plain_part part.entry))
+    ensures { result ≡ are_written program.now.layout (part_bytes (keeps_receiver (act_in (plain_stmt statement.now)) action) program.now.layout (plain_part part.entry))
         (edge_items (act_in (plain_stmt statement.now)) action) }
 {
     writes_operands(program, &statement.act, action, part)
@@ -45,7 +46,7 @@ fn written_behind(
     part: EdgePart,
     written: bool,
 ) -> bool
-    ensures { result ≡ (written || are_written program.now.layout (part_bytes program.now.layout (plain_part part.entry))
+    ensures { result ≡ (written || are_written program.now.layout (part_bytes (keeps_receiver (act_in (plain_stmt statement.now)) action) program.now.layout (plain_part part.entry))
         (edge_items (act_in (plain_stmt statement.now)) action)) }
 {
     written || writes(program, statement, action, part)
@@ -79,7 +80,7 @@ fn step_over(
     ensures steps { (wrote : List Bytes) → written ≡ are_written program.now.layout wrote (edge_items (act_in (plain_stmt statement.now)) action)
         → step2_small (plain_program program.now) (plain_plans plans.now) (act_in (plain_stmt statement.now)) action (plain_part part.entry)
         (seen row.old kept.old) (seen2 wrote (matrices_for plans.now out.old))
-        ≡ passed_to result (seen row.new kept.new) (seen2 (part_bytes program.now.layout (plain_part part.entry) ++ wrote) (matrices_for plans.now out.new)) }
+        ≡ passed_to result (seen row.new kept.new) (seen2 (part_bytes (keeps_receiver (act_in (plain_stmt statement.now)) action) program.now.layout (plain_part part.entry) ++ wrote) (matrices_for plans.now out.new)) }
     ensures row { IsRowOf (plain_program program.now) cells.now row.new }
     ensures words { length row.new ≡ length row.old }
     ensures can { IsTrue result → CanStep (plain_program program.now) (act_in (plain_stmt statement.now)) action (seen row.new kept.new) }

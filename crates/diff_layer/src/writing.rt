@@ -1,5 +1,5 @@
 //! Whether an edge has written to bytes of the items that its operands are read of.
-ghost use Rattle.std.specs.Prelude.{◌≡◌, ◌∷◌, [], map};
+ghost use Rattle.std.specs.Prelude.{◌≡◌, ◌∷◌, [], if◌then◌else◌, map};
 ghost use Rattle.std.specs.List.{list_any};
 ghost use Rattle.std.specs.Option.{option_map};
 ghost use Rattle.cob_program.specs.ActView.{plain_act};
@@ -7,6 +7,7 @@ ghost use Rattle.cob_program.specs.Sum.{parts_of, factors_of};
 ghost use Rattle.cob_program.specs.SumView.{plain_sum, plain_part as plain_product, plain_factor, plain_atom};
 ghost use Rattle.cob_runs.specs.Computing.{items_in, items_in_parts, items_in_factors, items_in_atom};
 ghost use Rattle.edge_amounts.specs.PartView.{plain_amount, plain_part};
+ghost use Rattle.cell_steps.specs.Stores.{keeps_receiver};
 ghost use Rattle.diff_steps.specs.Moments.{is_written, item_bytes};
 ghost use Rattle.diff_layer.specs.PackWriting.{sender_items, are_written};
 ghost use Rattle.diff_layer.specs.Writing.{bytes, product_items, items_of_amount, edge_items, part_bytes};
@@ -16,7 +17,7 @@ use cell_layer::share_bytes;
 use cob_data::{Layout, Sender};
 use cob_program::{Act, Atom, Factor, Part, Program, Sum};
 use cob_runs::Action;
-use edge_amounts::{Amount, EdgePart, edge_amount};
+use edge_amounts::{Amount, EdgePart, edge_amount, keeps_receiver};
 
 // whether bytes from an offset on, so many, are of the item at a place
 fn are_of(layout: &Layout, offset: u32, count: u32, place: u32) -> bool
@@ -118,13 +119,26 @@ fn item_is_of_operands(layout: &Layout, place: u32, act: &Act, action: Action) -
     }
 }
 
+// Whether a store writes to bytes of such an item, which it doesn't on an edge that keeps its receiver.
+#[tactic(auto, using(crate::proofs::Items::nothing_written))]
+fn store_is_of_operands(layout: &Layout, place: u32, act: &Act, action: Action) -> bool
+    ensures { result ≡ are_written layout.now (if keeps_receiver (plain_act act.now) action then [] else item_bytes layout.now place)
+        (edge_items (plain_act act.now) action) }
+{
+    if keeps_receiver(act, action) {
+        return false;
+    }
+    item_is_of_operands(layout, place, act, action)
+}
+
 /// Whether a part writes to bytes of the items of the edge's operands.
 #[tactic(auto, using(crate::proofs::Items::nothing_written))]
 pub(crate) fn writes_operands(program: &Program, act: &Act, action: Action, part: EdgePart) -> bool
-    ensures { result ≡ are_written program.now.layout (part_bytes program.now.layout (plain_part part.entry)) (edge_items (plain_act act.now) action) }
+    ensures { result ≡ are_written program.now.layout
+        (part_bytes (keeps_receiver (plain_act act.now) action) program.now.layout (plain_part part.entry)) (edge_items (plain_act act.now) action) }
 {
     match part {
-        EdgePart::Store { item, .. } => item_is_of_operands(&program.layout, item, act, action),
+        EdgePart::Store { item, .. } => store_is_of_operands(&program.layout, item, act, action),
         EdgePart::Bytes { offset, length } => are_of_operands(
             &program.layout,
             offset,

@@ -28,7 +28,7 @@ use Rattle.diff_bounds.specs.Forms.{if_small, coefs_of}
 use Rattle.diff_bounds.specs.Matrix.{none}
 use Rattle.diff_bounds.specs.Closed.{sums_through}
 use Rattle.interval_domain.specs.Known.{Known}
-use Rattle.cell_steps.specs.Homes.{of_item, of_count}
+use Rattle.cob_graph.specs.declared.homes.Home.TheVariants.{Item as of_item, Count as of_count}
 use Rattle.diff_steps.specs.Packs.{Pack}
 use Rattle.diff_steps.specs.Edges.{post_packs, bottoms}
 use Rattle.diff_steps.specs.Clearing.{clears_edge2}
@@ -382,9 +382,19 @@ redefined_in_pack = refl
 
 -- ---- size errors
 
--- ADD A TO V ON SIZE ERROR, where V is 95 to 99 and at most A + 93: V may fit and may fail, so that V and B, which has its
--- bytes, are forgotten. That A is at least 2, which V showed, stays.
-may_fail_over : behind (ab ∷ av ∷ []) (worked (alone (item 0)) (target 5 how.Plus Trunc ∷ []) (given no_stmts))
+-- ADD A TO V ON SIZE ERROR, where V is 95 to 99 and at most A + 93: V may fit and may fail. On this edge it has failed, so
+-- that all stays that was known, of B too, which has its bytes.
+fails_alone : behind (ab ∷ av ∷ []) (worked (alone (item 0)) (target 5 how.Plus Trunc ∷ []) (given no_stmts))
+    action.Size (cells (to (pos 1) (pos 4)) (to (pos 95) (pos 99)) any any any (to (pos 95) (pos 99)) any)
+    (nothing ∷ words none none none none none (pos 93) ∷ [])
+    ≡ words (minus 1) (minus 95) (pos 4) (minus 91) (pos 99) (pos 98) ∷ words (minus 2) (minus 95) (pos 4) (minus 91) (pos 97) (pos 93)
+    ∷ []
+unfolding sums_through if_small coefs_of
+fails_alone = refl
+
+-- ADD A TO V U ON SIZE ERROR: each may fit and may fail, so that V and B are forgotten. That A is at least 2, which V showed,
+-- stays.
+may_fail_over : behind (ab ∷ av ∷ []) (worked (alone (item 0)) (target 5 how.Plus Trunc ∷ target 2 how.Plus Trunc ∷ []) (given no_stmts))
     action.Size (cells (to (pos 1) (pos 4)) (to (pos 95) (pos 99)) any any any (to (pos 95) (pos 99)) any)
     (nothing ∷ words none none none none none (pos 93) ∷ [])
     ≡ words (minus 1) none (pos 4) none none none ∷ words (minus 2) (minus 95) (pos 4) (minus 91) (pos 99) (pos 97)
@@ -418,12 +428,12 @@ divided_into : behind (ab ∷ []) (worked (alone four) (target 1 how.Under Trunc
 unfolding sums_through if_small coefs_of
 divided_into = refl
 
--- DIVIDE A BY 4 GIVING B REMAINDER U: a remainder has no form. It is 0 to 4 by what is known of the divisor.
+-- DIVIDE A BY 4 GIVING B REMAINDER U: a remainder has no form. It is 0 to 3, less than the divisor.
 remained : behind (ab ∷ au ∷ [])
     (arith (quotient (item 0) four) (target 1 how.Whole Trunc ∷ []) (Some 2) left_out no_stmts) action.Done
     (cells (to (pos 8) (pos 20)) any any any any any any) (nothing ∷ nothing ∷ [])
     ≡ words (minus 8) (minus 2) (pos 20) (pos 18) (pos 5) (minus 3)
-    ∷ words (minus 8) (pos 0) (pos 20) (pos 20) (pos 4) (minus 4) ∷ []
+    ∷ words (minus 8) (pos 0) (pos 20) (pos 20) (pos 3) (minus 5) ∷ []
 unfolding sums_through if_small coefs_of
 remained = refl
 

@@ -23,7 +23,7 @@ use Rattle.diff_bounds.specs.Forms.{if_small, coefs_of}
 use Rattle.diff_bounds.specs.Matrix.{none}
 use Rattle.diff_bounds.specs.Closed.{sums_through}
 use Rattle.interval_domain.specs.Known.{Known}
-use Rattle.cell_steps.specs.Homes.{of_item}
+use Rattle.cob_graph.specs.declared.homes.Home.TheVariants.{Item as of_item}
 use Rattle.cell_steps.specs.Edges.{clears_edge}
 use Rattle.diff_steps.specs.Packs.{Pack}
 use Rattle.diff_steps.specs.Edges.{entry_packs, post_packs, bottoms}
@@ -151,11 +151,11 @@ of_unknown_sign = refl
 abbrev handled : Act
 handled = worked (alone (item 1)) (target 0 how.Plus Trunc ∷ []) (given no_stmts)
 
--- ADD B TO A ON SIZE ERROR: A may fit and may fail, so that what was known of A - B is forgotten. A is 990 to 999 still,
--- and B, which is at least A - 985, is 5 to 20.
+-- ADD B TO A ON SIZE ERROR: A may fit and may fail. On this edge it has failed, so that A - B is 985 at most still, and A
+-- 990 to 999. B, which is at least A - 985, is 5 to 20.
 may_fail : post_packs program (whole ∷ []) 1 handled action.Size
     (Some (cells (to (pos 990) (pos 999)) (to (pos 0) (pos 20)) any any)) (words none none none (pos 985) none none ∷ [])
-    ≡ words (minus 990) (minus 5) (pos 999) (pos 994) (pos 20) (minus 970) ∷ []
+    ≡ words (minus 990) (minus 5) (pos 999) (pos 985) (pos 20) (minus 970) ∷ []
 unfolding sums_through if_small coefs_of
 may_fail = refl
 

@@ -23,7 +23,8 @@ use Rattle.sum_forms.specs.Constants.{constant_form, range_form, item_form}
 use Rattle.sum_forms.specs.Literals.{whole_factor}
 use Rattle.sum_forms.specs.SumForms.{scaled_form, turned_form, sum_form}
 use Rattle.transfer_ranges.specs.declared.amounts.Taken.{Taken}
-use Rattle.cell_steps.specs.Homes.{of_item, of_count, homes_of}
+use Rattle.cob_graph.specs.declared.homes.Home.TheVariants.{Item as of_item, Count as of_count}
+use Rattle.cob_graph.specs.Homes.{homes_of}
 use Rattle.cell_steps.specs.Cells.{units_of}
 use Rattle.cell_steps.specs.Operands.{settled}
 use Rattle.cell_steps.specs.Seen.{Seen}

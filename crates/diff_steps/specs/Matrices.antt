@@ -11,7 +11,7 @@ use Rattle.diff_bounds.specs.Upper.{coef_at}
 use Rattle.diff_bounds.specs.Assigned.{upper_less, less_upper}
 use Rattle.diff_bounds.specs.Demanded.{lowered}
 use Rattle.interval_domain.specs.Known.{Known}
-use Rattle.cell_steps.specs.Homes.{Home}
+use Rattle.cob_graph.specs.declared.homes.Home.{Home}
 use Rattle.cell_steps.specs.Storages.{known_of}
 use Rattle.diff_steps.specs.Packs.{Pack, size_of, unit_of}
 

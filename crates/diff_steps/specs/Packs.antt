@@ -7,7 +7,9 @@ use Rattle.cob_runs.specs.Contents.{form_at, scale_of}
 use Rattle.dom_laws.specs.Meaning.{Storage}
 use Rattle.diff_bounds.specs.Matrix.{word}
 use Rattle.diff_bounds.specs.Storages.{StandsIn}
-use Rattle.cell_steps.specs.Homes.{Home, of_item, of_count, is_home}
+use Rattle.cob_graph.specs.declared.homes.Home.{Home}
+use Rattle.cob_graph.specs.declared.homes.Home.TheVariants.{Item as of_item, Count as of_count}
+use Rattle.cob_graph.specs.Homes.{is_home}
 use Rattle.cell_steps.specs.Storages.{value_at}
 
 -- A pack: what each of its cells is of. Its matrix has place 0 for the number 0, and a place for each cell from 1 on.

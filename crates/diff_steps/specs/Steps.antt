@@ -10,10 +10,12 @@ use Rattle.cob_edge_parts.specs.Parts.{Amount, Part, store, bytes_in, guard, set
 use Rattle.diff_bounds.specs.declared.form.Lin.{Lin}
 use Rattle.transfer_ranges.specs.Receivers.{receiver_of}
 use Rattle.interval_domain.specs.Known.{Known}
-use Rattle.cell_steps.specs.Homes.{Home, of_item, of_count, is_home, homes_of}
+use Rattle.cob_graph.specs.declared.homes.Home.{Home}
+use Rattle.cob_graph.specs.declared.homes.Home.TheVariants.{Item as of_item, Count as of_count}
+use Rattle.cob_graph.specs.Homes.{is_home, homes_of}
 use Rattle.cell_steps.specs.Cells.{is_in_bytes, is_beside}
 use Rattle.cell_steps.specs.Seen.{Seen}
-use Rattle.cell_steps.specs.Stores.{range_at, with_taken, amount_at, may_fail, may_fit}
+use Rattle.cell_steps.specs.Stores.{range_at, keeps_receiver, with_taken, amount_at, may_fail, may_fit}
 use Rattle.cell_steps.specs.Steps.{step}
 use Rattle.diff_steps.specs.Packs.{Pack, size_of, cell_of, pack_decimals, unit_of}
 use Rattle.diff_steps.specs.Matrices.{put_closed, forgotten, bottom}
@@ -104,9 +106,9 @@ module _ (p : Program) (a : Act) (x : Action) where
   changed_pack (count_down statement) s wrote pack m = counted_pack statement (lowered_form p pack s wrote statement) pack m
   changed_pack _ s wrote pack m = m
 
-  -- the bytes that a part writes to
+  -- The bytes that a part writes to. On an edge that keeps its receiver a store fails, and writes nothing.
   abbrev pub written_by : Part → List Bytes
-  written_by (store place mode y) = item_bytes p.layout place
+  written_by (store place mode y) = if keeps_receiver a x then [] else item_bytes p.layout place
   written_by (bytes_in offset count) = record { offset = offset; count = count } ∷ []
   written_by _ = []
 

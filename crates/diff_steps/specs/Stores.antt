@@ -14,7 +14,7 @@ use Rattle.transfer_ranges.specs.declared.amounts.AmountRange.{AmountRange}
 use Rattle.transfer_ranges.specs.declared.amounts.AmountRange.TheVariants as range
 use Rattle.sum_forms.specs.Constants.{constant_form}
 use Rattle.sum_forms.specs.SumForms.{turned_form}
-use Rattle.cell_steps.specs.Homes.{Home}
+use Rattle.cob_graph.specs.declared.homes.Home.{Home}
 use Rattle.diff_steps.specs.Matrices.{forgotten, assigned, lesser}
 
 -- ---- what is surely known of an amount

@@ -16,7 +16,8 @@ use Rattle.cob_program.specs.SumView.{plain_sum}
 use Rattle.cob_program.specs.ActView.{plain_act, plain_stmts, plain_whens}
 use Rattle.cob_program.specs.Act.{arith, if_, evaluate, read, given}
 use Rattle.cob_program.specs.Statements.{whens_statements}
-use Rattle.cell_steps.specs.Homes.{Home, count_homes}
+use Rattle.cob_graph.specs.declared.homes.Home.{Home}
+use Rattle.cob_graph.specs.Homes.{count_homes}
 use Rattle.edge_amounts.specs.Numbers.{list_homes, inner_homes}
 
 abbrev pub block_homes : Vec declared_stmt.Stmt Global → List Home

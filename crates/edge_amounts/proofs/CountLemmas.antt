@@ -5,7 +5,8 @@ use Rattle.cob_program.specs.Act.{Program}
 use Rattle.cob_program.specs.Statements.{program_statements}
 use Rattle.cob_runs.specs.declared.action.Cell.{Cell}
 use Rattle.cob_graph.specs.Graphs.{cells_of}
-use Rattle.cell_steps.specs.Homes.{of_item, of_count, item_homes, count_homes, homes_of}
+use Rattle.cob_graph.specs.declared.homes.Home.TheVariants.{Item as of_item, Count as of_count}
+use Rattle.cob_graph.specs.Homes.{item_homes, count_homes, homes_of}
 use Rattle.edge_amounts.specs.Numbers.{place_from, item_from, items_of, items_before, left_at, number_of}
 use Rattle.edge_amounts.proofs.LeftLemmas.{left_most, found_place, no_place}
 use Rattle.edge_amounts.proofs.Parallel.{items_first, as_many, items_passed, cells_same, item_place}

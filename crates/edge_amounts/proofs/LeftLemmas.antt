@@ -3,7 +3,9 @@ use Rattle.std.proofs.Common.{◌≡◌, ◌≤◌, ℕ, ◌+◌, ◌-◌, Bool,
 use Rattle.std.specs.declared.ops.ControlFlow.{ControlFlow}
 use Rattle.std.specs.declared.ops.ControlFlow.TheVariants.{Continue, Break}
 use Rattle.cob_program.specs.Act.{Stmt}
-use Rattle.cell_steps.specs.Homes.{Home, of_count, is_home, stmt_homes, count_homes}
+use Rattle.cob_graph.specs.declared.homes.Home.{Home}
+use Rattle.cob_graph.specs.declared.homes.Home.TheVariants.{Count as of_count}
+use Rattle.cob_graph.specs.Homes.{is_home, stmt_homes, count_homes}
 use Rattle.edge_amounts.specs.Numbers.{place_from, left_at}
 
 pub homes_append : (xs ys : List Stmt) → count_homes (xs ++ ys) ≡ count_homes xs ++ count_homes ys

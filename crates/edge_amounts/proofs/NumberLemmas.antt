@@ -1,7 +1,8 @@
 -- The first place of a home, in a list and in one whose places begin with a number.
 use Rattle.std.proofs.Common.{◌≡◌, ◌<◌, ℕ, suc, ◌+◌, Bool, true, false, if◌then◌else◌, List, [], ◌∷◌, length, Option, Some, None, refl, ap, ◌∙◌, arith}
 use Rattle.std.specs.Option.{option_map}
-use Rattle.cell_steps.specs.Homes.{Home, is_home}
+use Rattle.cob_graph.specs.declared.homes.Home.{Home}
+use Rattle.cob_graph.specs.Homes.{is_home}
 use Rattle.edge_amounts.specs.Numbers.{number_in, place_from}
 
 shifted : (n : ℕ) (o : Option ℕ) → option_map (λ j. n + 1 + j) o ≡ option_map (λ j. n + j) (option_map suc o)

@@ -5,60 +5,26 @@ use Rattle.std.proofs.lemmas.List.{map-append, length-append, length-map}
 use Rattle.cob_tree.specs.declared.form.Form.{Form}
 use Rattle.cob_tree.specs.declared.form.Form.TheVariants as form
 use Rattle.cob_data.specs.declared.layout.Item.{Item}
+use Rattle.cob_data.specs.declared.layout.Layout.{Layout}
 use Rattle.cob_program.specs.Act.{Turns, times, Stmt, MkStmt, Act, perform, Program}
 use Rattle.cob_program.specs.Statements.{program_statements}
 use Rattle.cob_runs.specs.declared.action.Cell.{Cell}
-use Rattle.cob_graph.specs.Graphs as graph
-use Rattle.cob_graph.specs.Graphs.{cell, cells_of, item_cells, counters}
-use Rattle.cell_steps.specs.Homes.{Home, of_item, of_count, is_home, home_of, if_named, item_homes, turns_homes, act_homes, stmt_homes, count_homes, homes_of}
+use Rattle.cob_graph.specs.Graphs.{cells_of}
+use Rattle.cob_graph.specs.Homes.{is_home, home_of, if_named, item_homes, turns_homes, act_homes, count_homes, homes_of, cell_of_home}
+use Rattle.cob_graph.specs.declared.homes.Home.{Home}
+use Rattle.cob_graph.specs.declared.homes.Home.TheVariants.{Item as of_item, Count as of_count}
 use Rattle.edge_amounts.specs.Numbers.{place_from, item_of, items_of, is_item, item_from, items_before}
 
-form_same : (place : ℕ) (f : Form) → items_of (graph.cell_of place f) ≡ map item_of (home_of place f)
-form_same place (form.Number digits scale signed kept) = refl
-form_same place (form.Text n) = go (nat_le n 18)
-  where
-    go : (short : Bool) → items_of (if short then cell (Some place) n 0 false ∷ [] else [])
-        ≡ map item_of (if short then of_item place ∷ [] else [])
-    go true = refl
-    go false = refl
-form_same place (form.Edited picture digits scale) = refl
-form_same place form.Group = refl
+item_same : (l : Layout) (h : Home) → (cell_of_home l h).item ≡ item_of h
+item_same l (of_item place) = refl
+item_same l (of_count statement) = refl
 
-named_same : {A : Type 0} (o : Option A) (cs : List Cell) (hs : List Home) → items_of cs ≡ map item_of hs →
-    items_of (graph.if_named o cs) ≡ map item_of (if_named o hs)
-named_same None cs hs e = refl
-named_same (Some n) cs hs e = e
-
-append_same : (as_ bs : List Cell) (hs ks : List Home) → items_of as_ ≡ map item_of hs → items_of bs ≡ map item_of ks →
-    items_of (as_ ++ bs) ≡ map item_of (hs ++ ks)
-append_same as_ bs hs ks e f = map-append (λ (c : Cell). c.item) as_ bs
-    ∙ (ap (λ os. os ++ items_of bs) e ∙ (ap (λ os. map item_of hs ++ os) f ∙ sym (map-append item_of hs ks)))
-
-items_same : (n : ℕ) (is_ : List Item) → items_of (item_cells n is_) ≡ map item_of (item_homes n is_)
-items_same n [] = refl
-items_same n (i ∷ is_) = append_same (graph.if_named i.name (graph.cell_of n i.form)) (item_cells (suc n) is_)
-    (if_named i.name (home_of n i.form)) (item_homes (suc n) is_)
-    (named_same i.name (graph.cell_of n i.form) (home_of n i.form) (form_same n i.form)) (items_same (suc n) is_)
-
-turns_same : (n : ℕ) (t : Turns) → items_of (graph.counters_of t) ≡ map item_of (turns_homes n t)
-turns_same n (times x) = refl
-turns_same n _ = refl
-
-act_same : (n : ℕ) (a : Act) → items_of (graph.act_counters a) ≡ map item_of (act_homes n a)
-act_same n (perform body turns) = turns_same n turns
-act_same n _ = refl
-
-stmt_same : (s : Stmt) → items_of (graph.stmt_counters s) ≡ map item_of (stmt_homes s)
-stmt_same (MkStmt number line a) = act_same number a
-
-counters_same : (ss : List Stmt) → items_of (counters ss) ≡ map item_of (count_homes ss)
-counters_same [] = refl
-counters_same (s ∷ ss) =
-    append_same (graph.stmt_counters s) (counters ss) (stmt_homes s) (count_homes ss) (stmt_same s) (counters_same ss)
+homes_same : (l : Layout) (hs : List Home) → items_of (map (cell_of_home l) hs) ≡ map item_of hs
+homes_same l [] = refl
+homes_same l (h ∷ hs) = ap (λ o. o ∷ items_of (map (cell_of_home l) hs)) (item_same l h) ∙ ap (λ os. item_of h ∷ os) (homes_same l hs)
 
 pub cells_same : (p : Program) → items_of (cells_of p) ≡ map item_of (homes_of p)
-cells_same p = append_same (item_cells 0 p.layout.items) (counters (program_statements p)) (item_homes 0 p.layout.items)
-    (count_homes (program_statements p)) (items_same 0 p.layout.items) (counters_same (program_statements p))
+cells_same p = homes_same p.layout (homes_of p)
 
 -- ---- the cell of an item
 

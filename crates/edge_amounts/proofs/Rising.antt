@@ -15,7 +15,8 @@ use Rattle.cob_program.specs.Act.{Turns, times, Stmt, MkStmt, Act, perform, Prog
 use Rattle.cob_program.specs.Statements.{program_statements}
 use Rattle.cob_runs.specs.declared.action.Cell.{Cell}
 use Rattle.cob_graph.specs.Graphs.{cells_of}
-use Rattle.cell_steps.specs.Homes.{of_item, home_of, if_named, item_homes, turns_homes, act_homes, count_homes}
+use Rattle.cob_graph.specs.declared.homes.Home.TheVariants.{Item as of_item}
+use Rattle.cob_graph.specs.Homes.{home_of, if_named, item_homes, turns_homes, act_homes, count_homes}
 use Rattle.edge_amounts.specs.Numbers.{item_of, items_of, is_lower, item_from, item_here, lower_items, number_of}
 use Rattle.edge_amounts.proofs.Parallel.{cells_same}
 use Rattle.edge_amounts.proofs.CountLemmas.{item_number}

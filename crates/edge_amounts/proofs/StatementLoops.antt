@@ -9,7 +9,8 @@ use Rattle.cob_program.specs.Act.{MkStmt, Phrase, left_out, given, Act, arith, i
 use Rattle.cob_program.specs.ActView.{plain_act, plain_stmt, plain_stmts, plain_when, plain_whens, plain_para, plain_paras}
 use Rattle.cob_program.specs.Statements.{list_statements, with_inner_statements, phrase_statements, inner_statements, whens_statements, when_statements, para_statements, paras_statements}
 use Rattle.cob_program.proofs.Loops.{item_step}
-use Rattle.cell_steps.specs.Homes.{Home, act_homes, stmt_homes, count_homes}
+use Rattle.cob_graph.specs.declared.homes.Home.{Home}
+use Rattle.cob_graph.specs.Homes.{act_homes, stmt_homes, count_homes}
 use Rattle.edge_amounts.specs.Numbers.{list_homes, phrase_homes, inner_homes}
 use Rattle.edge_amounts.proofs.LeftLemmas.{homes_append}
 

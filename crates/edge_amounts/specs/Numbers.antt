@@ -7,7 +7,9 @@ use Rattle.std.specs.declared.ops.ControlFlow.TheVariants.{Continue, Break}
 use Rattle.cob_program.specs.Act.{Stmts, Phrase, left_out, given, Act, arith, if_, evaluate, perform, read, Program}
 use Rattle.cob_program.specs.Statements.{list_statements, whens_statements, body_statements}
 use Rattle.cob_runs.specs.declared.action.Cell.{Cell}
-use Rattle.cell_steps.specs.Homes.{Home, of_item, of_count, is_home, count_homes, homes_of}
+use Rattle.cob_graph.specs.declared.homes.Home.{Home}
+use Rattle.cob_graph.specs.declared.homes.Home.TheVariants.{Item as of_item, Count as of_count}
+use Rattle.cob_graph.specs.Homes.{is_home, count_homes, homes_of}
 
 -- the first place of a home in a list
 abbrev pub number_in : Home → List Home → Option ℕ

@@ -5,7 +5,8 @@ ghost use Rattle.std.specs.Prelude.{◌≡◌, ◌++◌};
 ghost use Rattle.cob_program.specs.ActView.{plain_act, plain_stmt, plain_stmts, plain_when, plain_whens, plain_body, plain_turns, plain_para, plain_paras, plain_program};
 ghost use Rattle.cob_program.specs.Statements.{list_statements, with_inner_statements, whens_statements, when_statements, body_statements, para_statements, paras_statements};
 ghost use Rattle.cob_graph.specs.Graphs.{cells_of};
-ghost use Rattle.cell_steps.specs.Homes.{of_count, turns_homes, act_homes, stmt_homes, count_homes};
+ghost use Rattle.cob_graph.specs.declared.homes.Home.TheVariants.{Count as of_count};
+ghost use Rattle.cob_graph.specs.Homes.{turns_homes, act_homes, stmt_homes, count_homes};
 ghost use Rattle.edge_amounts.specs.Numbers.{list_homes, inner_homes, left_at, number_of};
 
 use crate::items::item_count;

@@ -3,7 +3,7 @@ ghost use Rattle.std.specs.Prelude.{◌≡◌, is_some, slice_get};
 ghost use Rattle.std.specs.Option.{option_map};
 ghost use Rattle.cob_program.specs.Act.{Program};
 ghost use Rattle.cob_graph.specs.Graphs.{cells_of};
-ghost use Rattle.cell_steps.specs.Homes.{of_item};
+ghost use Rattle.cob_graph.specs.declared.homes.Home.TheVariants.{Item as of_item};
 ghost use Rattle.edge_amounts.specs.Numbers.{is_item, is_lower, item_here, items_before, items_of, lower_items, number_of};
 
 use cob_runs::Cell;

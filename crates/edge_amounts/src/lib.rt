@@ -25,7 +25,7 @@ mod tests_of;
 
 pub use amounts::{amount_of, is_remainder, may_divide_by_zero};
 pub use counters::cell_of_count;
-pub use edges::{has_phrase, is_handled, operands_vanish};
+pub use edges::{has_phrase, is_handled, keeps_receiver, operands_vanish};
 pub use items::cell_of;
 pub use part::{Amount, Divisor, EdgePart};
 pub use parts::{part_at, part_count};

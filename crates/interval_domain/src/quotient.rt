@@ -6,10 +6,10 @@ ghost use Rattle.interval_domain.specs.Corners.{span, negated, above_zero, quoti
 
 use super::arithmetic::{between, hull};
 use super::bounds::Interval;
-use dec_num::{Mode, Quot, quot};
+use dec_num::{LIMIT, Mode, Quot, quot};
 
 // No end of a quotient goes beyond 10^37.
-const MOST: i128 = 10_000_000_000_000_000_000_000_000_000_000_000_000;
+const MOST: i128 = LIMIT;
 
 #[derive(Clone, Copy)]
 struct Scaling {

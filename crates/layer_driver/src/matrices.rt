@@ -7,10 +7,8 @@ ghost use Rattle.cert_text.specs.MatrixClaims.{cells_in, sizes_of};
 ghost use Rattle.layer_driver.specs.Rows.{rows_of_packs};
 
 use cert_text::{Element, claimed_rows_are_elements, set_claimed};
-use diff_bounds::{Pack, add_bound, words_of};
+use diff_bounds::{LARGEST, Pack, add_bound, words_of};
 use std::alloc::{AllocError, Global};
-
-const LARGEST: i128 = 10_000_000_000_000_000_000_000_000_000_000_000_000;
 
 fn bound_of(word: &str) -> Option<i128>
     ensures { IfSome result (λ most. (neg_ℤ largest ≤ℤ most) × (most ≤ℤ largest)) }

@@ -1,8 +1,6 @@
 //! Rows of both layers, written.
+use diff_bounds::NONE;
 use std::alloc::{AllocError, Global};
-
-/// The word of no bound.
-const NONE: i128 = 100_000_000_000_000_000_000_000_000_000_000_000_000;
 
 /// What the words of a row are of.
 #[derive(Clone, Copy)]

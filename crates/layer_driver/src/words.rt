@@ -1,17 +1,16 @@
 //! Kinds of faults, and numbers of edges and nodes.
 ghost use Rattle.std.specs.Prelude.{◌≤◌, IfSome};
 
-use cob_tree::Kind;
+use cob_tree::{Kind, all_kinds};
 
 /// The kind of fault that a word is.
 pub fn kind_of(word: &str) -> Option<Kind> {
-    match word {
-        "SIZE" => Some(Kind::Size),
-        "TRUNCATION" => Some(Kind::Truncation),
-        "ZERO" => Some(Kind::Zero),
-        "CLASS" => Some(Kind::Class),
-        _ => None,
+    for kind in all_kinds() {
+        if kind.text() == word {
+            return Some(kind);
+        }
     }
+    None
 }
 
 /// The number of one of so many, which count from 1.

@@ -3,14 +3,9 @@ ghost use Rattle.std.specs.Prelude.{◌≡◌, ◌+◌, ◌<◌, ◌≤◌, ◌�
 ghost use Rattle.diff_bounds.specs.Matrix.{largest, IsMatrix};
 ghost use Rattle.diff_bounds.specs.Forms.{IsSmallForm};
 
-use diff_bounds::{Lin, add_bound, lin_scale};
+use diff_bounds::{LARGEST, Lin, NONE, add_bound, lin_scale};
 use interval_domain::{Class, Interval};
 use std::alloc::{AllocError, Global};
-
-/// The word of no bound.
-pub const NONE: i128 = 100_000_000_000_000_000_000_000_000_000_000_000_000;
-
-const LARGEST: i128 = 10_000_000_000_000_000_000_000_000_000_000_000_000;
 
 /// The numbers of a line, without what is none.
 pub fn numbers_of(alloc: Global, words: &str) -> Result<Vec<i128>, AllocError> {

@@ -12,7 +12,7 @@ use Rattle.interval_domain.specs.Known.{Known}
 use Rattle.interval_domain.specs.Elements.{Element, CellsFit, ElementFits, CellsBelow, ElementBelow}
 use Rattle.interval_domain.specs.Rows.{element_of}
 use Rattle.graph_runs.specs.Places.{edge_at, Leaves}
-use Rattle.cell_steps.specs.Homes.{owns}
+use Rattle.cell_steps.specs.OwnRanges.{owns}
 use Rattle.cell_laws.specs.Layer.{left}
 use Rattle.cell_laws.proofs.Clears.{all_at, all_kept}
 use Rattle.diff_steps.specs.Packs.{Pack}

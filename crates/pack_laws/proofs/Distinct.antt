@@ -10,7 +10,9 @@ use Rattle.cob_program.specs.Act.{Turns, times, Stmt, MkStmt, Act, perform, Prog
 use Rattle.cob_program.specs.Statements.{program_statements}
 use Rattle.cob_graph.specs.declared.graph.Graph.{Graph}
 use Rattle.graph_runs.specs.Sources.{number_of, IsSourceGraph}
-use Rattle.cell_steps.specs.Homes.{Home, of_item, of_count, home_of, if_named, item_homes, turns_homes, act_homes, count_homes, homes_of}
+use Rattle.cob_graph.specs.declared.homes.Home.{Home}
+use Rattle.cob_graph.specs.declared.homes.Home.TheVariants.{Item as of_item, Count as of_count}
+use Rattle.cob_graph.specs.Homes.{home_of, if_named, item_homes, turns_homes, act_homes, count_homes, homes_of}
 
 -- ---- the order of homes: items by their places, and then counters by their statements
 

@@ -32,7 +32,8 @@ use Rattle.transfer_ranges.specs.Amounts as amounts
 use Rattle.transfer_ranges.specs.Amounts.{IsNarrowerTaken, IsNarrowerTakenIfAny}
 use Rattle.transfer_ranges.specs.Stores.{amount_range}
 use Rattle.transfer_ranges.proofs.Narrower.{computed_narrower}
-use Rattle.cell_steps.specs.Homes.{of_item, of_count, homes_of}
+use Rattle.cob_graph.specs.declared.homes.Home.TheVariants.{Item as of_item, Count as of_count}
+use Rattle.cob_graph.specs.Homes.{homes_of}
 use Rattle.cell_steps.specs.Cells.{units_of}
 use Rattle.cell_steps.specs.Operands.{settled, stays_exact, taken_for, amount_of}
 use Rattle.cell_steps.specs.Seen.{Seen}

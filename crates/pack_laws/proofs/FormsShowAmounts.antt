@@ -42,7 +42,7 @@ use Rattle.transfer_ranges.specs.Operands.{whole_range}
 use Rattle.transfer_ranges.specs.Stores.{amount_range}
 use Rattle.cob_edge_parts.specs.Counters.{PassesParts}
 use Rattle.cell_laws.specs.Places.{IsBehindOperands, EndsWithRead, IsStored}
-use Rattle.cell_steps.specs.Homes.{of_item}
+use Rattle.cob_graph.specs.declared.homes.Home.TheVariants.{Item as of_item}
 use Rattle.cell_steps.specs.Storages.{storage}
 use Rattle.cell_steps.specs.Operands.{edge_amount, settled, amount_of}
 use Rattle.cell_steps.specs.Seen.{Seen}

@@ -15,7 +15,8 @@ use Rattle.diff_bounds.specs.Forms.{if_small}
 use Rattle.sum_ranges.specs.Ranged.{decimal, point}
 use Rattle.sum_ranges.proofs.Least.{point_in}
 use Rattle.sum_forms.specs.Constants.{floor_at, outward, constant_form}
-use Rattle.cell_steps.specs.Homes.{of_count, homes_of}
+use Rattle.cob_graph.specs.declared.homes.Home.TheVariants.{Count as of_count}
+use Rattle.cob_graph.specs.Homes.{homes_of}
 use Rattle.cell_steps.specs.Storages.{storage, StandsIn}
 use Rattle.cell_steps.specs.Premises.{HasSoundItems}
 use Rattle.cell_steps.specs.Cells.{units_of}

@@ -27,7 +27,7 @@ use Rattle.sum_forms.specs.SumForms.{turned_form, sum_form}
 use Rattle.transfer_ranges.specs.Sides.{is_wanted}
 use Rattle.transfer_ranges.proofs.InRanges.{ok_same, ok_bound, ok_there, wanted_is}
 use Rattle.interval_domain.specs.Known.{Known}
-use Rattle.cell_steps.specs.Homes.{of_item}
+use Rattle.cob_graph.specs.declared.homes.Home.TheVariants.{Item as of_item}
 use Rattle.cell_steps.specs.Storages.{storage, StandsIn}
 use Rattle.cell_steps.specs.Premises.{HasSoundItems}
 use Rattle.cell_steps.specs.Seen.{Seen}

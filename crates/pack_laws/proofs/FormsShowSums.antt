@@ -31,7 +31,10 @@ use Rattle.sum_forms.proofs.Shows.{item_shows}
 use Rattle.sum_forms.proofs.Sound.{sum_shown}
 use Rattle.transfer_ranges.proofs.Agreement.{numeric_sum}
 use Rattle.interval_domain.specs.Known.{Known}
-use Rattle.cell_steps.specs.Homes.{Home, of_item, of_count, homes_of, picture_range, form_range, home_range}
+use Rattle.cob_graph.specs.declared.homes.Home.{Home}
+use Rattle.cob_graph.specs.declared.homes.Home.TheVariants.{Item as of_item, Count as of_count}
+use Rattle.cob_graph.specs.Homes.{homes_of}
+use Rattle.cell_steps.specs.OwnRanges.{picture_range, form_range, home_range}
 use Rattle.cell_steps.specs.Storages.{storage, known_of, value_at, KnownStands, StandsIn}
 use Rattle.cell_steps.specs.Premises.{HasSoundItems}
 use Rattle.cell_steps.specs.Cells.{known_or, units_of}

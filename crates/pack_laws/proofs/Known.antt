@@ -11,7 +11,7 @@ use Rattle.dom_laws.specs.Meaning.{Storage}
 use Rattle.diff_bounds.specs.Matrix.{word, IsBound}
 use Rattle.diff_bounds.specs.Storages.{value_at, DifferBy, StandsIn}
 use Rattle.interval_domain.specs.Known.{Known}
-use Rattle.cell_steps.specs.Homes.{Home}
+use Rattle.cob_graph.specs.declared.homes.Home.{Home}
 use Rattle.cell_steps.specs.Storages as cells
 use Rattle.cell_steps.specs.Storages.{known_of, KnownStands}
 use Rattle.diff_steps.specs.Packs.{Pack, size_of, unit_of, cells_in, PackStands}

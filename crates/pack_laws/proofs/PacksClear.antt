@@ -39,7 +39,10 @@ use Rattle.transfer_ranges.proofs.Fitting.{units_hold}
 use Rattle.cob_edge_parts.specs.Counters.{IsCount, IsTooGreat}
 use Rattle.cell_laws.specs.Places.{IsStored}
 use Rattle.interval_domain.specs.Known.{Known}
-use Rattle.cell_steps.specs.Homes.{Home, of_count, is_home, homes_of, picture_range}
+use Rattle.cob_graph.specs.declared.homes.Home.{Home}
+use Rattle.cob_graph.specs.declared.homes.Home.TheVariants.{Count as of_count}
+use Rattle.cob_graph.specs.Homes.{is_home, homes_of}
+use Rattle.cell_steps.specs.OwnRanges.{picture_range}
 use Rattle.cell_steps.specs.Storages.{storage, known_of}
 use Rattle.cell_steps.specs.Cells.{known_or, units_of}
 use Rattle.cell_steps.specs.Operands.{amount_of}

@@ -35,7 +35,8 @@ use Rattle.transfer_ranges.specs.Results.{IsInside, IsInsideIfAny}
 use Rattle.transfer_ranges.specs.ResultRanges.{amount_units, most, lowered}
 use Rattle.transfer_ranges.proofs.Narrower.{units_inside}
 use Rattle.transfer_ranges.proofs.Rounding.{near_grows}
-use Rattle.cell_steps.specs.Homes.{of_count, homes_of}
+use Rattle.cob_graph.specs.declared.homes.Home.TheVariants.{Count as of_count}
+use Rattle.cob_graph.specs.Homes.{homes_of}
 use Rattle.cell_steps.specs.Cells.{units_of}
 use Rattle.cell_steps.specs.Operands.{amount_of}
 use Rattle.cell_steps.specs.Seen.{Seen}
@@ -54,11 +55,10 @@ use Rattle.diff_steps.specs.Stores.{upper_negated}
 use Rattle.diff_steps.specs.Clearing.{some_pack, high_fits, low_fits, high_shown, low_shown, ends_fit, is_negative, is_apart_in, amounts_fit, store_fits, clears_part2}
 use Rattle.pack_laws.specs.Agreeing.{AreMatrices}
 use Rattle.pack_laws.specs.EdgeLaws.{AreLowerEach}
-use Rattle.pack_laws.proofs.PacksPutRise.{matrix_is_flat, lower_of}
+use Rattle.pack_laws.proofs.PacksPutRise.{matrix_is_flat, lower_of, negated_falls}
 use Rattle.pack_laws.proofs.SignsRise.{upper_lower_if, upper_negated_lower_if}
 use Rattle.pack_laws.proofs.PacksStoresRise.{operands_rise}
 use Rattle.pack_laws.proofs.FormsRise.{are_taken, divisor_narrower, lowered_narrower, set_narrower, amount_narrower}
-use Rattle.pack_laws.proofs.PacksPutRise.{negated_falls}
 
 -- ---- tests of numbers
 

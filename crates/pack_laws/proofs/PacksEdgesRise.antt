@@ -10,7 +10,7 @@ use Rattle.cob_runs.specs.declared.action.Action.{Action}
 use Rattle.cob_edge_parts.specs.Parts.{Part, parts_of}
 use Rattle.interval_domain.specs.Known.{Known}
 use Rattle.interval_domain.specs.Elements.{CellsFit, CellsBelow}
-use Rattle.cell_steps.specs.Homes.{owns}
+use Rattle.cell_steps.specs.OwnRanges.{owns}
 use Rattle.cell_steps.specs.Seen.{Seen, beginning}
 use Rattle.cell_steps.specs.Stores.{handled}
 use Rattle.cell_steps.specs.Steps.{step}

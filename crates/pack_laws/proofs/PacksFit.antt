@@ -14,7 +14,7 @@ use Rattle.diff_bounds.specs.declared.form.Lin.{Lin}
 use Rattle.diff_bounds.specs.Matrix.{largest, IsWord, IsMatrix}
 use Rattle.transfer_ranges.specs.Receivers.{receiver_of}
 use Rattle.interval_domain.specs.Known.{Known}
-use Rattle.cell_steps.specs.Homes.{of_item}
+use Rattle.cob_graph.specs.declared.homes.Home.TheVariants.{Item as of_item}
 use Rattle.cell_steps.specs.Seen.{Seen, beginning}
 use Rattle.cell_steps.specs.Stores.{handled, with_taken, amount_at, may_fail, may_fit}
 use Rattle.cell_steps.specs.Steps.{step}

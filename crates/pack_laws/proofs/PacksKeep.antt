@@ -1,10 +1,11 @@
 -- What is known of differences behind a part is true where what is known before it is.
-use Rattle.std.proofs.Common.{◌≡◌, ◌≤◌, ℕ, zero, suc, ◌+◌, ◌==◌, Bool, true, false, ◌||◌, if◌then◌else◌, List, [], ◌∷◌, ◌++◌, Option, Some, None, ℤ, pos, ◌-ℤ◌, refl, sym, ap, subst, ◌∙◌}
+use Rattle.std.proofs.Common.{◌≡◌, ◌≤◌, ℕ, zero, suc, ◌+◌, ◌==◌, Bool, true, false, ◌||◌, if◌then◌else◌, ◌⊎◌, inl, inr, List, [], ◌∷◌, ◌++◌, Option, Some, None, ℤ, pos, ◌-ℤ◌, refl, sym, ap, subst, ◌∙◌}
 use Rattle.std.specs.Prelude.{IfSome, IsSomeAnd}
 use Rattle.std.specs.List.{list_any}
 use Rattle.std.specs.Option.{option_map, option_map_or}
-use Rattle.std.proofs.lemmas.Bool.{eqb-true}
+use Rattle.std.proofs.lemmas.Bool.{eqb-true, or_parts}
 use Rattle.std.proofs.lemmas.List.{append_assoc, append-nil}
+use Rattle.dec_num.specs.declared.types.Mode.{Mode}
 use Rattle.dec_num.specs.declared.types.Scaled.{Scaled}
 use Rattle.dec_num.specs.Scaled.{value_of}
 use Rattle.cob_data.specs.declared.layout.Item.{Item}
@@ -17,28 +18,31 @@ use Rattle.cob_runs.specs.declared.action.Action.{Action}
 use Rattle.cob_runs.specs.Contents.{item_at, form_at, scale_of, scaled_by, number_at}
 use Rattle.cob_runs.specs.Computing.{worth}
 use Rattle.cob_runs.specs.Moves.{number_of}
-use Rattle.cob_edge_parts.specs.Parts.{Part, read, unread, divide, store, bytes_in, guard, read_count, set_count, count_down, guard_count, parts_of}
-use Rattle.cob_edge_parts.specs.Meaning.{Moment, divided_by_zero, changed_in, divides_by, Divides}
+use Rattle.cob_edge_parts.specs.Parts.{Amount, Part, read, unread, divide, store, bytes_in, guard, read_count, set_count, count_down, guard_count, parts_of}
+use Rattle.cob_edge_parts.specs.Meaning.{Moment, with_failure, divided_by_zero, is_left_alone, changed_in, divides_by, stored_bytes, stored_or_kept, Divides, Stores}
 use Rattle.cob_edge_parts.specs.Ranges.{ChangesWithin}
 use Rattle.cob_program.specs.Sum.{Atom}
 use Rattle.dom_laws.specs.Meaning.{Storage}
-use Rattle.dom_laws.specs.Walking.{IsSeen}
+use Rattle.dom_laws.specs.Walking.{IsSeen, PassesAll}
 use Rattle.diff_bounds.specs.declared.form.Lin.{Lin}
 use Rattle.diff_bounds.specs.Matrix.{word}
-use Rattle.cob_edge_parts.specs.Counters.{PassesPart, PassesParts}
+use Rattle.cob_edge_parts.specs.Counters.{PassesPart}
 use Rattle.diff_bounds.specs.Closed.{closed}
 use Rattle.interval_domain.specs.Known.{Known}
-use Rattle.cell_steps.specs.Homes.{Home, of_item, of_count, homes_of}
+use Rattle.cob_graph.specs.declared.homes.Home.{Home}
+use Rattle.cob_graph.specs.declared.homes.Home.TheVariants.{Item as of_item, Count as of_count}
+use Rattle.cob_graph.specs.Homes.{homes_of}
 use Rattle.cell_steps.specs.Storages.{storage, known_of, value_at, KnownStands}
 use Rattle.cell_steps.specs.Cells.{share_bytes, is_in_bytes, is_beside}
 use Rattle.cell_steps.specs.Seen.{Seen}
-use Rattle.cell_steps.specs.Stores.{handled, with_taken}
+use Rattle.cell_steps.specs.Stores.{has_one_receiver, handled, keeps_receiver, with_taken}
 use Rattle.cell_steps.specs.Steps.{step}
-use Rattle.cell_steps.specs.Agreeing.{IsSoundEdge, Agrees, walking}
+use Rattle.cell_steps.specs.Agreeing.{IsSoundEdge, FailsAt, PassesOn, Agrees, walking}
 use Rattle.cell_laws.proofs.Frames.{value_stays, range_changes}
 use Rattle.cell_laws.proofs.QuietParts.{SameMoment, same_moment, own_moment, read_moment}
 use Rattle.cell_laws.proofs.StoresKeep.{then_holds, taken_at}
 use Rattle.cell_laws.proofs.PartsKeep.{keeps, off_zero}
+use Rattle.cell_laws.proofs.PartsDone.{both_true}
 use Rattle.diff_steps.specs.Packs.{Pack, size_of, cell_of, pack_decimals, cells_in, PackStands, PacksStand}
 use Rattle.diff_steps.specs.Matrices.{with_words, put_word}
 use Rattle.diff_steps.specs.Moments.{Bytes, Seen2, with_packs, item_bytes, is_written}
@@ -57,7 +61,6 @@ use Rattle.pack_laws.proofs.PacksKeepClosed.{closed_stands}
 use Rattle.pack_laws.proofs.PacksKeepCells.{homes_left}
 use Rattle.pack_laws.proofs.PacksKeepCounters.{IsWholeShown, same_shown, counted_stands}
 use Rattle.pack_laws.proofs.PacksKeepStores.{store_stands, store_changes}
-use Rattle.std.proofs.lemmas.Bool.{or_parts}
 
 -- ---- a row of matrices
 
@@ -133,6 +136,19 @@ divide_quiet l true d m n e = go (divides_by (worth l m.first) d) e
     go true e = of_same m n (same_moment m n e)
     go false e = record { storage_ = ap (λ (k : Moment). k.storage) e; counts = ap (λ (k : Moment). k.counts) e; first = ap (λ (k : Moment). k.first) e }
 
+-- a store that fails on an edge of size errors
+kept_alone : (l : Layout) (handled : Bool) (place : ℕ) (mode : Mode) (y : Amount) (m n : Moment) → handled ≡ true → FailsAt l (store place mode y) m → Stores l handled place mode y m n → IsQuiet m n
+kept_alone l false place mode y m n on fails h = absurd cc
+kept_alone l true place mode y m n on fails h = by_alone (is_left_alone m y) refl fails h
+  where
+    failure : n ≡ with_failure m → IsQuiet m n
+    failure k = record { storage_ = ap (λ (j : Moment). j.storage) k; counts = ap (λ (j : Moment). j.counts) k; first = ap (λ (j : Moment). j.first) k }
+
+    by_alone : (b : Bool) → is_left_alone m y ≡ b → (b ≡ true) ⊎ (stored_bytes l m place mode y ≡ None) → n ≡ (if b then m else stored_or_kept l m place (stored_bytes l m place mode y)) → IsQuiet m n
+    by_alone true e f k = of_same m n (same_moment m n k)
+    by_alone false e (inl f) k = absurd cc
+    by_alone false e (inr f) k = failure (k ∙ ap (stored_or_kept l m place) f)
+
 quiet_stands : (l : Layout) (pack : Pack) (w : List ℤ) (m n : Moment) → IsQuiet m n → PackStands l pack w (storage m.storage m.counts) → PackStands l pack w (storage n.storage n.counts)
 quiet_stands l pack w m n q h =
     subst (λ (bytes : List ℕ). PackStands l pack w (storage bytes n.counts)) (sym q.storage_)
@@ -195,52 +211,59 @@ module _ (p : Program) (packs : List Pack) (statement : ℕ) (a : Act) (x : Acti
 
   -- the matrix of one pack
   part_stands : (done rest : List Part) (y : Part) (s : Seen) (r : Seen2) (m n : Moment) → done ++ y ∷ rest ≡ parts_of p statement a x → Now done s r m → PassesPart p.layout (handled p a x) y m n
-      → (pack : Pack) (w : List ℤ) → IsPackOf p pack → size_of pack ≤ 8 → PackStands p.layout pack w (storage m.storage m.counts) → PackStands p.layout pack (changed_pack p a x y s r.wrote pack w) (storage n.storage n.counts)
-  part_stands done rest (read place) s r m n e g h pack w of few k = quiet_stands p.layout pack w m n (of_same m n (read_moment p.layout m.by_zero place m n h.0)) k
-  part_stands done rest unread s r m n e g h pack w of few k = absurd h.0
-  part_stands done rest (divide d) s r m n e g h pack w of few k = quiet_stands p.layout pack w m n (divide_quiet p.layout (handled p a x) d m n h.0) k
-  part_stands done rest (store place mode y) s r m n e g h pack w of few k =
+      → (keeps_receiver a x ≡ true → FailsAt p.layout y m) → (pack : Pack) (w : List ℤ) → IsPackOf p pack → size_of pack ≤ 8 → PackStands p.layout pack w (storage m.storage m.counts) → PackStands p.layout pack (changed_pack p a x y s r.wrote pack w) (storage n.storage n.counts)
+  part_stands done rest (read place) s r m n e g h fails pack w of few k = quiet_stands p.layout pack w m n (of_same m n (read_moment p.layout m.by_zero place m n h.0)) k
+  part_stands done rest unread s r m n e g h fails pack w of few k = absurd h.0
+  part_stands done rest (divide d) s r m n e g h fails pack w of few k = quiet_stands p.layout pack w m n (divide_quiet p.layout (handled p a x) d m n h.0) k
+  part_stands done rest (store place mode y) s r m n e g h fails pack w of few k =
       let q = cell_laws.places_ p statement a x done rest (store place mode y) e in
       store_stands p statement a x done place mode y (with_taken p a x s) m (taken_at p statement a x cell_laws done (store place mode y) s m refl q g.cells) q (g.cells.sound.receivers done rest place mode y e) pack of few r.wrote w k
       (λ unzero v f. all_operands_are_there p statement a x done rest place mode y e s r.wrote m g.cells g.tracked unzero v f)
       (λ unzero v f. all_amounts_are_shown p statement a x pack few done rest place mode y e s r.wrote m g.cells g.tracked unzero v f)
-      n (off_zero cell_laws p statement a x done s m g.cells) h.0
-  part_stands done rest (bytes_in offset count) s r m n e g h pack w of few k =
+      n (off_zero cell_laws p statement a x done s m g.cells) fails h.0
+  part_stands done rest (bytes_in offset count) s r m n e g h fails pack w of few k =
       let change = h.0.0 in
       subst (λ (j : Moment). PackStands p.layout pack (changed_pack p a x (bytes_in offset count) s r.wrote pack w) (storage j.storage j.counts)) (sym h.0.1)
       (homes_left p.layout pack (is_in_bytes p.layout offset count) (storage m.storage m.counts) (storage (changed_in change offset count m.storage) m.counts) w
       (λ i h is apart. value_stays p.layout offset count m.storage (changed_in change offset count m.storage) m.counts (bytes_change done rest offset count s m e g.cells change) h apart) k)
-  part_stands done rest (guard v wanted) s r m n e g h pack w of few k =
+  part_stands done rest (guard v wanted) s r m n e g h fails pack w of few k =
       subst (λ (j : Moment). PackStands p.layout pack (guarded_pack p a x s v wanted pack w) (storage j.storage j.counts)) (sym h.0.1)
       (all_guards_keep p statement a x pack few done rest v wanted e s m g.cells h.0.0 w k)
-  part_stands done rest (read_count j) s r m n e g h pack w of few k = quiet_stands p.layout pack w m n (of_same m n (own_moment m n (whole_number h.0.0) h.0.2)) k
-  part_stands done rest (set_count j y) s r m n e g h pack w of few k =
+  part_stands done rest (read_count j) s r m n e g h fails pack w of few k = quiet_stands p.layout pack w m n (of_same m n (own_moment m n (whole_number h.0.0) h.0.2)) k
+  part_stands done rest (set_count j y) s r m n e g h fails pack w of few k =
       let q = cell_laws.places_ p statement a x done rest (set_count j y) e in
       subst (λ (i : Moment). PackStands p.layout pack (changed_pack p a x (set_count j y) s r.wrote pack w) (storage i.storage i.counts)) (sym h.0.2)
       (counted_stands p statement a x g.cells.sound pack of few m s.cells j h.0.0 (set_form p pack (with_taken p a x s) r.wrote y) w (subst (λ (i : ℕ). 1 ≤ i) (sym q.0) g.cells.sound.first) g.cells.stands
       (λ at f. set_shown pack of few (with_taken p a x s) r.wrote y m h.0.0 g.cells.sound h.0.1 (all_senders_are_shown p statement a x pack few done rest j y e s r.wrote m g.cells g.tracked h.0.0 h.0.1)) k)
-  part_stands done rest (count_down j) s r m n e g h pack w of few k =
+  part_stands done rest (count_down j) s r m n e g h fails pack w of few k =
       let q = cell_laws.places_ p statement a x done rest (count_down j) e in
       subst (λ (i : Moment). PackStands p.layout pack (changed_pack p a x (count_down j) s r.wrote pack w) (storage i.storage i.counts)) (sym h.0)
       (counted_stands p statement a x g.cells.sound pack of few m s.cells j (whole_number (m.own.units -ℤ pos 1)) (lowered_form p pack s r.wrote j) w (subst (λ (i : ℕ). 1 ≤ i) (sym q.0) g.cells.sound.first) g.cells.stands
       (λ at f. lowered_shown pack of few m (m.own.units -ℤ pos 1) g.cells.sound (lowered_form p pack s r.wrote j)
       (all_counters_are_shown p statement a x pack few done rest j e s r.wrote m g.cells (λ none. absurd (not_both (cell_of pack (of_count j)) at f none)))) k)
-  part_stands done rest (guard_count j wanted) s r m n e g h pack w of few k = quiet_stands p.layout pack w m n (of_same m n (same_moment m n h.0.3)) k
+  part_stands done rest (guard_count j wanted) s r m n e g h fails pack w of few k = quiet_stands p.layout pack w m n (of_same m n (same_moment m n h.0.3)) k
 
   -- storage where the edge began, for items to which it hasn't written
-  part_tracked : (done rest : List Part) (y : Part) (s : Seen) (r : Seen2) (m n : Moment) → done ++ y ∷ rest ≡ parts_of p statement a x → Now done s r m → PassesPart p.layout (handled p a x) y m n → IsTracked p.layout (written_by p a x y ++ r.wrote) n
-  part_tracked done rest (read place) s r m n e g h = let q = of_same m n (read_moment p.layout m.by_zero place m n h.0) in quiet_tracked p.layout r.wrote m n q.storage_ q.first g.tracked
-  part_tracked done rest unread s r m n e g h = absurd h.0
-  part_tracked done rest (divide d) s r m n e g h = let q = divide_quiet p.layout (handled p a x) d m n h.0 in quiet_tracked p.layout r.wrote m n q.storage_ q.first g.tracked
-  part_tracked done rest (store place mode y) s r m n e g h =
-      let q = cell_laws.places_ p statement a x done rest (store place mode y) e in
-      let changes = store_changes p statement a x done place mode y (with_taken p a x s) m (taken_at p statement a x cell_laws done (store place mode y) s m refl q g.cells) q (g.cells.sound.receivers done rest place mode y e) n h.0 in
-      record {
-        same = λ other k.
-            let two = written_item p.layout place r.wrote other k in
-            changes.others other two.0 ∙ g.tracked.same other two.1 ∙ ap (λ (bytes : List ℕ). number_at p.layout bytes other) (sym changes.first);
-      }
-  part_tracked done rest (bytes_in offset count) s r m n e g h =
+  part_tracked : (done rest : List Part) (y : Part) (s : Seen) (r : Seen2) (m n : Moment) → done ++ y ∷ rest ≡ parts_of p statement a x → Now done s r m → PassesPart p.layout (handled p a x) y m n
+      → (keeps_receiver a x ≡ true → FailsAt p.layout y m) → IsTracked p.layout (written_by p a x y ++ r.wrote) n
+  part_tracked done rest (read place) s r m n e g h fails = let q = of_same m n (read_moment p.layout m.by_zero place m n h.0) in quiet_tracked p.layout r.wrote m n q.storage_ q.first g.tracked
+  part_tracked done rest unread s r m n e g h fails = absurd h.0
+  part_tracked done rest (divide d) s r m n e g h fails = let q = divide_quiet p.layout (handled p a x) d m n h.0 in quiet_tracked p.layout r.wrote m n q.storage_ q.first g.tracked
+  part_tracked done rest (store place mode y) s r m n e g h fails = by_keeping (keeps_receiver a x) refl
+    where
+      by_keeping : (b : Bool) → keeps_receiver a x ≡ b → IsTracked p.layout ((if b then [] else item_bytes p.layout place) ++ r.wrote) n
+      by_keeping true keeps =
+          let same = kept_alone p.layout (handled p a x) place mode y m n (both_true (handled p a x) (has_one_receiver a) keeps).0 (fails keeps) h.0 in
+          quiet_tracked p.layout r.wrote m n same.storage_ same.first g.tracked
+      by_keeping false off =
+          let q = cell_laws.places_ p statement a x done rest (store place mode y) e in
+          let changes = store_changes p statement a x done place mode y (with_taken p a x s) m (taken_at p statement a x cell_laws done (store place mode y) s m refl q g.cells) q (g.cells.sound.receivers done rest place mode y e) n h.0 in
+          record {
+            same = λ other k.
+                let two = written_item p.layout place r.wrote other k in
+                changes.others other two.0 ∙ g.tracked.same other two.1 ∙ ap (λ (bytes : List ℕ). number_at p.layout bytes other) (sym changes.first);
+          }
+  part_tracked done rest (bytes_in offset count) s r m n e g h fails =
       let change = h.0.0 in
       subst (λ (j : Moment). IsTracked p.layout (written_by p a x (bytes_in offset count) ++ r.wrote) j) (sym h.0.1)
       (record {
@@ -249,11 +272,11 @@ module _ (p : Program) (packs : List Pack) (statement : ℕ) (a : Act) (x : Acti
             ap (option_map (scaled_by (scale_of (form_at p.layout other)))) (value_stays p.layout offset count m.storage (changed_in change offset count m.storage) m.counts (bytes_change done rest offset count s m e g.cells change) (of_item other) two.0)
             ∙ g.tracked.same other two.1;
       })
-  part_tracked done rest (guard v wanted) s r m n e g h = let q = of_same m n (same_moment m n h.0.1) in quiet_tracked p.layout r.wrote m n q.storage_ q.first g.tracked
-  part_tracked done rest (read_count j) s r m n e g h = let q = of_same m n (own_moment m n (whole_number h.0.0) h.0.2) in quiet_tracked p.layout r.wrote m n q.storage_ q.first g.tracked
-  part_tracked done rest (set_count j y) s r m n e g h = quiet_tracked p.layout r.wrote m n (ap (λ (k : Moment). k.storage) h.0.2) (ap (λ (k : Moment). k.first) h.0.2) g.tracked
-  part_tracked done rest (count_down j) s r m n e g h = quiet_tracked p.layout r.wrote m n (ap (λ (k : Moment). k.storage) h.0) (ap (λ (k : Moment). k.first) h.0) g.tracked
-  part_tracked done rest (guard_count j wanted) s r m n e g h = let q = of_same m n (same_moment m n h.0.3) in quiet_tracked p.layout r.wrote m n q.storage_ q.first g.tracked
+  part_tracked done rest (guard v wanted) s r m n e g h fails = let q = of_same m n (same_moment m n h.0.1) in quiet_tracked p.layout r.wrote m n q.storage_ q.first g.tracked
+  part_tracked done rest (read_count j) s r m n e g h fails = let q = of_same m n (own_moment m n (whole_number h.0.0) h.0.2) in quiet_tracked p.layout r.wrote m n q.storage_ q.first g.tracked
+  part_tracked done rest (set_count j y) s r m n e g h fails = quiet_tracked p.layout r.wrote m n (ap (λ (k : Moment). k.storage) h.0.2) (ap (λ (k : Moment). k.first) h.0.2) g.tracked
+  part_tracked done rest (count_down j) s r m n e g h fails = quiet_tracked p.layout r.wrote m n (ap (λ (k : Moment). k.storage) h.0) (ap (λ (k : Moment). k.first) h.0) g.tracked
+  part_tracked done rest (guard_count j wanted) s r m n e g h fails = let q = of_same m n (same_moment m n h.0.3) in quiet_tracked p.layout r.wrote m n q.storage_ q.first g.tracked
 
   -- ---- all parts
 
@@ -261,15 +284,15 @@ module _ (p : Program) (packs : List Pack) (statement : ℕ) (a : Act) (x : Acti
   behind y s r t ms = Some (t, with_packs (changed p a x packs y s r) ms)
 
   module _ (of : ArePacksOf p packs) where
-    pub part_keeps : (done rest : List Part) (y : Part) (s : Seen) (r : Seen2) (m n : Moment) → done ++ y ∷ rest ≡ parts_of p statement a x → Now done s r m → PassesPart p.layout (handled p a x) y m n
+    pub part_keeps : (done rest : List Part) (y : Part) (s : Seen) (r : Seen2) (m n : Moment) → done ++ y ∷ rest ≡ parts_of p statement a x → Now done s r m → PassesOn p statement a x y m n
         → IsSomeAnd (step2 p a x packs y s r) (λ u. Now (done ++ y ∷ []) u.0 u.1 n)
-    part_keeps done rest y s r m n e g h = by_cells (step p a x y s) (keeps cell_laws p statement a x done rest y s m n e g.cells h) (step2_fits p a x packs y s r g.matrices)
+    part_keeps done rest y s r m n e g h = by_cells (step p a x y s) (keeps cell_laws p statement a x done rest y s m n e g.cells h.0 h.1) (step2_fits p a x packs y s r g.matrices)
       where
         by_row : (t : Seen) → Agrees p statement a x (done ++ y ∷ []) t n → (o : Option (List (List ℤ))) → IsSomeAnd o (λ cs. PacksStand p.layout packs cs (storage n.storage n.counts))
             → IfSome (o >>= λ ms. behind y s r t ms) (λ u. AreMatrices packs u.1.packs)
             → IsSomeAnd (o >>= λ ms. behind y s r t ms) (λ u. Now (done ++ y ∷ []) u.0 u.1 n)
         by_row t k None stand fit = absurd stand
-        by_row t k (Some ms) stand fit = record { cells = k; tracked = part_tracked done rest y s r m n e g h; matrices = fit; stand = stand }
+        by_row t k (Some ms) stand fit = record { cells = k; tracked = part_tracked done rest y s r m n e g h.0 h.1; matrices = fit; stand = stand }
 
         by_cells : (o : Option Seen) → IsSeen (walking p statement a x) o (λ t. Agrees p statement a x (done ++ y ∷ []) t n)
             → IfSome (o >>= λ t. all_closed p t.cells packs (changed p a x packs y s r).packs >>= λ ms. behind y s r t ms) (λ u. AreMatrices packs u.1.packs)
@@ -279,9 +302,9 @@ module _ (p : Program) (packs : List Pack) (statement : ℕ) (a : Act) (x : Acti
             by_row t k (all_closed p t.cells packs (changed p a x packs y s r).packs)
             (all_closed_stand p t.cells (storage n.storage n.counts) k.stands.known packs (changed p a x packs y s r).packs (changed_are_flat p a x packs y s r g.matrices)
             (each_stand p (changed_pack p a x y s r.wrote) (storage m.storage m.counts) (storage n.storage n.counts)
-            (λ pack w is few stands. part_stands done rest y s r m n e g h pack w is few stands) packs r.packs of g.matrices g.stand)) fit
+            (λ pack w is few stands. part_stands done rest y s r m n e g h.0 h.1 pack w is few stands) packs r.packs of g.matrices g.stand)) fit
 
-    pub parts_keep : (done ys : List Part) (s : Seen) (r : Seen2) (m n : Moment) → done ++ ys ≡ parts_of p statement a x → Now done s r m → PassesParts p.layout (handled p a x) ys m n
+    pub parts_keep : (done ys : List Part) (s : Seen) (r : Seen2) (m n : Moment) → done ++ ys ≡ parts_of p statement a x → Now done s r m → PassesAll (walking p statement a x) ys m n
         → IsSomeAnd (steps2 p packs a x ys s r) (λ u. Now (parts_of p statement a x) u.0 u.1 n)
     parts_keep done [] s r m n e g same =
         subst (λ (k : Moment). Now (parts_of p statement a x) s r k) (sym same) (subst (λ (d : List Part). Now d s r m) (sym (append-nil done) ∙ e) g)

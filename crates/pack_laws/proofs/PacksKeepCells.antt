@@ -20,7 +20,9 @@ use Rattle.dom_laws.specs.Meaning.{Storage}
 use Rattle.diff_bounds.specs.Matrix.{word}
 use Rattle.diff_bounds.specs.Storages.{value_at, DifferBy, StandsIn}
 use Rattle.diff_bounds.specs.Assigned.{with_value}
-use Rattle.cell_steps.specs.Homes.{Home, of_item, of_count, is_home, home_of, if_named, item_homes, act_homes, count_homes, homes_of}
+use Rattle.cob_graph.specs.declared.homes.Home.{Home}
+use Rattle.cob_graph.specs.declared.homes.Home.TheVariants.{Item as of_item, Count as of_count}
+use Rattle.cob_graph.specs.Homes.{is_home, home_of, if_named, item_homes, act_homes, count_homes, homes_of}
 use Rattle.cell_steps.specs.Storages as cells
 use Rattle.cell_laws.proofs.CellLists.{home_is}
 use Rattle.cell_laws.proofs.HomesStand.{same_home}

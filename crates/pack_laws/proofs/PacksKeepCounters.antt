@@ -18,7 +18,9 @@ use Rattle.diff_bounds.specs.Storages.{StandsIn}
 use Rattle.diff_bounds.specs.Values.{worths}
 use Rattle.diff_bounds.specs.Assigned.{with_value, IsValue}
 use Rattle.interval_domain.specs.Known.{Known}
-use Rattle.cell_steps.specs.Homes.{Home, of_item, of_count, is_home}
+use Rattle.cob_graph.specs.declared.homes.Home.{Home}
+use Rattle.cob_graph.specs.declared.homes.Home.TheVariants.{Item as of_item, Count as of_count}
+use Rattle.cob_graph.specs.Homes.{is_home}
 use Rattle.cell_steps.specs.Storages as values
 use Rattle.cell_steps.specs.Storages.{storage}
 use Rattle.cell_steps.specs.Agreeing.{IsSoundEdge}

@@ -14,7 +14,7 @@ use Rattle.cob_program.specs.Act.{Act, Program}
 use Rattle.cob_runs.specs.declared.action.Action.{Action}
 use Rattle.cob_runs.specs.Contents.{form_at, bytes_of, digits_of, scale_of, scaled_by, number_at, filled_at, if_held, stored as stored_units}
 use Rattle.cob_runs.specs.Moves.{takes_number}
-use Rattle.cob_edge_parts.specs.Parts.{Amount, Part}
+use Rattle.cob_edge_parts.specs.Parts.{Amount, Part, store}
 use Rattle.cob_edge_parts.specs.Meaning.{Moment, with_storage, is_left_alone, stored_bytes, stored_or_kept, amount, Stores}
 use Rattle.diff_bounds.specs.declared.form.Lin.{Lin}
 use Rattle.diff_bounds.specs.Forms.{coef, dot}
@@ -29,12 +29,15 @@ use Rattle.transfer_ranges.specs.declared.amounts.AmountRange.TheVariants as ran
 use Rattle.transfer_ranges.specs.Receivers.{receiver_of, kept_units}
 use Rattle.transfer_ranges.specs.Amounts.{IsAmount}
 use Rattle.cell_laws.specs.Places.{IsStored}
-use Rattle.cell_steps.specs.Homes.{Home, of_item, is_home}
+use Rattle.cob_graph.specs.declared.homes.Home.{Home}
+use Rattle.cob_graph.specs.declared.homes.Home.TheVariants.{Item as of_item}
+use Rattle.cob_graph.specs.Homes.{is_home}
 use Rattle.cell_steps.specs.Storages as values
 use Rattle.cell_steps.specs.Storages.{storage}
 use Rattle.cell_steps.specs.Cells.{is_beside}
 use Rattle.cell_steps.specs.Seen.{Seen}
-use Rattle.cell_steps.specs.Stores.{handled, amount_at, result_at, may_fail, may_fit}
+use Rattle.cell_steps.specs.Stores.{handled, keeps_receiver, amount_at, result_at, may_fail, may_fit}
+use Rattle.cell_steps.specs.Agreeing.{FailsAt}
 use Rattle.cell_laws.proofs.StoreOutcomes.{result_meant, each_outcome}
 use Rattle.cell_laws.proofs.StoresKeep.{IsItemFilled, item_is_filled, then_is, TakenAt, amount_meant}
 use Rattle.diff_steps.specs.Packs.{Pack, size_of, cell_of, pack_decimals, unit_of, cells_in, PackStands}
@@ -224,8 +227,8 @@ module _ (p : Program) (statement : ℕ) (a : Act) (x : Action) (done : List Par
         by_fit true = lost_kept pack of few wrote w stands
         by_fit false = stands
 
-    fitted : (held : List ℕ) → m.by_zero ≡ false → stored_bytes p.layout m place mode y ≡ Some held → Behind (with_storage m (filled_at p.layout m.storage place held))
-    fitted held unzero e = by_flags (may_fail p a x t place mode y) (may_fit p a x t place mode y) refl
+    fitted : keeps_receiver a x ≡ false → (held : List ℕ) → m.by_zero ≡ false → stored_bytes p.layout m place mode y ≡ Some held → Behind (with_storage m (filled_at p.layout m.storage place held))
+    fitted off held unzero e = by_flags (may_fail p a x t place mode y) (may_fit p a x t place mode y) refl
       where
         is : Gets held
         is = gets held e
@@ -237,10 +240,10 @@ module _ (p : Program) (statement : ℕ) (a : Act) (x : Action) (done : List Par
         by_flags : (b c : Bool) → may_fit p a x t place mode y ≡ c → Outcome b c (with_storage m (filled_at p.layout m.storage place held))
         by_flags false c f = stored_stands pack of few wrote w stands held is unzero (there unzero is.v is.worth_) (shown unzero is.v is.worth_)
         by_flags true true f = lost_stored pack of few wrote w stands held is
-        by_flags true false f = absurd (never (λ i. (z : ℤ) × Holds i z × (held ≡ bytes_of (form_at p.layout place) z)) (result_at p a x t place mode y) (result_meant cell_laws p statement a x done place mode y t m g q held unzero e) f)
+        by_flags true false f = absurd (never (λ i. (z : ℤ) × Holds i z × (held ≡ bytes_of (form_at p.layout place) z)) (result_at p a x t place mode y) (result_meant cell_laws p statement a x done place mode y t m g q off held unzero e) f)
 
-    pub store_stands : (n : Moment) → (handled p a x ≡ false → m.by_zero ≡ false) → Stores p.layout (handled p a x) place mode y m n → Behind n
-    store_stands n off_zero h = each_outcome cell_laws p statement a x done place mode y t m g q Behind kept kept fitted n off_zero h
+    pub store_stands : (n : Moment) → (handled p a x ≡ false → m.by_zero ≡ false) → (keeps_receiver a x ≡ true → FailsAt p.layout (store place mode y) m) → Stores p.layout (handled p a x) place mode y m n → Behind n
+    store_stands n off_zero fails h = each_outcome cell_laws p statement a x done place mode y t m g q Behind kept kept fitted n off_zero fails h
 
   -- ---- storage behind the store
 

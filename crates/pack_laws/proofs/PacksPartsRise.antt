@@ -25,7 +25,8 @@ use Rattle.transfer_ranges.specs.declared.cuts.Cuts.{Cuts}
 use Rattle.transfer_ranges.specs.Sides.{is_wanted}
 use Rattle.transfer_ranges.specs.Guards.{lone_item, sides_cut}
 use Rattle.interval_domain.specs.Known.{Known}
-use Rattle.cell_steps.specs.Homes.{of_count, homes_of}
+use Rattle.cob_graph.specs.declared.homes.Home.TheVariants.{Count as of_count}
+use Rattle.cob_graph.specs.Homes.{homes_of}
 use Rattle.cell_steps.specs.Cells.{is_in_bytes}
 use Rattle.cell_steps.specs.Seen.{Seen}
 use Rattle.cell_steps.specs.Stores.{range_at, with_taken, result_at, may_fail, stored_cells, stored_element, behind_store}

@@ -12,7 +12,8 @@ use Rattle.diff_bounds.specs.Matrix.{word, IsMatrix}
 use Rattle.diff_bounds.specs.Values.{AreLower}
 use Rattle.interval_domain.specs.Known.{Known, KnownBelow}
 use Rattle.interval_domain.specs.Elements.{CellsBelow}
-use Rattle.cell_steps.specs.Homes.{Home, homes_of}
+use Rattle.cob_graph.specs.declared.homes.Home.{Home}
+use Rattle.cob_graph.specs.Homes.{homes_of}
 use Rattle.cell_steps.specs.Storages.{known_of}
 use Rattle.diff_steps.specs.Packs.{Pack, size_of, unit_of}
 use Rattle.diff_steps.specs.Matrices.{with_words, high_word, low_word, put_high, put_low, put_word, put_closed}

@@ -16,6 +16,7 @@ use Rattle.cell_steps.specs.Steps.{step}
 use Rattle.cell_steps.specs.Edges.{steps, finished}
 use Rattle.cell_steps.specs.Agreeing.{IsSoundEdge}
 use Rattle.cell_laws.proofs.EachEdge.{all_posts_stand}
+use Rattle.cell_laws.proofs.OneReceiver.{passes_walk}
 use Rattle.cell_laws.proofs.StoresKeep.{then_is}
 use Rattle.cell_laws.proofs.WalkLawsHold.{cell_laws}
 use Rattle.cell_laws.proofs.EdgesAreSound.{begins as cells_begin}
@@ -79,7 +80,8 @@ module _ (p : Program) (packs : List Pack) (statement : ℕ) (a : Act) (x : Acti
       begun None k = absurd k
       begun (Some cs) (are, stand) =
           ended cs (steps2 p packs a x (parts_of p statement a x) (beginning cells) (beginning2 cs)) refl
-          (parts_keep p packs statement a x of [] (parts_of p statement a x) (beginning cells) (beginning2 cs) (run.beginning bytes counts) last refl (begins cs are stand) h)
+          (parts_keep p packs statement a x of [] (parts_of p statement a x) (beginning cells) (beginning2 cs) (run.beginning bytes counts) last refl (begins cs are stand)
+          (passes_walk p statement a x (run.beginning bytes counts) last refl failed h))
 
       pub post_stands : (ms : List (List ℤ)) → AreMatrices packs ms → PacksStand p.layout packs ms (storage bytes counts)
           → PacksStand p.layout packs (or_bottoms packs (all_closed p cells packs ms >>= λ cs. finished2 p packs a x (steps2 p packs a x (parts_of p statement a x) (beginning cells) (beginning2 cs)))) (storage last.storage last.counts)

@@ -14,6 +14,7 @@ use Rattle.diff_bounds.specs.declared.form.Lin.{Lin}
 use Rattle.diff_bounds.specs.Results.{IsNarrower}
 use Rattle.diff_bounds.specs.Matrix.{word, none, IsMatrix}
 use Rattle.diff_bounds.specs.Values.{AreLower}
+use Rattle.interval_domain.specs.declared.bounds.Interval.{Interval}
 use Rattle.diff_bounds.specs.Errors.{IsSurer}
 use Rattle.sum_ranges.specs.declared.ranged.Ranged.{Ranged}
 use Rattle.sum_ranges.specs.Ranged as range
@@ -25,11 +26,13 @@ use Rattle.transfer_ranges.specs.declared.amounts.Taken.{Taken}
 use Rattle.transfer_ranges.specs.Amounts.{IsNarrowerTakenIfAny}
 use Rattle.transfer_ranges.specs.Receivers.{receiver_of}
 use Rattle.transfer_ranges.specs.ResultRanges as result
-use Rattle.cell_steps.specs.Homes.{Home, of_item, of_count, is_home, homes_of}
+use Rattle.cob_graph.specs.declared.homes.Home.{Home}
+use Rattle.cob_graph.specs.declared.homes.Home.TheVariants.{Item as of_item, Count as of_count}
+use Rattle.cob_graph.specs.Homes.{is_home, homes_of}
 use Rattle.cell_steps.specs.Cells.{is_beside}
 use Rattle.cell_steps.specs.Operands.{amount_of}
 use Rattle.cell_steps.specs.Seen.{Seen}
-use Rattle.cell_steps.specs.Stores.{range_at, amount_at, may_fail, may_fit}
+use Rattle.cell_steps.specs.Stores.{range_at, keeps_receiver, amount_at, may_fail, may_fit}
 use Rattle.cell_steps.specs.Order.{SeenBelow}
 use Rattle.cell_laws.proofs.ItemRanges.{range_below}
 use Rattle.cell_laws.proofs.OperandsRise.{or_rises, AmountBelow, AmountBelowIf, amount_below}
@@ -256,7 +259,11 @@ module _ (p : Program) (a : Act) (x : Action) (s t : Seen) (h : TakenBelow risin
         let flags = flags_rise rising p a x s t h place mode y in
         by_outcomes (may_fail p a x s place mode y) (may_fit p a x s place mode y) (may_fail p a x t place mode y) (may_fit p a x t place mode y)
         (stored_pack p a x s wrote place mode y pack m) (stored_pack p a x t wrote place mode y pack n) flags.0 flags.1 fits
-        (λ e. let some = is_there (amount_at p a x s place y) (result.result_range mode (receiver_of (form_at p.layout place))) (fits e) in stored_rises some.0 some.1) stored_below
+        (λ e. let some = is_there (amount_at p a x s place y) (result.result_range mode (receiver_of (form_at p.layout place))) (fits_by (keeps_receiver a x) (amount_at p a x s place y >>= result.result_range mode (receiver_of (form_at p.layout place))) (fits e)) in stored_rises some.0 some.1) stored_below
+      where
+        fits_by : (b : Bool) (o : Option Interval) → is_some (if b then None else o) ≡ true → is_some o ≡ true
+        fits_by true o e = absurd cc
+        fits_by false o e = e
 
 -- ---- counters
 module _ (p : Program) (a : Act) (x : Action) (statement : ℕ) (pack : Pack) where

@@ -23,7 +23,8 @@ use Rattle.sum_forms.specs.Constants.{constant_form}
 use Rattle.sum_forms.specs.SumForms.{turned_form}
 use Rattle.sum_forms.specs.Values.{IsNarrowerIfAny}
 use Rattle.sum_forms.proofs.Narrower.{sum_there, turns_narrower}
-use Rattle.cell_steps.specs.Homes.{Home, is_home}
+use Rattle.cob_graph.specs.declared.homes.Home.{Home}
+use Rattle.cob_graph.specs.Homes.{is_home}
 use Rattle.diff_steps.specs.Packs.{cell_of}
 use Rattle.diff_steps.specs.Matrices.{with_words, bottom, lesser, forgotten, assigned, demanded}
 use Rattle.diff_steps.specs.Stores.{assigned_or_forgotten, absolute_stored, value_stored, forgotten_cells}

@@ -8,7 +8,8 @@ use Rattle.cob_runs.specs.Contents.{number_at}
 use Rattle.cob_edge_parts.specs.Parts.{Part}
 use Rattle.cob_edge_parts.specs.Meaning.{Moment}
 use Rattle.diff_bounds.specs.Matrix.{IsMatrix}
-use Rattle.cell_steps.specs.Homes.{Home, homes_of}
+use Rattle.cob_graph.specs.declared.homes.Home.{Home}
+use Rattle.cob_graph.specs.Homes.{homes_of}
 use Rattle.cell_steps.specs.Storages.{storage}
 use Rattle.cell_steps.specs.Seen.{Seen}
 use Rattle.cell_steps.specs.Agreeing.{Agrees}

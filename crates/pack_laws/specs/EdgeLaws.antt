@@ -10,7 +10,7 @@ use Rattle.cob_edge_parts.specs.Edges.{fault_edge}
 use Rattle.cob_edge_parts.specs.Counters.{PassesParts, MeetsAmong}
 use Rattle.interval_domain.specs.Known.{Known}
 use Rattle.interval_domain.specs.Elements.{CellsFit, CellsBelow}
-use Rattle.cell_steps.specs.Homes.{owns}
+use Rattle.cell_steps.specs.OwnRanges.{owns}
 use Rattle.cell_steps.specs.Storages.{storage, StandsIn}
 use Rattle.cell_steps.specs.Agreeing.{IsSoundEdge}
 use Rattle.diff_steps.specs.Packs.{Pack, size_of, PacksStand}

@@ -17,7 +17,7 @@ use Rattle.graph_runs.specs.Doing.{graph_runs}
 use Rattle.interval_domain.specs.Known.{Known}
 use Rattle.interval_domain.specs.Elements.{Element}
 use Rattle.interval_domain.specs.Rows.{element_of, IsRow}
-use Rattle.cell_steps.specs.Homes.{owns}
+use Rattle.cell_steps.specs.OwnRanges.{owns}
 use Rattle.cell_steps.specs.Storages.{ElementStands}
 use Rattle.cell_laws.specs.Entry.{entry_cells}
 use Rattle.cell_laws.specs.Layer.{left}

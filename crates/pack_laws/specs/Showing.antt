@@ -19,7 +19,7 @@ use Rattle.cob_edge_parts.specs.Meaning.{Moment, amount}
 use Rattle.diff_bounds.specs.declared.form.Lin.{Lin}
 use Rattle.cob_edge_parts.specs.Counters.{IsCount}
 use Rattle.sum_forms.specs.SumForms.{atom_form}
-use Rattle.cell_steps.specs.Homes.{of_count}
+use Rattle.cob_graph.specs.declared.homes.Home.TheVariants.{Count as of_count}
 use Rattle.cell_steps.specs.Storages.{storage}
 use Rattle.cell_steps.specs.Seen.{Seen}
 use Rattle.cell_steps.specs.Stores.{range_at, with_taken}

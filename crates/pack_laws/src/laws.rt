@@ -18,7 +18,7 @@ ghost use Rattle.diff_bounds.specs.Errors.{stored_units, AreSure, IsSurer};
 ghost use Rattle.diff_bounds.specs.Scales.{Spans};
 ghost use Rattle.transfer_ranges.specs.Receivers.{kept_units};
 ghost use Rattle.interval_domain.specs.Known.{Known as KnownCell};
-ghost use Rattle.cell_steps.specs.Homes.{Home};
+ghost use Rattle.cob_graph.specs.declared.homes.Home.{Home};
 ghost use Rattle.cell_steps.specs.Storages.{value_at, known_of, KnownStands};
 ghost use Rattle.sum_ranges.specs.declared.ranged.Ranged.{Ranged};
 ghost use Rattle.sum_ranges.specs.Ranged.{IsIn};

@@ -16,12 +16,10 @@ use crate::words::{range_of, receiver_of};
 use case_words::{how_of, mode_of, sum_of};
 use cob_program::{How, Sum};
 use cob_typed_exprs::{Size, quotient_size};
-use dec_num::Mode;
+use dec_num::{Mode, SIZE_LIMIT};
 use std::alloc::{AllocError, Global};
 use sum_ranges::{Ranged, taken_sum, turned};
 use transfer_ranges::{AmountRange, Receiver, Taken, computed_range, result_range};
-
-const HUGE: u128 = 10_000_000_000_000_000_000_000_000_000_000_000_000;
 
 // ---- what the calls ask
 
@@ -32,7 +30,7 @@ fn size_of(range: Ranged) -> Option<Size>
     let low = range.units.low.unsigned_abs();
     let high = range.units.high.unsigned_abs();
     let most = low.max(high);
-    if range.units.low <= range.units.high && most < HUGE && range.scale <= 37 {
+    if range.units.low <= range.units.high && most < SIZE_LIMIT && range.scale <= 37 {
         Some(Size {
             most,
             scale: range.scale,

@@ -7,7 +7,6 @@ use cob_data::FileDecl;
 use cob_program::Program;
 use cob_runs::Outcome;
 use cob_step::{Run, begin, step};
-use cob_tree::Kind;
 use std::alloc::{AllocError, Global};
 use std::io::{self, Write};
 use std::{fs, str};
@@ -66,15 +65,6 @@ fn write_files(rt: &HostRuntime, files: &[FileDecl], run: &Run) -> io::Result<()
     Ok(())
 }
 
-fn kind_name(kind: Kind) -> &'static str {
-    match kind {
-        Kind::Size => "SIZE",
-        Kind::Truncation => "TRUNCATION",
-        Kind::Zero => "ZERO",
-        Kind::Class => "CLASS",
-    }
-}
-
 // Says why the run didn't come to its end, and gives the status.
 fn show_end(rt: &HostRuntime, outcome: Outcome, steps: u64) -> io::Result<u8> {
     match outcome {
@@ -92,7 +82,7 @@ fn show_end(rt: &HostRuntime, outcome: Outcome, steps: u64) -> io::Result<u8> {
             Ok(11)
         }
         Outcome::Fault { kind, statement } => {
-            let name = kind_name(kind);
+            let name = kind.text();
             println!(rt; "E18 {name} statement {statement} step {steps}")?;
             Ok(1)
         }

@@ -8,7 +8,8 @@ use Rattle.cob_data.specs.Layouts.{layout}
 use Rattle.cob_program.specs.Act.{Program}
 use Rattle.cob_graph.specs.Broken.{IsFirst, told, cycle_at, crossings, leavings, reversed_at, least_below}
 use Rattle.cob_graph.specs.Covering.{Covers}
-use Rattle.cob_graph.specs.Graphs.{IsMainCopy, HasNodes, cells_of, all_nodes, as_node, edges_of, final_of, most_told}
+use Rattle.cob_graph.specs.Graphs.{IsMainCopy, HasNodes, cells_of, all_nodes, as_node, edges_of, final_of}
+use Rattle.cob_graph.specs.Limits.{most_told, most_cells, most_nodes}
 use Rattle.cob_graph.specs.Laid.{LaidParas}
 use Rattle.cob_graph.specs.Nesting.{Call, IsNested, IsOutside, found_all}
 use Rattle.cob_graph.proofs.FirstLemmas.{first_is}
@@ -46,7 +47,7 @@ nested_or_outside p =
 -- ---- limits
 
 module _ (p : Program) (nested : IsNested p) (copies : LaidParas) (laid : IsMainCopy p copies) where
-  none : length (cells_of p) ≤ 512 → final_of copies ≤ 4096 → (cause : Refusal) → IsControlCause p cause → ⊥
+  none : length (cells_of p) ≤ most_cells → final_of copies ≤ most_nodes → (cause : Refusal) → IsControlCause p cause → ⊥
   none cells nodes (end.Outside rule line) is = nested.kept rule line is.broken
   none cells nodes (end.Limit which.Cells count) (kept, is) = omega (arith, cells, is.over, is.counted)
   none cells nodes (end.Limit which.Nodes count) (kept, is) =
@@ -64,14 +65,14 @@ module _ (p : Program) (nested : IsNested p) (copies : LaidParas) (laid : IsMain
   none cells nodes (end.Nesting count) is = is
   none cells nodes end.Memory is = is
 
-  within : length (cells_of p) ≤ 512 → final_of copies ≤ 4096 → HasGraph p
+  within : length (cells_of p) ≤ most_cells → final_of copies ≤ most_nodes → HasGraph p
   within cells nodes = record {
     graph = record { nodes = map as_node (all_nodes p copies); edges = edges_of 1 (all_nodes p copies); cells = cells_of p };
     is_graph = record { copies = copies; laid = laid; nodes = refl; edges = refl; cells = refl };
     within = none cells nodes;
   }
 
-  over_nodes : length (cells_of p) ≤ 512 → 4096 < final_of copies → (cause : Refusal) × IsControlCause p cause
+  over_nodes : length (cells_of p) ≤ most_cells → most_nodes < final_of copies → (cause : Refusal) × IsControlCause p cause
   over_nodes cells over = (
     end.Limit which.Nodes (min (final_of copies) most_told),
     (
@@ -89,8 +90,8 @@ module _ (p : Program) (nested : IsNested p) (copies : LaidParas) (laid : IsMain
   graph_or_limit : HasGraph p ⊎ ((cause : Refusal) × IsControlCause p cause)
   graph_or_limit = ⊎_elim
       (λ over. inr (end.Limit which.Cells (length (cells_of p)), (nested, record { counted = refl; over = over })))
-      (λ cells. ⊎_elim (λ over. inr (over_nodes cells over)) (λ nodes. inl (within cells nodes)) (cases_lt 4096 (final_of copies)))
-      (cases_lt 512 (length (cells_of p)))
+      (λ cells. ⊎_elim (λ over. inr (over_nodes cells over)) (λ nodes. inl (within cells nodes)) (cases_lt most_nodes (final_of copies)))
+      (cases_lt most_cells (length (cells_of p)))
 
 graph_or_cause : (p : Program) → HasTargets p → HasGraph p ⊎ ((cause : Refusal) × IsControlCause p cause)
 graph_or_cause p targets = ⊎_elim

@@ -9,13 +9,10 @@ ghost use Rattle.sum_ranges.specs.Sizes.{IsSmallRange};
 ghost use Rattle.sum_forms.specs.Constants.{floor_at, outward, constant_form, range_form, cell_form};
 ghost use Rattle.sum_forms.specs.Values.{IsForm};
 
-use dec_num::pow10;
+use dec_num::{LIMIT, pow10};
 use diff_bounds::Lin;
 use interval_domain::Interval;
 use sum_ranges::Ranged;
-
-// small numbers are below it
-const LIMIT: i128 = 10_000_000_000_000_000_000_000_000_000_000_000_000;
 
 // how many cells a pack has at most
 const CELLS: usize = 8;

@@ -149,13 +149,25 @@ no_divisor = record { stored = refl; failing = refl }
 one_left : Gives Trunc (receiver 1 0 false) (range.Remainder (cell (pos 7) (pos 7) 0) (cell (pos 2) (pos 2) 0) 0) (Some (interval (pos 1) (pos 1))) false
 one_left = record { stored = refl; failing = refl }
 
--- 0 to 9 by 2 or 3: -12 to 9 by the operations, and no more than a divisor
-less_than_divisor : Gives Trunc (receiver 1 0 true) (range.Remainder (cell (pos 0) (pos 9) 0) (cell (pos 2) (pos 3) 0) 0) (Some (interval (neg_ℤ (pos 3)) (pos 3))) false
+-- 0 to 9 by 2 or 3: -12 to 9 by the operations, and less than a divisor
+less_than_divisor : Gives Trunc (receiver 1 0 true) (range.Remainder (cell (pos 0) (pos 9) 0) (cell (pos 2) (pos 3) 0) 0) (Some (interval (neg_ℤ (pos 2)) (pos 2))) false
 less_than_divisor = record { stored = refl; failing = refl }
 
 -- by -5 to 2
-divisor_of_greatest_size : Gives Trunc (receiver 1 0 true) (range.Remainder (cell (pos 0) (pos 9) 0) (cell (neg_ℤ (pos 5)) (pos 2) 0) 0) (Some (interval (neg_ℤ (pos 5)) (pos 5))) false
+divisor_of_greatest_size : Gives Trunc (receiver 1 0 true) (range.Remainder (cell (pos 0) (pos 9) 0) (cell (neg_ℤ (pos 5)) (pos 2) 0) 0) (Some (interval (neg_ℤ (pos 4)) (pos 4))) false
 divisor_of_greatest_size = record { stored = refl; failing = refl }
+
+-- 0 to 9999 by 100: two digits hold what is left
+below_hundred : Gives Trunc (receiver 2 0 false) (range.Remainder (cell (pos 0) (pos 9999) 0) (cell (pos 100) (pos 100) 0) 0) (Some (interval (pos 0) (pos 99))) false
+below_hundred = record { stored = refl; failing = refl }
+
+-- 0.00 to 9.99 by 3: less than 3 in hundredths
+below_in_decimals : Gives Trunc (receiver 3 2 false) (range.Remainder (cell (pos 0) (pos 999) 2) (cell (pos 3) (pos 3) 0) 0) (Some (interval (pos 0) (pos 299))) false
+below_in_decimals = record { stored = refl; failing = refl }
+
+-- 0 to 9 by 4 with one decimal: less than 0.4
+below_a_decimal : Gives Trunc (receiver 1 1 true) (range.Remainder (cell (pos 0) (pos 9) 0) (cell (pos 4) (pos 4) 0) 1) (Some (interval (neg_ℤ (pos 3)) (pos 3))) false
+below_a_decimal = record { stored = refl; failing = refl }
 
 -- 1 by 3 with two decimals: 0.33, and 0.01 is left
 at_decimals : Gives Trunc (receiver 2 2 false) (range.Remainder (cell (pos 1) (pos 1) 0) (cell (pos 3) (pos 3) 0) 2) (Some (interval (pos 1) (pos 1))) false

@@ -1,5 +1,5 @@
 -- Narrower operands give narrower results.
-use Rattle.std.proofs.Common.{◌≡◌, ℕ, ◌+◌, ◌-◌, ◌^◌, ◌||◌, Bool, true, false, ℤ, pos, neg_ℤ, ◌*ℤ◌, ◌≤ℤ◌, Option, Some, None, inl, inr, refl, ap, subst, arith}
+use Rattle.std.proofs.Common.{◌≡◌, ℕ, ◌+◌, ◌-◌, ◌^◌, ◌||◌, Bool, true, false, ℤ, pos, neg_ℤ, ◌*ℤ◌, ◌-ℤ◌, ◌≤ℤ◌, Option, Some, None, inl, inr, refl, ap, subst, arith}
 use Rattle.std.specs.Prelude.{int_lt, is_some}
 use Rattle.std.specs.Option.{option_map, option_map_or}
 use Rattle.std.proofs.lemmas.Bool.{or_cases}
@@ -113,16 +113,16 @@ mapped_narrower R None p j k e l h = tt
 mapped_narrower R (Some a) None j k e l h = absurd h
 mapped_narrower R (Some a) (Some b) j k e l h = record { ordered = (l.holds a.low l.low_is_one).1; low = h.0; high = h.1; scale = e }
 
-limit_wider : (size wide z : ℤ) (j k : ℕ) → size ≤ℤ wide → j ≡ k → Holds (plus_minus (size *ℤ pos (10 ^ j))) z → Holds (plus_minus (wide *ℤ pos (10 ^ k))) z
+limit_wider : (size wide z : ℤ) (j k : ℕ) → size ≤ℤ wide → j ≡ k → Holds (plus_minus ((size *ℤ pos (10 ^ j)) -ℤ pos 1)) z → Holds (plus_minus ((wide *ℤ pos (10 ^ k)) -ℤ pos 1)) z
 limit_wider size wide z j k h e held =
     let grows = times_grows size wide (10 ^ j) h in
-    subst (λ i. Holds (plus_minus (wide *ℤ pos (10 ^ i))) z) e (omega (arith, ints, grows, held.0), omega (arith, ints, grows, held.1))
+    subst (λ i. Holds (plus_minus ((wide *ℤ pos (10 ^ i)) -ℤ pos 1)) z) e (omega (arith, ints, grows, held.0), omega (arith, ints, grows, held.1))
 
 limited_below : (size wide : ℤ) (j k : ℕ) (r s : Ranged) → size ≤ℤ wide → j ≡ k → IsNarrower r s → IsBelow (limited size j r) (limited wide k s)
 limited_below size wide j k r s h e n =
     let shift : r.scale - j ≡ s.scale - k = rw (n.scale, e) refl in
-    let narrow = plus_minus (size *ℤ pos (10 ^ (r.scale - j))) in
-    let broad = plus_minus (wide *ℤ pos (10 ^ (s.scale - k))) in
+    let narrow = plus_minus ((size *ℤ pos (10 ^ (r.scale - j))) -ℤ pos 1) in
+    let broad = plus_minus ((wide *ℤ pos (10 ^ (s.scale - k))) -ℤ pos 1) in
     mapped_narrower (IsInBoth r.units narrow) (if_any (meeting r.units narrow)) (if_any (meeting s.units broad)) r.scale s.scale n.scale
     (both_least r.units narrow)
     (inside_of_least (IsInBoth r.units narrow) (IsInBoth s.units broad) (if_any (meeting r.units narrow)) (if_any (meeting s.units broad))

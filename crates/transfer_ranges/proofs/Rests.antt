@@ -1,5 +1,5 @@
 -- A remainder lies in its range.
-use Rattle.std.proofs.Common.{◌≡◌, ℕ, ◌+◌, ◌-◌, ◌*◌, ◌^◌, ◌<◌, true, false, max, ℤ, pos, ◌*ℤ◌, ◌≤ℤ◌, Option, Some, None, refl, ap, subst, arith}
+use Rattle.std.proofs.Common.{◌≡◌, ℕ, ◌+◌, ◌-◌, ◌*◌, ◌^◌, ◌<◌, true, false, max, ℤ, pos, ◌*ℤ◌, ◌-ℤ◌, ◌≤ℤ◌, Option, Some, None, refl, ap, subst, arith}
 use Rattle.std.specs.Prelude.{unsigned_abs, IsSomeAnd}
 use Rattle.std.specs.Option.{option_map}
 use Rattle.std.proofs.lemmas.Int.{ints, clamps}
@@ -63,9 +63,9 @@ limit_times size n k h = absurd (omega (arith, ints, h))
 within_limit : (limit z : ℤ) → pos (unsigned_abs z) ≤ℤ limit → Holds (plus_minus limit) z
 within_limit limit z h = (omega (arith, ints, h), omega (arith, ints, h))
 
-pub limited_in : (size : ℤ) (scale : ℕ) (r : Ranged) (x : Scaled) → IsIn x r → pos (unsigned_abs x.units) ≤ℤ (size *ℤ pos (10 ^ (r.scale - scale))) → IsSomeAnd (limited size scale r) (IsIn x)
+pub limited_in : (size : ℤ) (scale : ℕ) (r : Ranged) (x : Scaled) → IsIn x r → pos (unsigned_abs x.units) ≤ℤ ((size *ℤ pos (10 ^ (r.scale - scale))) -ℤ pos 1) → IsSomeAnd (limited size scale r) (IsIn x)
 limited_in size scale r x h k =
-    let limit = size *ℤ pos (10 ^ (r.scale - scale)) in
+    let limit = (size *ℤ pos (10 ^ (r.scale - scale))) -ℤ pos 1 in
     mapped_held (if_any (meeting r.units (plus_minus limit))) (λ i. Holds i x.units) (IsIn x) (λ i. ranged i r.scale)
     (held_of_least (IsInBoth r.units (plus_minus limit)) (if_any (meeting r.units (plus_minus limit))) x.units (both_least r.units (plus_minus limit)) (h.held, within_limit limit x.units k))
     (λ i l. record { held = l; scale = h.scale })
@@ -91,7 +91,7 @@ left_in scale n d top under q i h k l =
     (product_in d (cut_quotient scale q) under (ranged i scale) k (record { held = l; scale = refl })))
 
 left_small : (scale : ℕ) (n d : Scaled) (top under : Ranged) (q : Fraction) → IsIn n top → IsIn d under → exact_quotient n d ≡ Some q →
-    pos (unsigned_abs (left n d (cut_quotient scale q)).units) ≤ℤ (greatest_size under.units *ℤ pos (10 ^ (max top.scale (under.scale + scale) - (under.scale + scale))))
+    pos (unsigned_abs (left n d (cut_quotient scale q)).units) ≤ℤ ((greatest_size under.units *ℤ pos (10 ^ (max top.scale (under.scale + scale) - (under.scale + scale)))) -ℤ pos 1)
 left_small scale n d top under q h k e =
     let parts = exact_parts n d q e in
     let bounded = rest_bounded scale n d (near Trunc q (pos scale)) parts.0 (ap (λ w. near Trunc w (pos scale)) parts.1) in

@@ -1,7 +1,7 @@
 -- Remainders and amounts in code.
-use Rattle.std.proofs.Common.{◌≡◌, ℕ, ◌+◌, ◌-◌, ◌^◌, ◌≤◌, true, ℤ, pos, negsuc, neg_ℤ, ◌*ℤ◌, ◌≤ℤ◌, Option, Some, None, sym, ap, subst, ◌∙◌, arith}
+use Rattle.std.proofs.Common.{◌≡◌, ℕ, ◌+◌, ◌-◌, ◌^◌, ◌≤◌, true, ℤ, pos, negsuc, neg_ℤ, ◌*ℤ◌, ◌-ℤ◌, ◌≤ℤ◌, Option, Some, None, sym, ap, subst, ◌∙◌, to_z, of_z, arith}
 use Rattle.std.specs.Prelude.{IfSome}
-use Rattle.std.specs.Int.{int_max, int_min}
+use Rattle.std.specs.Int.{w128, int_max, int_min}
 use Rattle.std.specs.Option.{option_map}
 use Rattle.std.proofs.lemmas.Int.{ints, clamps}
 use Rattle.std.proofs.Math.Nat.{le_refl}
@@ -65,29 +65,42 @@ product_positive : (size : ℤ) (k : ℕ) → pos 0 ≤ℤ size → pos 0 ≤ℤ
 product_positive (pos n) k h = omega (arith, ints)
 product_positive (negsuc n) k h = absurd (omega (arith, ints, h))
 
-pub limit_room : (limit size : ℤ) (shift : ℕ) → pos 0 ≤ℤ size → limit ≡ int_min (size *ℤ pos (10 ^ shift)) (pos (10 ^ 37)) → (pos 0 ≤ℤ limit) × (limit ≤ℤ pos (10 ^ 37))
+limit_room : (limit size : ℤ) (shift : ℕ) → pos 0 ≤ℤ size → limit ≡ int_min (size *ℤ pos (10 ^ shift)) (pos (10 ^ 37)) → (pos 0 ≤ℤ limit) × (limit ≤ℤ pos (10 ^ 37))
 limit_room limit size shift h e = between limit (size *ℤ pos (10 ^ shift)) (product_positive size (10 ^ shift) h) e
   where
     between : (x p : ℤ) → pos 0 ≤ℤ p → x ≡ int_min p (pos (10 ^ 37)) → (pos 0 ≤ℤ x) × (x ≤ℤ pos (10 ^ 37))
     between x p h e = (omega (arith, ints, clamps, h, e), omega (arith, ints, clamps, h, e))
 
--- A limit of 37 digits or more is none for a small range.
-end_above : (low limit : ℤ) → IsSmall low → int_max low (neg_ℤ limit) ≡ int_max low (neg_ℤ (int_min limit (pos (10 ^ 37))))
+-- One below a limit of more than 37 digits is none for a small range.
+end_above : (low limit : ℤ) → IsSmall low → int_max low (neg_ℤ (limit -ℤ pos 1)) ≡ int_max low (neg_ℤ (int_min limit (pos (10 ^ 37)) -ℤ pos 1))
 end_above low limit h = omega (arith, ints, clamps, h)
 
-end_below : (high limit : ℤ) → IsSmall high → int_min high limit ≡ int_min high (int_min limit (pos (10 ^ 37)))
+end_below : (high limit : ℤ) → IsSmall high → int_min high (limit -ℤ pos 1) ≡ int_min high (int_min limit (pos (10 ^ 37)) -ℤ pos 1)
 end_below high limit h = omega (arith, ints, clamps, h)
 
-pub same_meeting : (a : Interval) (limit : ℤ) → IsInterval a → meeting a (plus_minus limit) ≡ meeting a (plus_minus (int_min limit (pos (10 ^ 37))))
+same_meeting : (a : Interval) (limit : ℤ) → IsInterval a → meeting a (plus_minus (limit -ℤ pos 1)) ≡ meeting a (plus_minus (int_min limit (pos (10 ^ 37)) -ℤ pos 1))
 same_meeting a limit h =
-    interval_same (meeting a (plus_minus limit)) (meeting a (plus_minus (int_min limit (pos (10 ^ 37))))) (end_above a.low limit h.low) (end_below a.high limit h.high)
+    interval_same (meeting a (plus_minus (limit -ℤ pos 1))) (meeting a (plus_minus (int_min limit (pos (10 ^ 37)) -ℤ pos 1))) (end_above a.low limit h.low) (end_below a.high limit h.high)
 
 abbrev met : Interval → ℤ → Option Interval
 met a limit = if_any (meeting a (plus_minus limit))
 
-pub some_limited : (size limit : ℤ) (scale : ℕ) (r : Ranged) (i : Interval) → IsSmallRange r → Some i ≡ met r.units limit → limit ≡ int_min (size *ℤ pos (10 ^ (r.scale - scale))) (pos (10 ^ 37)) → Some (ranged i r.scale) ≡ limited size scale r
-some_limited size limit scale r i small f e =
-    ap (option_map (λ j. ranged j r.scale)) (f ∙ ap (met r.units) e ∙ ap if_any (sym (same_meeting r.units (size *ℤ pos (10 ^ (r.scale - scale))) small.units)))
+-- one below a limit, as machine words have it
+abbrev pub one_below : ℤ → ℤ
+one_below limit = to_z w128 (of_z w128 (to_z w128 (of_z w128 limit) -ℤ pos 1))
+
+one_less : (limit : ℤ) → pos 0 ≤ℤ limit → limit ≤ℤ pos (10 ^ 37) → one_below limit ≡ limit -ℤ pos 1
+one_less limit low high =
+    let back : to_z w128 (of_z w128 limit) ≡ limit = omega (arith, ints, low, high) in
+    let same : to_z w128 (of_z w128 (limit -ℤ pos 1)) ≡ limit -ℤ pos 1 = omega (arith, ints, low, high) in
+    ap (λ z. to_z w128 (of_z w128 (z -ℤ pos 1))) back ∙ same
+
+pub limited_by : (size limit : ℤ) (scale : ℕ) (r : Ranged) (o : Option Interval) → pos 0 ≤ℤ size → IsSmallRange r → limit ≡ int_min (size *ℤ pos (10 ^ (r.scale - scale))) (pos (10 ^ 37)) → o ≡ met r.units (one_below limit)
+    → option_map (λ j. ranged j r.scale) o ≡ limited size scale r
+limited_by size limit scale r o positive small e f =
+    let room = limit_room limit size (r.scale - scale) positive e in
+    ap (option_map (λ j. ranged j r.scale))
+    (f ∙ ap (met r.units) (one_less limit room.0 room.1 ∙ ap (λ z. z -ℤ pos 1) e) ∙ ap if_any (sym (same_meeting r.units (size *ℤ pos (10 ^ (r.scale - scale))) small.units)))
 
 pub inside_small : (i a : Interval) → IsInterval a → i.low ≤ℤ i.high → IsInside i a → IsInterval i
 inside_small i a h ordered k = record {

@@ -57,13 +57,13 @@ quotients mode up n d = corner.either_of (over_positive mode up n d) (over_posit
 abbrev pub quotient_units : Mode → ℕ → Ranged → Ranged → Option Interval
 quotient_units mode scale n d = quotients mode (pos (scale + d.scale) -ℤ pos n.scale) n.units d.units
 
--- the numbers of r that lie within plus and minus so many units of a scale that isn't above its own
+-- the numbers of r that lie below so many units of a scale that isn't above its own, and above as many negated
 abbrev pub limited : ℤ → ℕ → Ranged → Option Ranged
 limited size scale r =
-    option_map (λ i. ranged i r.scale) (if_any (meeting r.units (plus_minus (size *ℤ pos (10 ^ (r.scale - scale))))))
+    option_map (λ i. ranged i r.scale) (if_any (meeting r.units (plus_minus ((size *ℤ pos (10 ^ (r.scale - scale))) -ℤ pos 1))))
 
--- What is divided less divisor times cut quotient. It lies within plus and minus the divisor of greatest size, times one
--- unit of the quotient's scale.
+-- What is divided less divisor times cut quotient. Its size stays below that of the greatest divisor, times one unit of the
+-- quotient's scale: it is at least one unit of the remainder's own scale less.
 abbrev pub rest_range : ℕ → Ranged → Ranged → Option Ranged
 rest_range scale n d =
     quotient_units Trunc scale n d >>= λ q.

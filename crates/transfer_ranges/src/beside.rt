@@ -6,12 +6,12 @@ ghost use Rattle.sum_ranges.specs.SumRanges.{raised};
 ghost use Rattle.transfer_ranges.specs.Kept.{met, IsLeastIfAny};
 ghost use Rattle.transfer_ranges.specs.Beside.{IsBeside, CanRelate, is_below, is_equal, is_above, allows, if_any, common, under, over};
 
-use dec_num::pow10;
+use dec_num::{LIMIT, pow10};
 use interval_domain::Interval;
 use sum_ranges::{Ranged, raised};
 
 // No number that is compared reaches 10^37.
-const MOST: i128 = 10_000_000_000_000_000_000_000_000_000_000_000_000;
+const MOST: i128 = LIMIT;
 
 /// The orders of two numbers that are asked for.
 #[derive(Clone, Copy)]

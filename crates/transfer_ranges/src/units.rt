@@ -85,7 +85,7 @@ fn limit_of(size: i128, shift: u32) -> i128
     }
 }
 
-// the numbers of a range within plus and minus so many units of a scale
+// the numbers of a range below so many units of a scale, and above as many negated
 fn limited(size: i128, scale: u32, r: Ranged) -> Option<Ranged>
     requires size { pos 0 ≤ℤ size }
     requires scale { scale ≤ r.scale }
@@ -94,7 +94,7 @@ fn limited(size: i128, scale: u32, r: Ranged) -> Option<Ranged>
     ensures small { IfSome result IsSmallRange }
 {
     let limit = limit_of(size, r.scale - scale);
-    match within(r.units, limit) {
+    match within(r.units, limit - 1) {
         None => None,
         Some(units) => Some(Ranged {
             units,

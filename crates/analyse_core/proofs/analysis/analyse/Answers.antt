@@ -11,13 +11,14 @@ use Rattle.analyse_core.specs.Found.{IsFound}
 use Rattle.analyse_core.proofs.CellSizes.{cells_are}
 use Rattle.analyse_core.proofs.Finding.{is_accepted, is_allowed, has_packs, misses_nothing, misses_nothing_together}
 use Rattle.analyse_core.proofs.analysis.analyse.Goals as goal
+use Rattle.cob_graph.specs.Limits.{most_cells}
 
 pub returns-clause-allowed : goal.returns-clause-allowed
 returns-clause-allowed g c =
     let p = plain_program c.args.program.now in
     let graph = c.args.graph.now in
     let source = c.requires.source in
-    let few = subst (λ cs. length cs ≤ 512) (cells_are p graph source) c.requires.limits.cells in
+    let few = subst (λ cs. length cs ≤ most_cells) (cells_are p graph source) c.requires.limits.cells in
     IfOk-weaker c.find.result (λ cert. IsFound p graph (view cert)) (λ cert. IsAllowed (view cert))
     (λ cert found. is_allowed p graph (view cert) source found few c.requires.limits.nodes) c.find.ensures.found
 
@@ -33,7 +34,7 @@ returns-clause-accepted g c =
     let p = plain_program c.args.program.now in
     let graph = c.args.graph.now in
     let source = c.requires.source in
-    let few = subst (λ cs. length cs ≤ 512) (cells_are p graph source) c.requires.limits.cells in
+    let few = subst (λ cs. length cs ≤ most_cells) (cells_are p graph source) c.requires.limits.cells in
     IfOk-weaker c.find.result (λ cert. IsFound p graph (view cert)) (λ cert. Accepts p graph (view cert) (open_pairs p graph (view cert)))
     (λ cert found.
     is_accepted p graph (view cert) source found (is_allowed p graph (view cert) source found few c.requires.limits.nodes))

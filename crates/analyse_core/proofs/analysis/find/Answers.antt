@@ -1,16 +1,17 @@
-use Rattle.std.proofs.Common.{◌≤◌, List, map, ℤ, ◌∙◌, ap, sym, subst, length}
+use Rattle.std.proofs.Common.{◌≤◌, ◌+◌, List, map, ℤ, ◌∙◌, ap, sym, subst, length}
 use Rattle.std.specs.List.{AllByRecursion}
 use Rattle.std.proofs.lemmas.List.{length-map}
 use Rattle.cob_program.specs.ActView.{plain_program}
 use Rattle.cob_graph.specs.Graphs.{cells_of}
 use Rattle.interval_domain.specs.Elements.{AreThresholds}
 use Rattle.interval_domain.specs.Rows.{lists_of}
-use Rattle.cell_steps.specs.Homes.{owns}
+use Rattle.cell_steps.specs.OwnRanges.{owns}
 use Rattle.analyse_core.specs.Choice.{numbers_of}
 use Rattle.analyse_core.specs.PackThresholds.{HasFewCells, HasFewDecimals, thresholds_of_pack}
 use Rattle.analyse_core.specs.Literals.{program_literals}
 use Rattle.analyse_core.specs.Thresholds.{thresholds_of}
 use Rattle.analyse_core.specs.Packs.{ArePacksGiven}
+use Rattle.analyse_core.specs.Assignments.{most_steps}
 use Rattle.analyse_core.proofs.CellLists.{each_short, lists_short}
 use Rattle.analyse_core.proofs.Owned.{thresholds_are}
 use Rattle.analyse_core.proofs.PacksGiven.{cell_lists_are_small, cells_have_few_decimals, few_cells, packs_given}
@@ -57,3 +58,10 @@ found-requires-clause-packs g c =
     (subst (ArePacksGiven p c.in_ok-packs.packs.items) (sym c.as_slice-4.ensures.value)
     (packs_given p graph c.requires.source c.in_ok-packs.packs.items (lists_of cell_lists) c.in_ok-lists.lists.items given.value given.few given.fit
     (ap lists_of c.as_slice.ensures.value ∙ c.in_ok-cell_lists.ensures.value) (lists.value ∙ same_pack_lists (lists_of cell_lists) _ _ _ _ c.get.ensures c.as_slice-2.ensures.value) lists.short lists.ends))
+
+pub returns-clause-at_most : goal.returns-clause-at_most
+returns-clause-at_most g c =
+    let is = c.in_ok-layer.ensures in
+    subst (λ p. c.found.new.steps ≤ c.args.steps.now + most_steps (plain_program p) c.args.graph.now) is.program
+    (subst (λ h. c.found.new.steps ≤ c.args.steps.now + most_steps (plain_program c.in_ok-layer.layer.program.now) h) is.graph
+    c.found.ensures.at_most)

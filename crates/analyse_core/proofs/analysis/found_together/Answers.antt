@@ -15,6 +15,7 @@ use Rattle.analyse_core.proofs.PacksGiven.{given_few, given_small}
 use Rattle.analyse_core.proofs.SameCertificates.{same_certificate}
 use Rattle.analyse_core.proofs.SolvedRows.{width_found}
 use Rattle.analyse_core.proofs.analysis.found_together.Goals as goal
+use Rattle.cob_graph.specs.Limits.{most_cells}
 
 pub solve_cells-requires-clause-cells : goal.solve_cells-requires-clause-cells
 solve_cells-requires-clause-cells g c =
@@ -39,7 +40,7 @@ certificate_of-requires-clause-few g c =
 pub certificate_of-requires-clause-small : goal.certificate_of-requires-clause-small
 certificate_of-requires-clause-small g c =
     let p = plain_program c.args.layer.now.program.now in
-    let few = subst (λ cs. length cs ≤ 512) (cells_are p c.args.layer.now.graph.now c.requires.source) c.requires.limits.cells in
+    let few = subst (λ cs. length cs ≤ most_cells) (cells_are p c.args.layer.now.graph.now c.requires.source) c.requires.limits.cells in
     given_small p c.args.packs.items c.args.lists.now c.requires.packs few
 
 pub certificate_of-requires-clause-rows : goal.certificate_of-requires-clause-rows

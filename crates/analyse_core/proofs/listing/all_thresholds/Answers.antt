@@ -1,6 +1,6 @@
 use Rattle.std.proofs.Common.{◌≡◌, length, ap, ◌∙◌, arith}
 use Rattle.std.proofs.lemmas.List.{length-map}
-use Rattle.cell_steps.specs.Homes.{own_range}
+use Rattle.cell_steps.specs.OwnRanges.{own_range}
 use Rattle.analyse_core.proofs.listing.all_thresholds.Goals as goal
 
 pub bounds-owns-k : goal.bounds-owns-k

@@ -1,6 +1,7 @@
 use Rattle.std.proofs.Common.{◌≤◌, length, ap, subst, arith}
 use Rattle.cob_program.specs.ActView.{plain_program}
 use Rattle.cob_graph.specs.Graphs.{cells_of}
+use Rattle.cob_graph.specs.Limits.{most_cells}
 use Rattle.analyse_core.proofs.CellSizes.{cells_are}
 use Rattle.analyse_core.proofs.PacksGiven.{given_ends, given_few, given_listed, given_rise}
 use Rattle.analyse_core.proofs.solving.solve_packs.Goals as goal
@@ -27,5 +28,9 @@ new-requires-clause-facts g c = λ node first last.
 pub solve_bounds-requires-clause-cells : goal.solve_bounds-requires-clause-cells
 solve_bounds-requires-clause-cells g c =
     let same = ap (λ q. length (cells_of (plain_program q))) c.in_ok-layer.ensures.program in
-    let few = subst (λ cs. length cs ≤ 512) (cells_are (plain_program c.args.program.now) c.args.graph.now c.requires.source) c.requires.limits.cells in
+    let few = subst (λ cs. length cs ≤ most_cells) (cells_are (plain_program c.args.program.now) c.args.graph.now c.requires.source) c.requires.limits.cells in
     omega (arith, same, few)
+
+pub solve_bounds-requires-clause-packs : goal.solve_bounds-requires-clause-packs
+solve_bounds-requires-clause-packs g c =
+    let is = c.in_ok-layer.ensures in rw (is.program, is.packs, is.thresholds) c.requires.packs

@@ -3,7 +3,7 @@ use Rattle.std.specs.Option.{option_map}
 use Rattle.cob_program.specs.ActView.{plain_program}
 use Rattle.transfer_ranges.specs.ResultRanges.{lowered, count_range}
 use Rattle.interval_domain.specs.Rows.{cells_of}
-use Rattle.cell_steps.specs.Homes.{of_count}
+use Rattle.cob_graph.specs.declared.homes.Home.TheVariants.{Count as of_count}
 use Rattle.cell_steps.specs.Steps.{known_as}
 use Rattle.cell_layer.proofs.CounterRanges.{count_is_small}
 use Rattle.cell_layer.proofs.counters.count_down.Goals as goal

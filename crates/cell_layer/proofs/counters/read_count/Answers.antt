@@ -1,7 +1,8 @@
 use Rattle.std.proofs.Common.{Some, ap, ◌∙◌}
 use Rattle.cob_program.specs.ActView.{plain_program}
 use Rattle.interval_domain.specs.Rows.{cells_of}
-use Rattle.cell_steps.specs.Homes.{of_count, homes_of}
+use Rattle.cob_graph.specs.declared.homes.Home.TheVariants.{Count as of_count}
+use Rattle.cob_graph.specs.Homes.{homes_of}
 use Rattle.cell_steps.specs.Cells.{with_known}
 use Rattle.cell_layer.proofs.CounterRanges.{count_is_ordered}
 use Rattle.cell_layer.proofs.counters.read_count.Goals as goal

@@ -2,7 +2,7 @@ use Rattle.std.proofs.Common.{◌≡◌, ◌≤◌, ◌<◌, ◌+◌, suc, drop,
 use Rattle.cob_program.specs.ActView.{plain_stmt, plain_program}
 use Rattle.edge_amounts.specs.PartView.{edge_parts}
 use Rattle.interval_domain.specs.Rows.{cells_of, row_from, width_of}
-use Rattle.cell_steps.specs.Homes.{owns}
+use Rattle.cell_steps.specs.OwnRanges.{owns}
 use Rattle.cell_steps.specs.Edges.{finished}
 use Rattle.cell_layer.specs.NumberedStatements.{act_in}
 use Rattle.cell_layer.specs.Walks.{steps_small}

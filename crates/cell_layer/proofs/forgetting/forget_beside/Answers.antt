@@ -1,7 +1,7 @@
 use Rattle.std.proofs.Common.{sym, ap, ◌∙◌}
 use Rattle.std.specs.Option.{option_copied}
 use Rattle.cob_program.specs.ActView.{plain_program}
-use Rattle.cell_steps.specs.Homes.{homes_of}
+use Rattle.cob_graph.specs.Homes.{homes_of}
 use Rattle.interval_domain.specs.Rows.{cells_of}
 use Rattle.cell_layer.proofs.Forgotten.{nothing_beside}
 use Rattle.cell_layer.proofs.forgetting.forget_beside.Goals as goal

@@ -1,6 +1,6 @@
 use Rattle.std.proofs.Common.{Some}
 use Rattle.cob_program.specs.ActView.{plain_program}
-use Rattle.cell_steps.specs.Homes.{of_count}
+use Rattle.cob_graph.specs.declared.homes.Home.TheVariants.{Count as of_count}
 use Rattle.interval_domain.specs.Rows.{cells_of}
 use Rattle.cell_layer.proofs.CellNumbers.{number_fits, set_by_number, set_row}
 use Rattle.cell_layer.proofs.knowing.know_count.Goals as goal

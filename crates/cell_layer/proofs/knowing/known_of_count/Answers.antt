@@ -1,5 +1,5 @@
 use Rattle.cob_program.specs.ActView.{plain_program}
-use Rattle.cell_steps.specs.Homes.{of_count}
+use Rattle.cob_graph.specs.declared.homes.Home.TheVariants.{Count as of_count}
 use Rattle.interval_domain.specs.Rows.{cells_of}
 use Rattle.cell_layer.proofs.CellNumbers.{number_fits, known_by_number}
 use Rattle.cell_layer.proofs.knowing.known_of_count.Goals as goal

@@ -1,5 +1,5 @@
 use Rattle.cob_program.specs.ActView.{plain_program}
-use Rattle.cell_steps.specs.Homes.{of_item}
+use Rattle.cob_graph.specs.declared.homes.Home.TheVariants.{Item as of_item}
 use Rattle.interval_domain.specs.Rows.{cells_of}
 use Rattle.cell_layer.proofs.CellNumbers.{number_fits, set_by_number, set_row}
 use Rattle.cell_layer.proofs.knowing.set_item.Goals as goal

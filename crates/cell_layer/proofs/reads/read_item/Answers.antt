@@ -2,7 +2,8 @@ use Rattle.std.proofs.Common.{Some, sym, ap, ◌∙◌}
 use Rattle.cob_program.specs.ActView.{plain_program}
 use Rattle.sum_ranges.specs.declared.ranged.Ranged.{Ranged}
 use Rattle.interval_domain.specs.Rows.{cells_of}
-use Rattle.cell_steps.specs.Homes.{of_item, homes_of}
+use Rattle.cob_graph.specs.declared.homes.Home.TheVariants.{Item as of_item}
+use Rattle.cob_graph.specs.Homes.{homes_of}
 use Rattle.cell_steps.specs.Cells.{with_known}
 use Rattle.cell_layer.proofs.Reading.{great_is_not_read, item_is_ordered}
 use Rattle.cell_layer.proofs.reads.read_item.Goals as goal

@@ -2,7 +2,8 @@ use Rattle.std.proofs.Common.{Some, sym, ap, ◌∙◌}
 use Rattle.cob_program.specs.ActView.{plain_program}
 use Rattle.interval_domain.specs.Known.{Known}
 use Rattle.interval_domain.specs.Rows.{cells_of}
-use Rattle.cell_steps.specs.Homes.{of_item, homes_of}
+use Rattle.cob_graph.specs.declared.homes.Home.TheVariants.{Item as of_item}
+use Rattle.cob_graph.specs.Homes.{homes_of}
 use Rattle.cell_steps.specs.Cells.{with_known, forgotten, is_beside}
 use Rattle.cell_layer.proofs.Storing.{put_is}
 use Rattle.cell_layer.proofs.stores.put_units.Goals as goal

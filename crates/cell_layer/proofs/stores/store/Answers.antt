@@ -27,8 +27,8 @@ may_keep_own-keeps-requires c =
     let x = c.args in
     can_settle (plain_program x.program.now) (plain_act x.act.now) x.action (seen x.row.now x.kept.now) c.requires.can c.requires.written x.place (plain_amount x.amount) c.requires.small
 
-pub put-requires-clause-ordered : goal.put-requires-clause-ordered
-put-requires-clause-ordered c =
+pub units_on-units-requires : goal.units_on-units-requires
+units_on-units-requires c =
     let x = c.args in
     let p = plain_program x.program.now in
     subst (λ (o : Option Interval). IsOrdered o) (sym c.stored_at-value.ensures.units)

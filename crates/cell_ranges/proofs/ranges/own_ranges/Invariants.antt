@@ -1,7 +1,7 @@
 use Rattle.std.proofs.Common.{◌≡◌, map}
 use Rattle.std.specs.Prelude.{take}
 use Rattle.std.specs.List.{All}
-use Rattle.cell_steps.specs.Homes.{own_range}
+use Rattle.cell_steps.specs.OwnRanges.{own_range}
 use Rattle.cert_text.specs.Gaps.{IsSmall}
 use Rattle.cell_ranges.proofs.ranges.own_ranges.Given as goal
 

@@ -3,7 +3,7 @@ use Rattle.std.specs.Prelude.{is_some}
 use Rattle.cob_program.specs.ActView.{plain_program}
 use Rattle.cert_text.specs.View.{view}
 use Rattle.interval_domain.specs.Rows.{cells_lattice, lists_of}
-use Rattle.cell_steps.specs.Homes.{owns}
+use Rattle.cell_steps.specs.OwnRanges.{owns}
 use Rattle.cell_laws.specs.Layer.{cell_flow}
 use Rattle.cert_check.proofs.Answering.{have_elements}
 use Rattle.cert_check.proofs.Asking.{inductive_there}

@@ -2,11 +2,12 @@ use Rattle.std.proofs.Common.{◌≡◌, ◌≤◌, map, length, ap, sym, ◌∙
 use Rattle.std.specs.List.{All}
 use Rattle.std.proofs.lemmas.List.{length-map}
 use Rattle.cob_program.specs.ActView.{plain_program}
-use Rattle.cell_steps.specs.Homes.{own_range}
+use Rattle.cell_steps.specs.OwnRanges.{own_range}
 use Rattle.cert_text.specs.Gaps.{IsSmall}
 use Rattle.cell_ranges.specs.Ranges.{IsShort}
 use Rattle.cell_ranges.proofs.Sources.{graph_cells_short, graph_ranges}
 use Rattle.cert_check.proofs.certificate.check_shaped.Goals as goal
+use Rattle.cob_graph.specs.Limits.{most_cells}
 
 pub own_ranges-requires : goal.own_ranges-requires
 own_ranges-requires c =
@@ -18,7 +19,7 @@ check_rows-requires-clause-given c =
     let ranges : c.as_slice-2.result.now ≡ map own_range g.cells =
     c.as_slice-2.ensures.value ∙ c.in_ok-owns.ensures.value ∙ ap (map own_range) c.get-cells.ensures in
     let count : length c.as_slice-2.result.now ≡ length g.cells = ap length ranges ∙ length-map g.cells own_range in
-    let limit : length g.cells ≤ 512 = c.requires.limits.cells in
+    let limit : length g.cells ≤ most_cells = c.requires.limits.cells in
     record {
       source = c.requires.source;
       allowed = c.requires.allowed;

@@ -5,7 +5,7 @@ use Rattle.cert_text.specs.View.{view, place_of}
 use Rattle.interval_domain.specs.Rows.{lists_of}
 use Rattle.cert_text.specs.Claims.{place_at}
 use Rattle.cert_text.specs.Gaps.{IsSmall}
-use Rattle.cell_steps.specs.Homes.{owns}
+use Rattle.cell_steps.specs.OwnRanges.{owns}
 use Rattle.cert_check.proofs.Asking.{is_said, is_small, place_there, claims_there}
 use Rattle.cert_check.proofs.LayerLaws.{layer_laws}
 use Rattle.cert_check.proofs.Leaking.{first_gap_is, there_is_a_gap}

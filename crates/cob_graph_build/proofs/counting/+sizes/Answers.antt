@@ -1,7 +1,7 @@
 use Rattle.std.proofs.Common.{◌+◌, ap}
 use Rattle.cob_program.specs.ActView.{plain_stmt, plain_when, plain_stmts, plain_whens}
 use Rattle.cob_program.proofs.Loops.{item_step}
-use Rattle.cob_graph.specs.Graphs.{most_told}
+use Rattle.cob_graph.specs.Limits.{most_told}
 use Rattle.cob_graph_build.specs.Sizes.{stmt_size, stmts_size, when_size, stmt_whens_size}
 use Rattle.cob_graph_build.specs.Tables.{size_in}
 use Rattle.cob_graph_build.proofs.Loops.{stmts_from, whens_from}

@@ -1,5 +1,5 @@
 use Rattle.std.proofs.Common.{◌≡◌, ◌+◌, min}
-use Rattle.cob_graph.specs.Graphs.{most_told}
+use Rattle.cob_graph.specs.Limits.{most_told}
 use Rattle.cob_graph_build.specs.Sizes.{stmts_size, stmt_whens_size}
 use Rattle.cob_graph_build.specs.Tables.{size_in}
 use Rattle.cob_graph_build.proofs.Loops.{stmts_from, whens_from}

@@ -2,7 +2,7 @@ use Rattle.std.proofs.Common.{◌+◌, ap}
 use Rattle.cob_program.specs.LogicView.{plain_logic, plain_logics}
 use Rattle.cob_program.proofs.Loops.{item_step}
 use Rattle.cob_graph.specs.Laid.{tests_in, tests_among}
-use Rattle.cob_graph.specs.Graphs.{most_told}
+use Rattle.cob_graph.specs.Limits.{most_told}
 use Rattle.cob_graph_build.proofs.Loops.{logics_from}
 use Rattle.cob_graph_build.proofs.SizeLoops.{summed}
 use Rattle.cob_graph_build.proofs.counting.+tests.Goals as goal

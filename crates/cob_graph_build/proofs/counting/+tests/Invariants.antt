@@ -1,6 +1,6 @@
 use Rattle.std.proofs.Common.{◌≡◌, ◌+◌, min}
 use Rattle.cob_graph.specs.Laid.{tests_among}
-use Rattle.cob_graph.specs.Graphs.{most_told}
+use Rattle.cob_graph.specs.Limits.{most_told}
 use Rattle.cob_graph_build.proofs.Loops.{logics_from}
 use Rattle.cob_graph_build.proofs.counting.+tests.Given as goal
 

@@ -1,7 +1,7 @@
 use Rattle.std.proofs.Common.{◌+◌, ◌-◌, ◌∙◌, ap, min}
 use Rattle.cob_program.specs.ActView.{plain_program}
 use Rattle.cob_runs.specs.Steps.{body_at}
-use Rattle.cob_graph.specs.Graphs.{most_told}
+use Rattle.cob_graph.specs.Limits.{most_told}
 use Rattle.cob_graph_build.specs.Sizes.{stmts_size, range_size}
 use Rattle.cob_graph_build.specs.Tables.{size_in}
 use Rattle.cob_graph_build.proofs.SizeLoops.{summed, range_size_step}

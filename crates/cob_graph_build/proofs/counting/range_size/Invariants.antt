@@ -1,6 +1,6 @@
 use Rattle.std.proofs.Common.{◌≡◌, ◌+◌, ◌-◌, min}
 use Rattle.cob_program.specs.ActView.{plain_program}
-use Rattle.cob_graph.specs.Graphs.{most_told}
+use Rattle.cob_graph.specs.Limits.{most_told}
 use Rattle.cob_graph_build.specs.Sizes.{range_size}
 use Rattle.cob_graph_build.specs.Tables.{size_in}
 use Rattle.cob_graph_build.proofs.counting.range_size.Given as goal

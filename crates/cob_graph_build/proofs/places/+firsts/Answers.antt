@@ -1,5 +1,5 @@
 use Rattle.cob_program.specs.LogicView.{plain_logic, plain_logics}
-use Rattle.cob_graph.specs.Graphs.{most_told}
+use Rattle.cob_graph.specs.Limits.{most_told}
 use Rattle.cob_graph.specs.Laid.{tests_in}
 use Rattle.cob_graph_build.proofs.Cuts.{whole}
 use Rattle.cob_graph_build.proofs.Heads.{others, logics_cut}

@@ -2,7 +2,6 @@ use Rattle.std.proofs.Common.{sym, ap, subst, ◌∙◌, arith}
 use Rattle.std.proofs.lemmas.List.{length-map}
 use Rattle.diff_bounds.specs.Matrix.{IsMatrix}
 use Rattle.diff_steps.specs.Packs.{size_of}
-use Rattle.diff_layer.specs.Cells.{plain_cell}
 use Rattle.diff_layer.specs.Plans.{plain_plan}
 use Rattle.diff_layer.proofs.KnownEnds.{few_decimals}
 use Rattle.diff_layer.proofs.changing.change_plan.Goals as goal
@@ -15,8 +14,8 @@ view_of-pack-requires-clause-small c =
 
 pub change-requires-clause-m : goal.change-requires-clause-m
 change-requires-clause-m c =
-    subst (λ n. IsMatrix n c.args.m.now) (sym (ap size_of c.view_of-pack.ensures.pack) ∙ length-map c.view_of-pack.result.cells.now plain_cell) c.requires.matrix
+    subst (λ n. IsMatrix n c.args.m.now) (sym (ap size_of c.view_of-pack.ensures.pack)) c.requires.matrix
 
 pub returns-clause-matrix : goal.returns-clause-matrix
 returns-clause-matrix c =
-    subst (λ n. IsMatrix n c.change.new.m) (sym (sym (ap size_of c.view_of-pack.ensures.pack) ∙ length-map c.view_of-pack.result.cells.now plain_cell)) c.change.ensures.matrix
+    subst (λ n. IsMatrix n c.change.new.m) (sym (sym (ap size_of c.view_of-pack.ensures.pack))) c.change.ensures.matrix

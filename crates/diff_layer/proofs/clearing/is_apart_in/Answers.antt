@@ -2,7 +2,6 @@ use Rattle.std.proofs.Common.{sym, ap, subst, arith, ◌∙◌}
 use Rattle.std.proofs.lemmas.List.{length-map}
 use Rattle.diff_bounds.specs.Matrix.{IsMatrix}
 use Rattle.diff_steps.specs.Packs.{size_of}
-use Rattle.diff_layer.specs.Cells.{plain_cell}
 use Rattle.cob_program.specs.ActView.{plain_program}
 use Rattle.edge_amounts.specs.PartView.{plain_divisor}
 use Rattle.interval_domain.specs.Rows.{cells_of}
@@ -26,4 +25,4 @@ returns c =
 
 pub is_apart-requires-clause-m : goal.is_apart-requires-clause-m
 is_apart-requires-clause-m c =
-    subst (λ n. IsMatrix n c.args.m.now) (sym (ap size_of c.view_of-pack.ensures.pack) ∙ length-map c.view_of-pack.result.cells.now plain_cell) c.requires.matrix
+    subst (λ n. IsMatrix n c.args.m.now) (sym (ap size_of c.view_of-pack.ensures.pack)) c.requires.matrix

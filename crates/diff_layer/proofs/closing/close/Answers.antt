@@ -3,10 +3,9 @@ use Rattle.std.proofs.lemmas.List.{length-map}
 use Rattle.diff_bounds.specs.Matrix.{IsMatrix}
 use Rattle.cob_program.specs.ActView.{plain_program}
 use Rattle.interval_domain.specs.Rows.{cells_of}
-use Rattle.cell_steps.specs.Homes.{homes_of}
+use Rattle.cob_graph.specs.Homes.{homes_of}
 use Rattle.diff_layer.specs.KnownCells.{HaveEnds}
-use Rattle.diff_layer.specs.declared.cells.PackCell.{PackCell}
-use Rattle.diff_layer.specs.Cells.{plain_cell}
+use Rattle.cob_graph.specs.declared.homes.Home.{Home}
 use Rattle.diff_layer.specs.Plans.{plain_plan}
 use Rattle.diff_layer.proofs.KnownEnds.{known_cells_end}
 use Rattle.diff_layer.proofs.Staying.{stays_closed}
@@ -29,9 +28,9 @@ returns-clause-stays c closes =
 pub close_pack-requires-clause-m : goal.close_pack-requires-clause-m
 close_pack-requires-clause-m c =
     let x = c.args in
-    subst (λ n. IsMatrix n x.m.now) (length-map x.plan.now.cells.items plain_cell ∙ ap (λ (cs : List PackCell). length cs) (sym c.as_slice-size.ensures.value)) c.requires.matrix
+    subst (λ n. IsMatrix n x.m.now) (ap (λ (cs : List Home). length cs) (sym c.as_slice-size.ensures.value)) c.requires.matrix
 
 pub returns-clause-matrix : goal.returns-clause-matrix
 returns-clause-matrix c closes =
     let x = c.args in
-    subst (λ n. IsMatrix n c.close_pack.new.m) (sym (length-map x.plan.now.cells.items plain_cell ∙ ap (λ (cs : List PackCell). length cs) (sym c.as_slice-size.ensures.value))) (c.close_pack.ensures.matrix closes)
+    subst (λ n. IsMatrix n c.close_pack.new.m) (sym (ap (λ (cs : List Home). length cs) (sym c.as_slice-size.ensures.value))) (c.close_pack.ensures.matrix closes)

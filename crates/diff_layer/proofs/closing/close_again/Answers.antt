@@ -3,11 +3,10 @@ use Rattle.std.proofs.lemmas.List.{length-map}
 use Rattle.diff_bounds.specs.Matrix.{IsMatrix}
 use Rattle.cob_program.specs.ActView.{plain_program}
 use Rattle.interval_domain.specs.Rows.{cells_of}
-use Rattle.cell_steps.specs.Homes.{homes_of}
+use Rattle.cob_graph.specs.Homes.{homes_of}
 use Rattle.diff_layer.specs.KnownCells.{HaveEnds}
 use Rattle.diff_layer.specs.Tight.{IsTightIfSettled}
-use Rattle.diff_layer.specs.declared.cells.PackCell.{PackCell}
-use Rattle.diff_layer.specs.Cells.{plain_cell}
+use Rattle.cob_graph.specs.declared.homes.Home.{Home}
 use Rattle.diff_layer.specs.Plans.{plain_plan}
 use Rattle.diff_layer.proofs.KnownEnds.{known_cells_end}
 use Rattle.diff_layer.proofs.Staying.{stays_closed, closed_is_tight}
@@ -22,7 +21,7 @@ close_again-requires-clause-ends c =
 pub close_again-requires-clause-tight : goal.close_again-requires-clause-tight
 close_again-requires-clause-tight c =
     let x = c.args in
-    subst (λ n. IsTightIfSettled n x.last.now) (length-map x.plan.now.cells.items plain_cell ∙ ap (λ (cs : List PackCell). length cs) (sym c.as_slice-size.ensures.value))
+    subst (λ n. IsTightIfSettled n x.last.now) (ap (λ (cs : List Home). length cs) (sym c.as_slice-size.ensures.value))
     (closed_is_tight (plain_program x.program.now) (cells_of x.before.now) (plain_plan x.plan.now) c.requires.plan.few c.requires.fits c.requires.plan.short x.last.now c.requires.last c.requires.closed)
 
 pub returns-clause-stays : goal.returns-clause-stays
@@ -36,14 +35,14 @@ returns-clause-stays c closes =
 pub close_again-requires-clause-m : goal.close_again-requires-clause-m
 close_again-requires-clause-m c =
     let x = c.args in
-    subst (λ n. IsMatrix n x.m.now) (length-map x.plan.now.cells.items plain_cell ∙ ap (λ (cs : List PackCell). length cs) (sym c.as_slice-size.ensures.value)) c.requires.matrix
+    subst (λ n. IsMatrix n x.m.now) (ap (λ (cs : List Home). length cs) (sym c.as_slice-size.ensures.value)) c.requires.matrix
 
 pub close_again-requires-clause-last : goal.close_again-requires-clause-last
 close_again-requires-clause-last c =
     let x = c.args in
-    subst (λ n. IsMatrix n x.last.now) (length-map x.plan.now.cells.items plain_cell ∙ ap (λ (cs : List PackCell). length cs) (sym c.as_slice-size.ensures.value)) c.requires.last
+    subst (λ n. IsMatrix n x.last.now) (ap (λ (cs : List Home). length cs) (sym c.as_slice-size.ensures.value)) c.requires.last
 
 pub returns-clause-matrix : goal.returns-clause-matrix
 returns-clause-matrix c closes =
     let x = c.args in
-    subst (λ n. IsMatrix n c.close_again.new.m) (sym (length-map x.plan.now.cells.items plain_cell ∙ ap (λ (cs : List PackCell). length cs) (sym c.as_slice-size.ensures.value))) (c.close_again.ensures.matrix closes)
+    subst (λ n. IsMatrix n c.close_again.new.m) (sym (ap (λ (cs : List Home). length cs) (sym c.as_slice-size.ensures.value))) (c.close_again.ensures.matrix closes)

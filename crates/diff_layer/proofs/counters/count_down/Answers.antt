@@ -1,5 +1,5 @@
 use Rattle.std.proofs.Common.{length, ◌∙◌, ap}
-use Rattle.cell_steps.specs.Homes.{of_count}
+use Rattle.cob_graph.specs.declared.homes.Home.TheVariants.{Count as of_count}
 use Rattle.diff_steps.specs.Packs.{cell_of}
 use Rattle.diff_layer.specs.Views.{plain_pack}
 use Rattle.diff_layer.specs.Changes.{cell_assigned}

@@ -1,7 +1,6 @@
-use Rattle.diff_layer.specs.Cells.{plain_cell}
 use Rattle.diff_layer.specs.Gone.{is_gone}
 use Rattle.diff_layer.proofs.Filling.{IsFilledTo}
 use Rattle.diff_layer.proofs.gone.mark.Given as goal
 
 abbrev pub invariant-loop-k : goal.invariant-loop-k
-invariant-loop-k l = IsFilledTo (λ c. is_gone l.layout l.gone (plain_cell c)) l.cells l.marks l.k
+invariant-loop-k l = IsFilledTo (is_gone l.layout l.gone) l.cells l.marks l.k

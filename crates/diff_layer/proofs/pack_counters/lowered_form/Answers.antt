@@ -1,5 +1,5 @@
 use Rattle.std.proofs.Common.{length}
-use Rattle.cell_steps.specs.Homes.{of_count}
+use Rattle.cob_graph.specs.declared.homes.Home.TheVariants.{Count as of_count}
 use Rattle.diff_layer.proofs.Over.{few, lowered_of_pack}
 use Rattle.diff_layer.proofs.pack_counters.lowered_form.Goals as goal
 

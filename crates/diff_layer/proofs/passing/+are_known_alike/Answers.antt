@@ -1,6 +1,6 @@
 use Rattle.cob_program.specs.ActView.{plain_program}
 use Rattle.interval_domain.specs.Rows.{cells_of}
-use Rattle.diff_layer.specs.declared.cells.PackCell.TheVariants.{Item}
+use Rattle.cob_graph.specs.declared.homes.Home.TheVariants.{Item}
 use Rattle.diff_layer.specs.Closed.{IsKnownAlike}
 use Rattle.diff_layer.proofs.Idle.{all_cells}
 use Rattle.diff_layer.proofs.passing.+are_known_alike.Goals as goal

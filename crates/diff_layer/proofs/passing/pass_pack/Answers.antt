@@ -2,7 +2,7 @@ use Rattle.std.proofs.Common.{sym, ap, subst, ◌∙◌}
 use Rattle.cob_program.specs.ActView.{plain_program}
 use Rattle.diff_bounds.specs.Matrix.{IsMatrix}
 use Rattle.interval_domain.specs.Rows.{cells_of}
-use Rattle.cell_steps.specs.Homes.{homes_of}
+use Rattle.cob_graph.specs.Homes.{homes_of}
 use Rattle.diff_steps.specs.Matrices.{put_closed}
 use Rattle.diff_steps.specs.Packs.{size_of}
 use Rattle.diff_layer.specs.Closed.{IsClosedBy}

@@ -1,5 +1,5 @@
 use Rattle.std.proofs.Common.{length}
-use Rattle.cell_steps.specs.Homes.{of_item}
+use Rattle.cob_graph.specs.declared.homes.Home.TheVariants.{Item as of_item}
 use Rattle.diff_layer.specs.Views.{item_cell}
 use Rattle.diff_layer.proofs.Over.{sender_over, few, is_of_pack}
 use Rattle.diff_layer.proofs.senders.set_form.Goals as goal

@@ -1,6 +1,6 @@
 use Rattle.std.proofs.Common.{length}
 use Rattle.cob_program.specs.SumView.{plain_sum}
-use Rattle.cell_steps.specs.Homes.{of_item}
+use Rattle.cob_graph.specs.declared.homes.Home.TheVariants.{Item as of_item}
 use Rattle.cell_steps.specs.Stores.{range_at}
 use Rattle.diff_layer.specs.Views.{item_cell, program_of, known_in}
 use Rattle.diff_layer.proofs.Differences.{difference_is}

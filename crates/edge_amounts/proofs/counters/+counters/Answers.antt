@@ -2,7 +2,7 @@ use Rattle.std.proofs.Common.{◌+◌, ◌∙◌, refl}
 use Rattle.cob_program.specs.declared.act.Stmt.{out-Stmt}
 use Rattle.cob_program.specs.ActView.{plain_act, plain_stmt, plain_when, plain_whens}
 use Rattle.cob_program.specs.Statements.{with_inner_statements, when_statements, whens_statements}
-use Rattle.cell_steps.specs.Homes.{stmt_homes, count_homes}
+use Rattle.cob_graph.specs.Homes.{stmt_homes, count_homes}
 use Rattle.edge_amounts.specs.Numbers.{inner_homes}
 use Rattle.edge_amounts.proofs.ActViews.{block_homes, arith_cut, if_cut, evaluate_cut, read_cut}
 use Rattle.edge_amounts.proofs.LeftLemmas.{found_here, goes_on, found_in_rest}

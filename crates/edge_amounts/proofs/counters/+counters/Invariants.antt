@@ -1,7 +1,7 @@
 use Rattle.std.proofs.Common.{◌≡◌, drop}
 use Rattle.cob_program.specs.ActView.{plain_stmts, plain_whens}
 use Rattle.cob_program.specs.Statements.{list_statements, whens_statements}
-use Rattle.cell_steps.specs.Homes.{count_homes}
+use Rattle.cob_graph.specs.Homes.{count_homes}
 use Rattle.edge_amounts.specs.Numbers.{left_at}
 use Rattle.edge_amounts.proofs.counters.+counters.Given as goal
 

@@ -1,7 +1,7 @@
 use Rattle.std.proofs.Common.{◌-◌, length, refl, ap, ◌∙◌}
 use Rattle.cob_program.specs.ActView.{plain_paras, plain_program}
 use Rattle.cob_program.specs.Statements.{paras_statements}
-use Rattle.cell_steps.specs.Homes.{count_homes}
+use Rattle.cob_graph.specs.Homes.{count_homes}
 use Rattle.edge_amounts.specs.Numbers.{left_at}
 use Rattle.edge_amounts.proofs.CountLemmas.{items_fit, found_number, left_fits, no_number}
 use Rattle.edge_amounts.proofs.counters.cell_of_count.Goals as goal

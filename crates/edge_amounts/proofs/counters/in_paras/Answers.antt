@@ -1,7 +1,7 @@
 use Rattle.std.proofs.Common.{◌+◌, ◌∙◌}
 use Rattle.cob_program.specs.ActView.{plain_para}
 use Rattle.cob_program.specs.Statements.{para_statements}
-use Rattle.cell_steps.specs.Homes.{count_homes}
+use Rattle.cob_graph.specs.Homes.{count_homes}
 use Rattle.edge_amounts.proofs.LeftLemmas.{found_here, goes_on}
 use Rattle.edge_amounts.proofs.StatementLoops.{paras_from, para_first}
 use Rattle.edge_amounts.proofs.counters.in_paras.Goals as goal

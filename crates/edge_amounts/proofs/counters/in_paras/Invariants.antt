@@ -1,7 +1,7 @@
 use Rattle.std.proofs.Common.{◌≡◌, drop}
 use Rattle.cob_program.specs.ActView.{plain_paras}
 use Rattle.cob_program.specs.Statements.{paras_statements}
-use Rattle.cell_steps.specs.Homes.{count_homes}
+use Rattle.cob_graph.specs.Homes.{count_homes}
 use Rattle.edge_amounts.specs.Numbers.{left_at}
 use Rattle.edge_amounts.proofs.counters.in_paras.Given as goal
 

@@ -3,7 +3,7 @@ use Rattle.std.specs.Prelude.{IfSome}
 use Rattle.cob_program.specs.ActView.{plain_program}
 use Rattle.dom_laws.specs.Lattice.{IsElement}
 use Rattle.interval_domain.specs.Rows.{cells_lattice, lists_of}
-use Rattle.cell_steps.specs.Homes.{owns}
+use Rattle.cell_steps.specs.OwnRanges.{owns}
 use Rattle.layer_driver.proofs.cases.answer_by_cells.Goals as goal
 
 pub answer_to-requires : goal.answer_to-requires

@@ -1,7 +1,7 @@
 use Rattle.std.proofs.Common.{ap, sym, subst, ◌∙◌}
 use Rattle.cob_program.specs.ActView.{plain_program}
 use Rattle.interval_domain.specs.Rows.{lists_of}
-use Rattle.cell_steps.specs.Homes.{owns}
+use Rattle.cell_steps.specs.OwnRanges.{owns}
 use Rattle.cob_graph_build.specs.Limits.{IsWithinLimits}
 use Rattle.graph_runs.specs.Sources.{IsSourceGraph}
 use Rattle.cell_ranges.proofs.Sources.{lists_are_short, thresholds_of}

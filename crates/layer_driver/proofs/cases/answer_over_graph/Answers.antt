@@ -1,7 +1,7 @@
 use Rattle.std.proofs.Common.{map, ap, sym, ◌∙◌, subst}
 use Rattle.std.specs.List.{All}
 use Rattle.cob_program.specs.ActView.{plain_program}
-use Rattle.cell_steps.specs.Homes.{own_range}
+use Rattle.cell_steps.specs.OwnRanges.{own_range}
 use Rattle.cell_ranges.specs.Ranges.{IsShort}
 use Rattle.cell_ranges.proofs.Sources.{graph_cells_short, graph_ranges}
 use Rattle.layer_driver.proofs.cases.answer_over_graph.Goals as goal

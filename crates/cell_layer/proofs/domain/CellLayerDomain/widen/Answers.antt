@@ -1,7 +1,7 @@
 use Rattle.cob_program.specs.ActView.{plain_program}
 use Rattle.interval_domain.specs.Rows.{lists_of}
 use Rattle.interval_domain.proofs.Rows.{element_is_within}
-use Rattle.cell_steps.specs.Homes.{owns}
+use Rattle.cell_steps.specs.OwnRanges.{owns}
 use Rattle.cell_layer.specs.LayerLaws.{ends_of}
 use Rattle.cell_layer.proofs.domain.CellLayerDomain.widen.Goals as goal
 

@@ -1,7 +1,7 @@
 use Rattle.std.proofs.Common.{◌≤◌, ◌∙◌, length, sym, ap, subst, arith}
 use Rattle.std.specs.List.{All}
 use Rattle.cob_program.specs.ActView.{plain_program}
-use Rattle.cell_steps.specs.Homes.{owns}
+use Rattle.cell_steps.specs.OwnRanges.{owns}
 use Rattle.cell_layer.specs.Heads.{heads_of}
 use Rattle.cell_layer.proofs.Making.{targets_first, targets_last, few_edges, owned_by, few_lists, held_by, sound_items, cells_are}
 use Rattle.cell_layer.proofs.layer.CellLayer.new.Goals as goal

@@ -1,7 +1,7 @@
 use Rattle.std.proofs.Common.{◌≡◌}
 use Rattle.cob_program.specs.LogicView.{plain_logic, plain_logics}
 use Rattle.cob_graph.specs.Laid.{tests_in}
-use Rattle.cob_graph.specs.Graphs.{most_told}
+use Rattle.cob_graph.specs.Limits.{most_told}
 use Rattle.cob_graph_build.specs.Growing.{copied_of}
 use Rattle.cob_graph_build.proofs.Cuts.{whole}
 use Rattle.cob_graph_build.proofs.Heads.{others, logics_cut}

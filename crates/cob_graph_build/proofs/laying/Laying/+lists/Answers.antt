@@ -7,7 +7,7 @@ use Rattle.cob_graph.specs.Laid.{tests_in, tests_among, list_size}
 use Rattle.cob_graph.specs.Places as places
 use Rattle.cob_graph.specs.Places.{first_of_list, first_of_paras, first_of_body, body_next}
 use Rattle.cob_graph.specs.Nodes.{list_nodes}
-use Rattle.cob_graph.specs.Graphs.{most_told}
+use Rattle.cob_graph.specs.Limits.{most_told}
 use Rattle.cob_graph_build.specs.Tables.{IsTable, lay_list, lay_phrase, lay_whens, lay_body, lay_paras, copy_in}
 use Rattle.cob_graph_build.specs.Growing.{grown, plan, copies_of, copied_of}
 use Rattle.cob_graph_build.proofs.Cuts.{whole}

@@ -3,7 +3,7 @@ use Rattle.cob_program.specs.Act.{varying}
 use Rattle.cob_program.specs.ActView.{plain_turns}
 use Rattle.cob_program.specs.LogicView.{plain_logic}
 use Rattle.cob_graph.specs.Laid.{tests_in}
-use Rattle.cob_graph.specs.Graphs.{most_told}
+use Rattle.cob_graph.specs.Limits.{most_told}
 use Rattle.cob_graph_build.specs.Growing.{plan, copies_of, copied_of}
 use Rattle.cob_graph_build.proofs.Cuts.{whole}
 use Rattle.cob_graph_build.proofs.ListLemmas.{varying_is, varying_ok}

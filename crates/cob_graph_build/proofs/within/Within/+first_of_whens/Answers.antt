@@ -5,7 +5,7 @@ use Rattle.cob_program.specs.ActView.{plain_when, plain_stmts, plain_whens}
 use Rattle.cob_program.specs.LogicView.{plain_logic, plain_logics}
 use Rattle.cob_graph.specs.Laid.{tests_among, list_size}
 use Rattle.cob_graph.specs.Places.{first_of_list}
-use Rattle.cob_graph.specs.Graphs.{most_told}
+use Rattle.cob_graph.specs.Limits.{most_told}
 use Rattle.cob_graph_build.specs.Tables.{lay_list}
 use Rattle.cob_graph_build.specs.Growing.{plan, copies_of}
 use Rattle.cob_graph_build.proofs.Cuts.{whole}

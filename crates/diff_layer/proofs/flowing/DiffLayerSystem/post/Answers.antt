@@ -5,7 +5,7 @@ use Rattle.cob_graph.specs.declared.graph.Edge.{Edge}
 use Rattle.dom_laws.specs.Flow.{IsNode}
 use Rattle.graph_runs.specs.Places.{no_edge, edge_at}
 use Rattle.interval_domain.specs.Rows.{IsRow, element_of}
-use Rattle.cell_steps.specs.Homes.{owns}
+use Rattle.cell_steps.specs.OwnRanges.{owns}
 use Rattle.diff_bounds.specs.PackRows.{matrices_beside, lists_of}
 use Rattle.diff_layer.specs.Plans.{plain_plans, ArePlansOf, matrices_for, IsRowFor}
 use Rattle.pack_laws.specs.Layer.{sizes_of, diff_flow}

@@ -2,7 +2,8 @@ use Rattle.std.proofs.Common.{◌≡◌, ◌≤◌, ◌∙◌, length, sym, ap, 
 use Rattle.std.specs.List.{All}
 use Rattle.cob_program.specs.ActView.{plain_program}
 use Rattle.cob_program.specs.Statements.{plain_references}
-use Rattle.cell_steps.specs.Homes.{homes_of}
+use Rattle.cob_graph.specs.Homes.{homes_of}
+use Rattle.cob_graph.specs.Limits.{most_cells}
 use Rattle.cell_laws.specs.Entry.{entry_cells}
 use Rattle.cell_laws.proofs.Entry.{entry_fits}
 use Rattle.cell_layer.specs.Heads.{heads_of}
@@ -118,7 +119,7 @@ pub plans_of-requires-clause-statements : goal.plans_of-requires-clause-statemen
 plans_of-requires-clause-statements g c = ap plain_references c.as_slice-2.ensures.value ∙ c.in_ok-statements.ensures
 
 pub entry_words-requires-clause-few : goal.entry_words-requires-clause-few
-entry_words-requires-clause-few g c = subst (λ cells. length cells ≤ 512) (sym c.get-3.ensures) c.requires.cells
+entry_words-requires-clause-few g c = subst (λ cells. length cells ≤ most_cells) (sym c.get-3.ensures) c.requires.cells
 
 pub entry_words-requires-clause-packs : goal.entry_words-requires-clause-packs
 entry_words-requires-clause-packs g c =

@@ -1,7 +1,7 @@
 use Rattle.std.proofs.Common.{◌≡◌, ◌∙◌, true, sym, ap, subst}
 use Rattle.cob_program.specs.ActView.{plain_program}
 use Rattle.interval_domain.specs.Rows.{IsRow, is_reached}
-use Rattle.cell_steps.specs.Homes.{owns}
+use Rattle.cell_steps.specs.OwnRanges.{owns}
 use Rattle.diff_layer.specs.Plans.{plain_plans, ArePlansOf}
 use Rattle.pack_laws.specs.Packs.{packs_of}
 use Rattle.diff_layer.specs.LayerLaws.{facts_of}
