@@ -14,13 +14,14 @@ import subprocess
 import sys
 import tempfile
 
-from tests.built import ROOT, launcher, program_path
+from tests.built import ROOT, program_path
 from tests.reference import cases_of
 
 sys.path.insert(0, str(ROOT / "tools"))
 
-from cobsound_report.program import Analyser  # noqa: E402
-from cobsound_report.sources import statements_in  # noqa: E402
+from cobsound_report.program import Analyser, Program  # noqa: E402
+from cobsound_report.sources import Source  # noqa: E402
+from cobsound_report.statements import Text  # noqa: E402
 
 TOOL = ROOT / "tools/cobsound-report"
 
@@ -85,15 +86,19 @@ def of_alarms():
 
 
 def of_a_refusal():
-    """The cause stands in the guide's words; here its place is looked at."""
+    """The word that the program's refusal means, with its way out, and what else isn't in the profile."""
     status, out, _ = reported(["samples/indexed.cob"])
-    first, line, caret, note, last, rest = (out.split("\n") + [""] * 6)[:6]
+    first, line, caret, note, *_ = out.split("\n") + [""] * 4
+    last = out.splitlines()[-1]
+    seen = re.findall(r"^samples/indexed.cob:(\d+):(\d+): error: (\w+) isn't in the profile$", out, re.M)
+    others = [(int(line), int(column), word) for line, column, word in seen]
     place = f"samples/indexed.cob:{INDEXED_LINE}:"
     is_right = (
-        first.startswith(f"{place} error: E8: the first token with which no program of the grammar goes on ")
-        and (line, caret) == (" " * 15 + "ORGANIZATION IS INDEXED", " " * 15 + "^" + "~" * 22)
-        and note.startswith(f"{place} note: ")
-        and (status, last, rest) == (2, "1 source: 1 refused", "")
+        first == f"{place}32: error: E8: INDEXED isn't in the profile"
+        and (line, caret) == (" " * 15 + "ORGANIZATION IS INDEXED", " " * 31 + "^" + "~" * 6)
+        and note == f"{place}32: note: unload the file to a sequential one before the run"
+        and others == [(9, 31, "RANDOM"), (10, 23, "KEY"), (22, 16, "INVALID")]
+        and (status, last) == (2, "1 source: 1 refused")
     )
     return None if is_right else f"a refusal: {status}, {out!r}"
 
@@ -104,11 +109,14 @@ def of_a_place():
         text = (ROOT / "samples/first.cob").read_text().replace("ADD 1", "ADD -A")
         pathlib.Path(folder, "S.cob").write_text(text)
         status, out, _ = reported(["S.cob"], folder)
-    lines = out.split("\n")
-    place, cause = lines[0][:23], lines[0][23:]
-    is_right = place == "S.cob:7:12: error: E7: " and lines[1:3] == ["       ADD -A TO N.", " " * 11 + "^"]
-    is_of_the_guide = cause and f"| {cause} |" in (ROOT / "docs/GUIDE.md").read_text("utf-8")
-    return None if status == 2 and is_right and is_of_the_guide else f"a place: {status}, {out!r}"
+    cause = "S.cob:7:12: error: E7: -A is no word, number or mark, or none ends here"
+    return told("a place", (status, out.split("\n")[:3]), (2, [cause, "       ADD -A TO N.", " " * 11 + "^~"]))
+
+
+def verbs_of(source):
+    """The line, the column and the length of the verb of each statement."""
+    verbs = (statement.verb for statement in Text(source.split(b"\n")).statements)
+    return [(verb.line, verb.column, verb.length) for verb in verbs]
 
 
 def of_verbs():
@@ -116,7 +124,7 @@ def of_verbs():
     comments, names and continued lines mislead nobody."""
     for file in ("analyses.jsonl", "checked.jsonl", "thin.jsonl", "straight.jsonl"):
         for name, case in cases_of(file):
-            verbs = statements_in(case["source"].encode("latin-1").split(b"\n"))
+            verbs = verbs_of(case["source"].encode("latin-1"))
             lines = [*(case.get("least") or ()), *(case.get("most") or ()), *case.get("out", "").split("\n")]
             for line in filter(None, map(ALARM_LINE.fullmatch, lines)):
                 if verbs[int(line[1]) - 1][0] != int(line[2]):
@@ -129,7 +137,7 @@ def of_verbs():
         "      -    LTIPLY 2 BY MOVE-COUNT. DISPLAY 'IT''S ".ljust(72),
         "      -    'MOVE 1 TO' MOVE-COUNT. CLOSE F.",
     ]
-    found = statements_in("\n".join(lines).encode().split(b"\n"))
+    found = verbs_of("\n".join(lines).encode())
     wanted = [(2, 12, 7), (2, 44, 2), (4, 12, 3), (4, 40, 8), (5, 36, 7), (6, 36, 5)]
     return told("verbs", found, wanted)
 
@@ -190,14 +198,16 @@ def answering(folder, analysed, checked):
 
 
 def of_an_answer(analysed, checked, wanted):
-    """The verdict on a source; the tool's exit status is the worst of them. A certificate is kept where the program
-    wrote one that it answers likewise, and nothing else is left."""
+    """The status of the verdict on a source; the tool's is the worst of them. A certificate is kept where the program
+    wrote one that it answers likewise, beside its note where there are alarms, and nothing else is left."""
     with tempfile.TemporaryDirectory() as folder:
         program = answering(folder, analysed, checked)
-        result = Analyser(str(program), pathlib.Path(folder, "certs")).result("samples/first.cob")
-        left = [path.name for path in pathlib.Path(folder, "certs/samples").iterdir()]
-    wanted_left = ["first.cob.cert"] if wanted < 2 else []
-    return told(f"answers {analysed}, {checked}", (int(result.answer.verdict), left), (wanted, wanted_left))
+        analyser = Analyser(Program(str(program)), pathlib.Path(folder, "certs"), 60)
+        result = analyser.result(Source.at("samples/first.cob"))
+        left = sorted(path.name for path in pathlib.Path(folder, "certs/samples").iterdir())
+    wanted_left = [[f"first.cob.{ending}" for ending in endings] for endings in (["cert"], ["cert", "made"], [], [])]
+    found = (result.answer.verdict.status, left)
+    return told(f"answers {analysed}, {checked}", found, (wanted, wanted_left[wanted]))
 
 
 def answers():
@@ -235,7 +245,8 @@ def counting(folder):
 
 
 def of_kept_certificates():
-    """A second call asks for checks alone where a source is clean; a changed source, or certificate, is analysed."""
+    """A second call asks for checks alone; a changed source, or certificate, is analysed, and what another program said
+    that isn't clean."""
     with tempfile.TemporaryDirectory() as folder:
         place = pathlib.Path(folder)
         (place / "src/deep").mkdir(parents=True)
@@ -255,12 +266,16 @@ def of_kept_certificates():
         found.append(asked())
         first = place / "src/first.cob"
         first.write_text(first.read_text().replace("ADD 1", "ADD 2"))
+        found += [asked(), asked()]
+        program.write_text(program.read_text() + "# another program\n")
         found.append(asked())
-    two, one = (f"2 clean ({count} by the certificate that was kept), 1 with 6 alarms" for count in (2, 1))
-    wanted = [(1, 3, 3, "2 clean, 1 with 6 alarms"), (1, 1, 4, two), (1, 2, 5, one)]
-    wanted.append((1, 2, 5, "1 clean (1 by the certificate that was kept), 2 with 7 alarms"))
-    certificates = ["certs/src/deep/pay.CBL.cert", "certs/src/first.cob.cert", "certs/src/orders.cob.cert"]
-    return told("kept certificates", (found, kept), (wanted, certificates))
+    told_first, told_last = "2 clean, 1 with 6 alarms", "1 clean, 2 with 7 alarms"
+    wanted = [(1, 3, 3, told_first)]
+    wanted += [(1, 0, 3, f"{told_first}; 3 by kept certificates"), (1, 1, 4, f"{told_first}; 2 by kept certificates")]
+    wanted += [(1, 1, 4, f"{told_last}; 2 by kept certificates"), (1, 0, 3, f"{told_last}; 3 by kept certificates")]
+    wanted += [(1, 2, 5, f"{told_last}; 1 by kept certificates")]
+    names = ("deep/pay.CBL.cert", "first.cob.cert", "orders.cob.cert", "orders.cob.made")
+    return told("kept certificates", (found, kept), (wanted, [f"certs/src/{name}" for name in names]))
 
 
 def of_many():
@@ -285,7 +300,6 @@ def of_many():
 
 
 def checks():
-    launcher()
     yield from (of_clean_samples, of_alarms, of_a_refusal, of_a_place, of_verbs, of_the_worst, of_no_program)
     yield from answers()
     yield from (of_kept_certificates, of_many)

@@ -3,8 +3,10 @@ also in a browser where one is installed."""
 
 import atexit
 import functools
+import hashlib
 import json
 import pathlib
+import re
 import shutil
 import struct
 import subprocess
@@ -12,24 +14,39 @@ import tempfile
 from html.parser import HTMLParser
 from urllib.parse import unquote
 
-from tests.built import ROOT, launcher
+from tests.built import ROOT, program_path
 from tests.report import CLEAN, INDEXED_LINE, ORDERS, SAMPLES, reported, told
 
 # From the schema of SARIF 2.1.0, of each object that the tool writes: the fields that must be there, and those that may
 # be; each with what it holds. The schema allows no others.
 LEVELS = {"none", "note", "warning", "error"}
 POSITIVE = range(1, 2**31)
+SUPPRESSION_STATES = {"accepted", "underReview", "rejected"}
 SCHEMA = {
     "log": ({"version": {"2.1.0"}, "runs": ["run"]}, {"$schema": str}),
     "run": (
         {"tool": "tool"},
-        {"invocations": ["invocation"], "results": ["result"], "columnKind": {"utf16CodeUnits", "unicodeCodePoints"}},
+        {
+            "invocations": ["invocation"],
+            "results": ["result"],
+            "columnKind": {"utf16CodeUnits", "unicodeCodePoints"},
+            "originalUriBaseIds": dict,
+        },
     ),
-    "tool": ({"driver": "component"}, {}),
-    "component": ({"name": str}, {"version": str, "semanticVersion": str, "rules": ["rule"]}),
+    "tool": ({"driver": "component"}, {"extensions": ["component"]}),
+    "component": (
+        {"name": str},
+        {"version": str, "semanticVersion": str, "informationUri": str, "rules": ["rule"], "properties": dict},
+    ),
     "rule": (
         {"id": str},
-        {"shortDescription": "text", "fullDescription": "text", "help": "text", "defaultConfiguration": "configuration"},
+        {
+            "shortDescription": "text",
+            "fullDescription": "text",
+            "help": "text",
+            "helpUri": str,
+            "defaultConfiguration": "configuration",
+        },
     ),
     "text": ({"text": str}, {}),
     "configuration": ({}, {"level": LEVELS}),
@@ -37,11 +54,25 @@ SCHEMA = {
     "notification": ({"message": "text"}, {"level": LEVELS, "locations": ["location"]}),
     "result": (
         {"message": "text"},
-        {"ruleId": str, "ruleIndex": range(-1, 2**31), "level": LEVELS, "locations": ["location"], "properties": dict},
+        {
+            "ruleId": str,
+            "ruleIndex": range(-1, 2**31),
+            "level": LEVELS,
+            "locations": ["location"],
+            "relatedLocations": ["location"],
+            "partialFingerprints": dict,
+            "rank": range(101),
+            "attachments": ["attachment"],
+            "properties": dict,
+            "baselineState": {"new", "unchanged", "updated", "absent"},
+            "suppressions": ["suppression"],
+        },
     ),
-    "location": ({}, {"physicalLocation": "physicalLocation"}),
+    "attachment": ({"artifactLocation": "artifactLocation"}, {"description": "text"}),
+    "suppression": ({"kind": {"inSource", "external"}}, {"status": SUPPRESSION_STATES, "justification": str}),
+    "location": ({}, {"id": range(-1, 2**31), "message": "text", "physicalLocation": "physicalLocation"}),
     "physicalLocation": ({"artifactLocation": "artifactLocation"}, {"region": "region"}),
-    "artifactLocation": ({"uri": str}, {}),
+    "artifactLocation": ({"uri": str}, {"uriBaseId": str}),
     "region": ({"startLine": POSITIVE}, {"startColumn": POSITIVE, "endColumn": POSITIVE}),
 }
 
@@ -101,11 +132,61 @@ def of_sarif():
         found.append((place["artifactLocation"]["uri"], result["ruleId"], region["startLine"], region["startColumn"]))
         if rules[result["ruleIndex"]]["id"] != result["ruleId"]:
             return f"SARIF: {result['ruleId']} isn't rule {result['ruleIndex']}"
-    wanted = [("samples/indexed.cob", "E8", INDEXED_LINE, 16), ("samples/odd%20%26%20%3Cb%3E.cob", "SIZE", 8, 33)]
+    wanted = [("samples/indexed.cob", "E8", INDEXED_LINE, 32)]
+    wanted += [("samples/indexed.cob", "outside-profile", *place) for place in ((9, 31), (10, 23), (22, 16))]
+    wanted += [("samples/odd%20%26%20%3Cb%3E.cob", "SIZE", 8, 33)]
     wanted += [("samples/orders.cob", kind, line, column) for line, kind, _, column in ORDERS]
     (invocation,) = run["invocations"]
     ended = (invocation["exitCode"], invocation["executionSuccessful"], len(invocation["toolExecutionNotifications"]))
     return told("SARIF", (found, ended), (wanted, (3, False, 1)))
+
+
+def of_places():
+    """Sources are told from the folder of the call; the analyser is told by its sum; and of a statement the items are
+    told with their declarations."""
+    (run,) = json.loads((written() / "report.sarif").read_text())["runs"]
+    base = run["originalUriBaseIds"]["%SRCROOT%"]["uri"]
+    bases = {result["locations"][0]["physicalLocation"]["artifactLocation"]["uriBaseId"] for result in run["results"]}
+    (analyser,) = run["tool"]["extensions"]
+    (compute,) = (result for result in run["results"] if (result["ruleId"], line_of(result)) == ("CLASS", 39))
+    related = compute["relatedLocations"]
+    items = [(item["message"]["text"].split()[0], line_of({"locations": [item]})) for item in related]
+    found = (base, bases, analyser["properties"]["sha256"], items)
+    program_sum = hashlib.sha256(program_path().read_bytes()).hexdigest()
+    items_wanted = [("AMOUNT", 17), ("QUANTITY", 12), ("PRICE", 13)]
+    return told("places", found, (written().resolve().as_uri() + "/", {"%SRCROOT%"}, program_sum, items_wanted))
+
+
+def line_of(result):
+    return result["locations"][0]["physicalLocation"]["region"]["startLine"]
+
+
+def fingerprints(source):
+    """The rule and the fingerprint of each result on a text."""
+    with tempfile.TemporaryDirectory() as folder:
+        pathlib.Path(folder, "S.cob").write_text(source)
+        _, out, _ = reported(["--format", "sarif", "S.cob"], folder)
+    found = json.loads(out)["runs"][0]["results"]
+    return [(result["ruleId"], *result["partialFingerprints"].values()) for result in found]
+
+
+def of_fingerprints():
+    """Each alarm has its own, also of a statement that stands twice; they stay when lines go before them, and that of a
+    statement goes when it changes."""
+    source = (ROOT / "samples/orders.cob").read_text()
+    add = "           ADD 1 TO ORDER-COUNT.\n"
+    before = fingerprints(source)
+    begin = "       MAIN-LINE.\n"
+    moved = fingerprints(source.replace(begin, f"{begin}      * A line.\n           CONTINUE.\n"))
+    twice = fingerprints(source.replace(add, 2 * add))
+    changed = fingerprints(source.replace("ADD 1 TO", "ADD 2 TO"))
+    are_right = (
+        len(set(before)) == 6,
+        moved == before,
+        (twice[:6], len(set(twice))) == (before, 7),
+        (changed[:5], changed[5] in before) == (before[:5], False),
+    )
+    return told("fingerprints", are_right, (True, True, True, True))
 
 
 def of_rules():
@@ -116,7 +197,8 @@ def of_rules():
     broken = [f"L{n}" for n in range(1, 13)] + [f"Q{n}" for n in range(1, 12)] + [f"N{n}" for n in range(1, 6)]
     limits = ["nesting", "items", "storage", "files", "cells", "nodes"]
     refusals = ["E5", "E6", "E7", "E8", "E11", *(f"E9-{rule}" for rule in broken), *(f"E10-{word}" for word in limits)]
-    wanted = dict.fromkeys(kinds, "warning") | dict.fromkeys(refusals, "error")
+    seen = ["outside-profile", "undeclared", "missing", "form"]
+    wanted = dict.fromkeys([*kinds, "statement-as-paragraph"], "warning") | dict.fromkeys([*refusals, *seen], "error")
     silent = [rule["id"] for rule in rules if not (rule["help"]["text"] and rule["fullDescription"]["text"])]
     return told("rules", (levels, silent), (wanted, []))
 
@@ -145,7 +227,7 @@ class Page(HTMLParser):
 # what is marked on each page, and how many notes stand on it
 MARKS = {name: ([], 0) for name in CLEAN} | {
     "orders": (["DIVIDE", "COMPUTE", "MOVE", "ADD", "ADD"], len(ORDERS)),
-    "indexed": (["ORGANIZATION IS INDEXED"], 1),
+    "indexed": (["INDEXED", "RANDOM", "KEY", "INVALID"], 4),
     ODD: (["ADD"], 1),
 }
 
@@ -162,7 +244,7 @@ def of_pages():
                 return f"{path}: the link {link} leads nowhere"
         if page.loads:
             return f"{path}: loads {page.loads}"
-    found = {path.name[:-9]: (page.marks, page.notes) for path, page in pages.items() if path.name != "index.html"}
+    found = {path.name[:-9]: (page.marks, page.notes) for path, page in pages.items() if path.parent != folder}
     listed = [unquote(link) for link in pages[folder / "index.html"].links]
     is_linked = all(f"sources/samples/{name}.cob.html" in listed for name in MARKS)
     return told("pages", (found, is_linked), (MARKS | {"nosuch": ([], 0)}, True))
@@ -173,6 +255,36 @@ def of_lines():
     text = (written() / "pages/sources/samples/orders.cob.html").read_text("utf-8")
     count = len((ROOT / "samples/orders.cob").read_text().splitlines())
     return told("lines", Page(text).ids, {f"L{number}" for number in range(1, count + 1)})
+
+
+def of_news():
+    """The index tells what is new since the report that stood there: here an alarm more, and one that is gone."""
+    with tempfile.TemporaryDirectory() as folder:
+        source = pathlib.Path(folder, "S.cob")
+        shutil.copy(ROOT / "samples/orders.cob", source)
+        words = ["S.cob", "--html", "pages"]
+        reported(words, folder)
+        index = pathlib.Path(folder, "pages/index.html")
+        first = index.read_text("utf-8")
+        source.write_text(source.read_text().replace("ADD 1 TO", "ADD 2 TO"))
+        reported(words, folder)
+        second = index.read_text("utf-8")
+    counts = re.findall(r"(\d+) new, (\d+) gone", first + second)
+    found = (counts, "S.cob:43" in second, "ADD 2 TO ORDER-COUNT" in second)
+    return told("news", found, ([("1", "1")], True, True))
+
+
+def of_orders():
+    """Each column of the index leads to a page with the rows in its order."""
+    folder = written() / "pages"
+    rows = {}
+    for path in folder.glob("*.html"):
+        links = [unquote(link).split("#")[0] for link in Page(path.read_text("utf-8")).links]
+        rows[path.name] = [pathlib.Path(link).name[:-9] for link in links if link.startswith("sources/")]
+    names = sorted([*SAMPLES, ODD, "nosuch"], key=lambda name: f"samples/{name}" if name != "nosuch" else name)
+    found = (rows["by-source.html"], rows["index.html"][:3], rows["by-zero.html"][0])
+    wanted = (names, ["nosuch", "indexed", "orders"], "orders")
+    return told("orders", (found, {len(row) for row in rows.values()}), (wanted, {len(names)}))
 
 
 def browser():
@@ -199,9 +311,8 @@ def in_a_browser():
 
 
 def checks():
-    launcher()
     written()
-    yield from (of_sarif, of_rules, of_pages, of_lines)
+    yield from (of_sarif, of_places, of_fingerprints, of_rules, of_pages, of_lines, of_news, of_orders)
     if browser():
         yield in_a_browser
     else:

@@ -6,12 +6,20 @@ from enum import IntEnum
 
 
 class Verdict(IntEnum):
-    """How an analysis ended, the worst last. The numbers are the tool's exit statuses."""
+    """How the analysis of a source ended, the worst last. WARNED is what the program calls clean, and the tool itself
+    has something to tell of."""
 
     CLEAN = 0
-    ALARMS = 1
-    REFUSED = 2
-    FAILED = 3
+    WARNED = 1
+    ALARMS = 2
+    REFUSED = 3
+    TIMEOUT = 4
+    FAILED = 5
+
+    @property
+    def status(self) -> int:
+        """The exit status of the tool where no source has a worse one."""
+        return (0, 1, 1, 2, 3, 3)[self]
 
 
 @dataclass(frozen=True)

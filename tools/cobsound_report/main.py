@@ -3,96 +3,208 @@
 import argparse
 import os
 import pathlib
+import signal
 import sys
 import tempfile
-from concurrent.futures import ThreadPoolExecutor, as_completed
-from typing import NoReturn
+from collections.abc import Iterator
+from concurrent.futures import Future, ThreadPoolExecutor
+from dataclasses import replace
+from queue import Empty, SimpleQueue
 
-from . import pages, sarif, text
+from . import as_json, baseline, github, junit, outputs, pages, sarif, text
 from .answers import Verdict
-from .program import Analyser, Result, found_program
-from .sources import sources_at
-from .words import read_words
+from .baseline import Baseline
+from .explain import explained
+from .findings import report_of
+from .history import Earlier
+from .options import parsed
+from .program import Analyser, Program, Result, Stopped, found_program, told_of
+from .report import Call, Report, counted
+from .shards import list_sum, merged
+from .sources import Source, sources_at
+from .suppressions import Suppressions
+from .witnesses import Witnesses
+from .words import Words, read_words
 
 
-class Parser(argparse.ArgumentParser):
-    """Wrong words are a failure of the outside, and no refusal of a source."""
-
-    def error(self, message: str) -> NoReturn:
-        self.print_usage(sys.stderr)
-        self.exit(Verdict.FAILED, f"{self.prog}: {message}\n")
-
-
-def parsed(words: list[str]) -> argparse.Namespace:
-    parser = Parser(
-        prog="cobsound-report",
-        description="Analyses COBOL sources with Cobsound, side by side, and reports what it answers.",
-        epilog="Exit status: 0 all clean, 1 alarms, 2 a source is refused, 3 a failure of the outside.",
-    )
-    parser.add_argument("paths", nargs="+", metavar="SOURCE", help="a source, or a folder of .cob, .cbl, .cobol files")
-    parser.add_argument("--certs", metavar="FOLDER", help="keep the certificates, and check those that are kept first")
-    parser.add_argument("--html", metavar="FOLDER", help="write a page for each source, and an index")
-    parser.add_argument("--sarif", metavar="FILE", help="write the report in SARIF 2.1.0")
-    parser.add_argument("--jobs", metavar="N", type=int, help="sources at a time; a processor each without it")
-    return parser.parse_args(words)
-
-
-def progress(results: list[Result], count: int) -> str:
+def progress(results: list[Result], number: int) -> str:
     bad = sum(result.answer.verdict != Verdict.CLEAN for result in results)
-    return f"\r\033[K{len(results)} of {text.counted(count, 'source')}, {bad} not clean"
+    return f"\r\033[K{len(results)} of {counted(number, 'source')}, {bad} not clean"
 
 
-def analysed(analyser: Analyser, sources: list[str], jobs: int) -> list[Result]:
+def next_of(finished: SimpleQueue) -> Future:
+    """What comes next. A wait without an end could miss a signal that comes just before it."""
+    while True:
+        try:
+            return finished.get(timeout=0.2)
+        except Empty:
+            continue
+
+
+def analysed(analyser: Analyser, sources: list[Source], jobs: int) -> list[Result]:
     """The result of each source, in their order. Till all are there a line of progress stands on a terminal."""
     pool = ThreadPoolExecutor(jobs)
+    finished: SimpleQueue[Future[Result]] = SimpleQueue()
     done: list[Result] = []
     try:
         pending = [pool.submit(analyser.result, source) for source in sources]
-        for future in as_completed(pending):
-            done.append(future.result())
+        for future in pending:
+            future.add_done_callback(finished.put)
+        while len(done) < len(pending):
+            done.append(next_of(finished).result())
             if sys.stderr.isatty():
                 print(progress(done, len(sources)), end="", file=sys.stderr, flush=True)
         return [future.result() for future in pending]
+    except BaseException:
+        analyser.program.stop()
+        raise
     finally:
         pool.shutdown(cancel_futures=True)
         if sys.stderr.isatty():
             print("\r\033[K", end="", file=sys.stderr, flush=True)
 
 
-def reported(options: argparse.Namespace) -> int:
-    """Analyses and writes what is asked for; the exit status is the worst verdict."""
-    words = read_words()
-    sources = sources_at(options.paths)
-    with tempfile.TemporaryDirectory() as folder:
-        analyser = Analyser(found_program(), pathlib.Path(options.certs or folder))
-        certificates = {os.path.abspath(analyser.certificate_of(source)) for source in sources}
-        if len(certificates) < len(sources) or certificates & {os.path.abspath(source) for source in sources}:
-            raise OSError("a certificate would replace a source, or that of another source")
-        results = analysed(analyser, sources, options.jobs or os.cpu_count() or 1)
-    for result in results:
-        for line in text.report(result, words):
-            print(line)
-    print(text.summary(results))
-    sys.stdout.flush()
-    if options.sarif:
-        sarif.write(pathlib.Path(options.sarif), results, words)
+def certificates(analyser: Analyser, sources: list[Source]) -> Iterator[pathlib.Path]:
+    """The files that are kept of sources."""
+    for source in sources:
+        yield analyser.certificate_of(source)
+        yield analyser.note_of(source)
+
+
+def written_files(options: argparse.Namespace, sources: list[Source]) -> Iterator[pathlib.Path]:
+    """Every file that the report may be written to."""
+    yield from filter(None, (options.sarif, options.write_baseline))
     if options.html:
-        pages.write(pathlib.Path(options.html), results, words)
-    return max(result.answer.verdict for result in results)
+        yield from (options.html / name for name in pages.names(sources))
+
+
+def shown_form(options: argparse.Namespace, report: Report, words: Words) -> str:
+    """What standard output gets."""
+    match options.format:
+        case "json":
+            return as_json.written(report)
+        case "sarif":
+            return sarif.written(report, words)
+        case "github":
+            return github.written(report)
+        case "junit":
+            return junit.written(report)
+    is_plain = os.environ.get("NO_COLOR") or os.environ.get("TERM") == "dumb" or not sys.stdout.isatty()
+    return text.written(report, text.Style(not is_plain))
+
+
+def write_files(options: argparse.Namespace, report: Report, words: Words) -> None:
+    if options.write_baseline:
+        outputs.write(options.write_baseline, baseline.written(list(report.sources)))
+    if options.sarif:
+        outputs.write(options.sarif, sarif.written(report, words))
+    if options.html:
+        for name, page in pages.written(report, words):
+            outputs.write(options.html / name, page)
+
+
+def show(shown: str) -> None:
+    try:
+        sys.stdout.reconfigure(errors="replace")
+        sys.stdout.write(shown)
+        sys.stdout.flush()
+    except OSError as error:
+        # what is left of it can't be written at the end either
+        os.dup2(os.open(os.devnull, os.O_WRONLY), sys.stdout.fileno())
+        raise OSError(f"standard output: {error.strerror}") from None
+
+
+def found(options: argparse.Namespace, words: Words, folder: pathlib.Path) -> Report:
+    """What the program answers of each source."""
+    analyser = Analyser(Program(found_program()), options.certs or folder / "certs", options.timeout)
+    listed = sources_at(options.paths, folder)
+    sources = options.shard.taken(listed) if options.shard else listed
+    if options.shard and not all(source.is_file for source in listed):
+        raise OSError("what comes on standard input has no shards")
+    files = [*written_files(options, listed), *certificates(analyser, listed)]
+    outputs.refuse_clashes((source.path for source in [*listed, *read_files(options)]), files)
+    results = analysed(analyser, sources, options.jobs or os.cpu_count() or 1)
+    told = tuple(report_of(result, words) for result in results)
+    return Report(Call.now(analyser.program_sum), told, shard=options.shard, list_sum=list_sum(listed))
+
+
+def put_together(options: argparse.Namespace) -> Report:
+    """What the shards have found."""
+    files = [Source.at(path) for path in options.paths]
+    whole = merged([pathlib.Path(file.path) for file in files])
+    sources = [report.source for report in whole.reports]
+    read = [*sources, *files, *read_files(options)]
+    outputs.refuse_clashes((source.path for source in read), written_files(options, sources))
+    return Report(Call.at(whole.when, whole.program_sum), whole.reports)
+
+
+def read_files(options: argparse.Namespace) -> list[Source]:
+    """The files that are read beside the sources and that no output may replace. A baseline may be written anew."""
+    return [Source.at(str(options.suppressions))] if options.suppressions else []
+
+
+def ranked(report: Report, witnesses: Witnesses) -> Report:
+    """The report with each source's alarms in the order of what is known of them."""
+    return replace(report, sources=tuple(witnesses.ranked(source) for source in report.sources))
+
+
+def compared(options: argparse.Namespace, report: Report) -> Report:
+    """The report beside the earlier one, the baseline and the suppressions."""
+    told, is_whole = list(report.sources), not report.shard
+    earlier = Earlier.at(options.html / pages.DATA) if options.html else None
+    told = earlier.marked(told) if earlier else told
+    known = Baseline.at(options.baseline) if options.baseline else None
+    told = known.marked(told) if known else told
+    gone = known.gone(told, is_whole) if known else []
+    idle: list[str] = []
+    if options.suppressions:
+        suppressions = Suppressions.at(options.suppressions, report.call.when.date())
+        told = suppressions.marked(told)
+        idle = list(suppressions.idle(told, is_whole))
+    return replace(report, sources=tuple(told), earlier=earlier, baseline=known, gone=tuple(gone), idle=tuple(idle))
+
+
+def reported(options: argparse.Namespace) -> int:
+    """Analyses and writes what is asked for; the exit status is that of the worst verdict that counts."""
+    words = read_words()
+    if options.explain:
+        show(explained(options.explain, words))
+        return 0
+    witnesses = Witnesses(options.witness)
+    with tempfile.TemporaryDirectory(prefix="cobsound-report-") as folder:
+        report = put_together(options) if options.merge else found(options, words, pathlib.Path(folder))
+        report = compared(options, ranked(report, witnesses))
+        write_files(options, report, words)
+        show(shown_form(options, report, words))
+    is_let_pass = options.exit_zero and report.worst <= Verdict.REFUSED
+    return 0 if is_let_pass else report.worst.status
+
+
+def stop_at_signals() -> None:
+    """What ends a process lets it clean up first; where the caller has it ignored, it stays so."""
+    kinds = (signal.SIGINT, signal.SIGTERM, signal.SIGHUP)
+    heeded = [kind for kind in kinds if signal.getsignal(kind) != signal.SIG_IGN]
+
+    def stop(number: int, _frame: object) -> None:
+        for kind in heeded:
+            signal.signal(kind, signal.SIG_IGN)
+        raise Stopped(f"stopped by {signal.Signals(number).name}")
+
+    for kind in heeded:
+        signal.signal(kind, stop)
 
 
 def main(words: list[str]) -> int:
     """The tool with these words. What isn't foreseen is a failure of the outside too."""
-    options = parsed(words)
+    sys.stderr = sys.stderr or open(os.devnull, "w")
     try:
-        sys.stdout.reconfigure(errors="replace")
-        return int(reported(options))
-    except KeyboardInterrupt:
-        message = "stopped"
-    except BrokenPipeError:
-        message = "standard output is closed"
-        os.dup2(os.open(os.devnull, os.O_WRONLY), sys.stdout.fileno())
+        stop_at_signals()
+        if sys.stdout is None:
+            raise OSError("standard output is closed")
+        return reported(parsed(words))
+    except (Stopped, OSError) as error:
+        message = told_of(error) if isinstance(error, OSError) else str(error)
     except Exception as error:
         message = f"{type(error).__name__}: {error}"
     print(f"cobsound-report: {message}", file=sys.stderr)
-    return int(Verdict.FAILED)
+    return Verdict.FAILED.status

@@ -1,31 +1,80 @@
-"""The report as pages: one for each source, with its listing, and an index. They have no scripts."""
+"""The report as pages: one for each source, with its listing, and an index in several orders. They have no scripts."""
 
 import os
 import pathlib
 import urllib.parse
+from collections.abc import Callable, Iterator
+from dataclasses import dataclass
 from html import escape
 
-from .answers import Alarm, Verdict
-from .program import Result, inner_path
-from .sources import Listing, Span, shown
-from .text import counted, summary
-from .words import SENTENCES, Entry, Words, sentence
+from . import VERSION, as_json
+from .answers import Verdict
+from .findings import Finding, SourceReport
+from .listing import listing_table, marks
+from .program import made_path
+from .report import UNITS, Report, counted
+from .sources import Listing, Source
+from .words import SENTENCES, Entry, Words
 
 STYLE = pathlib.Path(__file__).with_name("style.css").read_text("utf-8")
-FOOTER = "This page shows what the program answered; docs/GUIDE.md says what clean means. Of the page nothing is proved."
+FOOTER = "This page shows what Cobsound answered; docs/GUIDE.md says what clean means. Of the page nothing is proved."
+
+# the report as data, with which the next one is compared
+DATA = "report.json"
 
 
-def write(folder: pathlib.Path, results: list[Result], words: Words) -> None:
-    for result in results:
-        file = folder / page_name(result)
-        file.parent.mkdir(parents=True, exist_ok=True)
-        top = "../" * page_name(result).count("/")
-        file.write_text(source_page(result, words, f"{top}index.html"), "utf-8")
-    (folder / "index.html").write_text(index_page(results), "utf-8")
+@dataclass(frozen=True)
+class Column:
+    """A column of the index: its title, what stands in it, and the page whose rows it orders. The order is that of what
+    `key` gives."""
+
+    title: str
+    file: str
+    cell: Callable[[SourceReport], object]
+    key: Callable[[SourceReport], object]
 
 
-def page_name(result: Result) -> str:
-    return f"sources/{inner_path(result.source)}.html"
+def number_column(title: str, number: Callable[[SourceReport], int | None]) -> Column:
+    """A column of numbers, the greatest first. No 0 is shown."""
+    return Column(title, f"by-{title.lower()}.html", lambda s: number(s) or "", lambda s: (-(number(s) or 0), s.name))
+
+
+def kind_column(kind: str) -> Column:
+    return number_column(kind, lambda source: sum(alarm.rule == kind for alarm in source.alarms()))
+
+
+ANSWER = Column("Answer", "index.html", lambda s: verdict_of(s), lambda s: (-s.verdict, -len(s.findings), s.name))
+COLUMNS = (
+    Column("Source", "by-source.html", lambda s: source_link(s), lambda s: s.name),
+    ANSWER,
+    *(kind_column(kind) for kind in SENTENCES),
+    number_column("New", lambda source: sum(finding.is_new for finding in source.findings)),
+    number_column("Nodes", lambda source: source.nodes),
+    number_column("Cells", lambda source: source.cells),
+)
+
+
+def names(sources: list[Source]) -> Iterator[str]:
+    """Each file that is written below the folder of pages."""
+    yield DATA
+    yield from (column.file for column in COLUMNS)
+    yield from (page_name(source) for source in sources)
+
+
+def written(report: Report, words: Words) -> Iterator[tuple[str, str]]:
+    """Each file with its text, the index last."""
+    for source in report.sources:
+        name = page_name(source.source)
+        yield name, source_page(source, words, "../" * name.count("/") + ANSWER.file)
+    for column in COLUMNS:
+        if column is not ANSWER:
+            yield column.file, index_page(report, column, words)
+    yield DATA, as_json.written(report)
+    yield ANSWER.file, index_page(report, ANSWER, words)
+
+
+def page_name(source: Source) -> str:
+    return f"sources/{made_path(source.name, '.html')}"
 
 
 def page(title: str, body: str) -> str:
@@ -37,122 +86,183 @@ def page(title: str, body: str) -> str:
     )
 
 
-def name_of(result: Result) -> str:
-    return escape(shown(os.fsencode(result.source)))
+def source_link(source: SourceReport, line: int | None = None) -> str:
+    place, text = (f"#L{line}", f"{source.name}:{line}") if line else ("", source.name)
+    return f'<a href="{urllib.parse.quote(os.fsencode(page_name(source.source)))}{place}">{escape(text)}</a>'
 
 
-def verdict_of(result: Result) -> str:
-    verdict = result.answer.verdict
-    text = counted(len(result.answer.alarms), "alarm") if verdict == Verdict.ALARMS else verdict.name.lower()
-    return f'<span class="verdict {verdict.name.lower()}">{text}</span>'
+def verdict_of(source: SourceReport) -> str:
+    """The verdict, and of a refusal its rule."""
+    name = source.verdict.name.lower()
+    alarms, warnings = counted(len(source.alarms()), "alarm"), counted(len(source.warnings()), "warning")
+    text = {Verdict.ALARMS: alarms, Verdict.WARNED: warnings}.get(source.verdict) or UNITS[source.verdict]
+    rule = f" {escape(source.findings[0].rule)}" if source.verdict == Verdict.REFUSED else ""
+    known = "" if source.weight == source.verdict else ' <span class="new">known</span>'
+    return f'<span class="verdict {name}">{text}</span>{rule}{known}'
 
 
-def index_page(results: list[Result]) -> str:
-    """The index, the worst sources first."""
-    head = "".join(f'<th class="count">{name}</th>' for name in (*SENTENCES, "Nodes", "Cells"))
-    rows = "\n".join(index_row(result) for result in sorted(results, key=lambda result: -result.answer.verdict))
-    return page(
-        "Cobsound report",
-        f'<h1>Cobsound report</h1>\n<p class="facts">{summary(results)}</p>\n<div class="wide">'
-        f'<table class="index">\n<tr><th>Source</th><th>Answer</th>{head}</tr>\n{rows}\n</table></div>',
+def index_page(report: Report, order: Column, words: Words) -> str:
+    head = "".join(heading(column, order) for column in COLUMNS)
+    rows = "\n".join(index_row(source) for source in sorted(report.sources, key=order.key))
+    parts = [
+        "<h1>Cobsound report</h1>",
+        f'<p class="facts">{made_by(report)}</p>',
+        bar(report),
+        f"<p>{escape(report.summary())}</p>",
+        *(f"<p>{escape(capital(idle))}.</p>" for idle in report.idle),
+        news(report),
+        gone(report),
+        causes_of_refusals(report, words),
+        f'<h2>Sources</h2>\n<div class="wide"><table class="index">\n<tr>{head}</tr>\n{rows}\n</table></div>',
+    ]
+    return page("Cobsound report", "\n".join(part for part in parts if part))
+
+
+def made_by(report: Report) -> str:
+    call = report.call
+    facts = [f"{call.when:%Y-%m-%d %H:%M}", f"Cobsound {VERSION}", f"program {call.program_sum[:12]}"]
+    facts += [f"commit {call.commit}"] if call.commit else []
+    return " · ".join(escape(fact) for fact in facts)
+
+
+def bar(report: Report) -> str:
+    """How many sources have each verdict, as a bar."""
+    counts = {verdict: sum(source.verdict == verdict for source in report.sources) for verdict in Verdict}
+    parts = (
+        f'<span class="{verdict.name.lower()}" style="flex-grow: {count}"></span>'
+        for verdict, count in counts.items()
+        if count
     )
+    return f'<div class="bar" aria-hidden="true">{"".join(parts)}</div>'
 
 
-def index_row(result: Result) -> str:
-    kinds = [alarm.kind for alarm in result.answer.alarms]
-    counts = [*(kinds.count(kind) or "" for kind in SENTENCES), result.nodes, result.cells]
-    cells = "".join(f'<td class="count">{"" if count is None else count}</td>' for count in counts)
-    link = urllib.parse.quote(os.fsencode(page_name(result)))
-    return f'<tr><td><a href="{link}">{name_of(result)}</a></td><td>{verdict_of(result)}</td>{cells}</tr>'
+def news(report: Report) -> str:
+    """What is new since the report that stood here before."""
+    if not report.earlier:
+        return ""
+    found = [(source, finding) for source, finding in report.findings() if finding.is_new]
+    gone = report.earlier.gone(list(report.sources))
+    told = f"<h2>Since {escape(report.earlier.when[:16].replace('T', ' '))}</h2>\n<p>{len(found)} new, {gone} gone</p>"
+    rows = "\n".join(f"<li>{source_link(source, finding.line)} {told_short(finding)}</li>" for source, finding in found)
+    return f"{told}\n<ul>\n{rows}\n</ul>" if rows else told
 
 
-def source_page(result: Result, words: Words, index: str) -> str:
-    is_read = os.path.isfile(result.source)
-    listing = Listing(result.source) if is_read else None
-    facts = [verdict_of(result)]
-    if result.nodes is not None:
-        kept = "kept, and checked again" if result.is_kept else "made anew, and checked"
-        facts.append(f"certificate of {counted(result.nodes, 'node')} and {counted(result.cells or 0, 'cell')}, {kept}")
+def gone(report: Report) -> str:
+    """What is gone of the baseline."""
+    if not report.gone:
+        return ""
+    rows = "\n".join(f"<li>{escape(known.source)}: {escape(known.told())}</li>" for known in report.gone)
+    return f"<h2>Gone of the baseline</h2>\n<ul>\n{rows}\n</ul>"
+
+
+def told_short(finding: Finding) -> str:
+    text = f" <code>{escape(finding.text)}</code>" if finding.text else f" {escape(finding.message)}"
+    return f"<b>{escape(finding.rule)}</b>{text}"
+
+
+def causes_of_refusals(report: Report, words: Words) -> str:
+    """How many sources are refused for each cause."""
+    refused = [source.findings[0] for source in report.sources if source.verdict == Verdict.REFUSED]
+    if not refused:
+        return ""
+    counts = {rule: sum(finding.rule == rule for finding in refused) for rule in sorted({f.rule for f in refused})}
+    listed = words.listed()
+    rows = "\n".join(
+        f'<tr><td>{escape(rule)}</td><td class="count">{count}</td><td>{escape(capital(listed[rule].cause))}</td></tr>'
+        for rule, count in sorted(counts.items(), key=lambda pair: -pair[1])
+    )
+    head = '<tr><th>Refusal</th><th class="count">Sources</th><th>Cause</th></tr>'
+    return f'<h2>Why refused</h2>\n<div class="wide"><table class="index">\n{head}\n{rows}\n</table></div>'
+
+
+def kind_of(column: Column) -> str:
+    return "" if column.title in ("Source", "Answer") else ' class="count"'
+
+
+def heading(column: Column, order: Column) -> str:
+    """The title of a column, which leads to the index in its order."""
+    if column is order:
+        return f'<th{kind_of(column)} aria-sort="other">{column.title}</th>'
+    return f'<th{kind_of(column)}><a href="{column.file}">{column.title}</a></th>'
+
+
+def index_row(source: SourceReport) -> str:
+    cells = (f"<td{kind_of(column)}>{column.cell(source)}</td>" for column in COLUMNS)
+    return f"<tr>{''.join(cells)}</tr>"
+
+
+def source_page(source: SourceReport, words: Words, index: str) -> str:
+    listing = Listing(source.source) if os.path.isfile(source.source.path) else None
+    facts = [verdict_of(source)]
+    if source.nodes is not None:
+        kept = "kept, and checked again" if source.is_kept else "made anew, and checked"
+        facts.append(f"certificate of {counted(source.nodes, 'node')} and {counted(source.cells or 0, 'cell')}, {kept}")
     if listing:
         facts.append(counted(len(listing.lines), "line"))
     return page(
-        name_of(result),
-        f'<nav><a href="{index}">All sources</a></nav>\n<h1>{name_of(result)}</h1>\n'
-        f'<p class="facts">{" · ".join(facts)}</p>\n{causes(result, words)}'
-        + (f"\n<h2>Listing</h2>\n{table(result, words, listing)}" if listing else ""),
+        escape(source.name),
+        f'<nav><a href="{index}">All sources</a></nav>\n<h1>{escape(source.name)}</h1>\n'
+        f'<p class="facts">{" · ".join(facts)}</p>\n{causes(source, words)}'
+        + (f"\n<h2>Listing</h2>\n{listing_table(source, listing)}" if listing else ""),
     )
 
 
-def causes(result: Result, words: Words) -> str:
+def causes(source: SourceReport, words: Words) -> str:
     """What is to be said of the whole source: its alarms with links to their lines, or why there is no report."""
-    answer = result.answer
-    if answer.verdict == Verdict.CLEAN:
+    if source.verdict == Verdict.CLEAN:
         return "<p>Whatever its input files hold, no run of this program meets a fault that it doesn't handle.</p>"
-    if answer.verdict == Verdict.ALARMS:
-        lines = (f'<li><a href="#L{a.line}">Line {a.line}</a>: {escape(sentence(a))}</li>' for a in answer.alarms)
-        return "<h2>Alarms</h2>\n<ol>\n" + "\n".join(lines) + "\n</ol>"
-    line, _ = answer.place()
-    if line is not None:
-        return f'<p>The program refuses this source: see <a href="#L{line}">line {line}</a>.</p>'
-    return f"<p>Not analysed: <code>{escape(answer.told)}</code>. {described(words.refusal(answer.told))}</p>"
+    first, *others = source.findings
+    if source.verdict > Verdict.ALARMS and first.line is None:
+        return f"<p>{escape(capital(first.message))}.{advised(first.advice)}</p>"
+    parts = []
+    if source.verdict == Verdict.REFUSED:
+        parts.append(f'<p>Cobsound refuses this source: see <a href="#L{first.line}">line {first.line}</a>.</p>')
+        parts += [found_table("What else is seen in it", others, seen_row)] if others else []
+    if source.alarms():
+        parts += [found_table("Alarms", source.alarms(), alarm_row), meanings(source, words)]
+    if source.warnings():
+        parts.append(found_table("Warnings", source.warnings(), seen_row))
+    return "\n".join(parts)
 
 
-def described(entry: Entry) -> str:
-    advice = f" <i>What to do:</i> {escape(entry.advice)}." if entry.advice else ""
-    return f"{escape(entry.cause[:1].upper() + entry.cause[1:])}.{advice}"
+def found_table(title: str, findings: list[Finding], row: Callable[[Finding], str]) -> str:
+    rows = "\n".join(row(finding) for finding in findings)
+    return f'<h2>{title}</h2>\n<table class="found">\n{rows}\n</table>'
 
 
-Note = tuple[str, Span, str]  # its class, what it marks, and its text
+def alarm_row(alarm: Finding) -> str:
+    text = f"<code>{escape(alarm.text)}</code>{marks(alarm)}{witnessed(alarm)}"
+    return f'<tr><td class="place">{line_link(alarm)}</td><td><b>{alarm.rule}</b></td><td>{text}</td></tr>'
 
 
-def notes(result: Result, words: Words, listing: Listing) -> dict[int, list[Note]]:
-    """What stands below each line."""
-    found: dict[int, list[Note]] = {}
-    for alarm in result.answer.alarms:
-        found.setdefault(alarm.line, []).append(("warning", listing.alarm_span(alarm), of_alarm(alarm, words)))
-    line, column = result.answer.place()
-    if line is not None:
-        text = f"<b>{escape(result.answer.told)}</b>. {described(words.refusal(result.answer.told))}"
-        found[line] = [("error", listing.refusal_span(line, column), text)]
-    return found
+def witnessed(alarm: Finding) -> str:
+    """What is known of an alarm, with links to the input files that meet it."""
+    if not alarm.witness:
+        return ""
+    files = " ".join(f'<a href="{file.absolute().as_uri()}">{escape(file.name)}</a>' for file in alarm.witness.files)
+    return f'<br>{escape(capital(alarm.witness.told))}{" " if files else ""}{files}'
 
 
-def of_alarm(alarm: Alarm, words: Words) -> str:
-    entry = words.kinds.get(alarm.kind, Entry(SENTENCES[alarm.kind], ""))
-    return f"<b>{alarm.kind}</b> at statement {alarm.statement}. {described(entry)}"
+def seen_row(finding: Finding) -> str:
+    text = f"{escape(finding.message)}.{advised(finding.advice)}{marks(finding)}"
+    return f'<tr><td class="place">{line_link(finding)}</td><td>{text}</td></tr>'
 
 
-def table(result: Result, words: Words, listing: Listing) -> str:
-    below = notes(result, words, listing)
-    rows = (row(number, line, below.get(number, [])) for number, line in enumerate(listing.lines, 1))
-    return '<div class="wide"><table class="listing">\n' + "\n".join(rows) + "\n</table></div>"
+def line_link(finding: Finding) -> str:
+    return f'<a href="#L{finding.line}">Line {finding.line}</a>'
 
 
-def row(number: int, line: str, below: list[Note]) -> str:
-    """A line of the listing, and what is to be said of it."""
-    kind = f' class="{below[0][0]}"' if below else ""
-    code = marked(line, [span for _, span, _ in below]) if below else plain(line)
-    said = "".join(f'\n<tr class="note {kind}"><td class="number"></td><td>{text}</td></tr>' for kind, _, text in below)
-    number_cell = f'<td class="number"><a href="#L{number}">{number}</a></td>'
-    return f'<tr id="L{number}"{kind}>{number_cell}<td class="code">{code}</td></tr>{said}'
+def meanings(source: SourceReport, words: Words) -> str:
+    """What the kinds of these alarms mean, each once."""
+    kinds = [kind for kind in SENTENCES if any(alarm.rule == kind for alarm in source.alarms())]
+    entries = {kind: words.kinds.get(kind, Entry(SENTENCES[kind], "")) for kind in kinds}
+    rows = (f"<dt>{kind}</dt>\n<dd>{escape(capital(e.cause))}.{advised(e.advice)}</dd>" for kind, e in entries.items())
+    return "<dl>\n" + "\n".join(rows) + "\n</dl>"
 
 
-def plain(line: str) -> str:
-    """A line, with what isn't its text (the columns before 8 and behind 72, comments) in pale."""
-    if line[6:7].strip(" -"):
-        return f'<span class="outside">{escape(line)}</span>'
-    before, text, behind = line[:6], line[6:72], line[72:]
-    return "".join(
-        f'<span class="outside">{escape(part)}</span>' if part is not text and part.strip() else escape(part)
-        for part in (before, text, behind)
-    )
+def advised(advice: str) -> str:
+    return f" <i>What to do:</i> {escape(advice)}." if advice else ""
 
 
-def marked(line: str, spans: list[Span]) -> str:
-    """A line with these characters marked, each once."""
-    parts, at = [], 0
-    for span in sorted(spans, key=lambda span: span.first):
-        if span.first >= at:
-            parts += [escape(line[at : span.first]), f"<mark>{escape(line[span.first : span.behind])}</mark>"]
-            at = span.behind
-    return "".join(parts) + escape(line[at:])
+def capital(text: str) -> str:
+    return text[:1].upper() + text[1:]

@@ -1,26 +1,41 @@
 """The program, asked about a source. Certificates are kept under names that follow the sources' paths."""
 
+import hashlib
 import os
 import pathlib
 import re
 import subprocess
 import tempfile
+import threading
+import time
 from dataclasses import dataclass
 
+from . import ROOT
 from .answers import Answer, Verdict, answer_of
+from .sources import Source
 
-ROOT = pathlib.Path(__file__).resolve().parents[2]
+# Endings of files that are made below a folder for each source.
+MADE = (".cert", ".made", ".html")
+
+
+class Stopped(Exception):
+    """The tool was told to stop."""
+
+
+class TimeIsUp(Exception):
+    """A source has had its time."""
 
 
 @dataclass(frozen=True)
 class Result:
     """What came of a source; `cells` and `nodes` are those of its certificate, where one was written or kept."""
 
-    source: str
+    source: Source
     answer: Answer
     cells: int | None = None
     nodes: int | None = None
     is_kept: bool = False
+    seconds: float = 0
 
 
 def found_program() -> str:
@@ -41,51 +56,141 @@ def inner_path(source: str) -> str:
     return os.path.abspath(path).lstrip("/") if path.startswith(("/", "..")) else path
 
 
+def made_path(source: str, ending: str) -> str:
+    """The path below another folder of what is made for a source. No folder there has the name of such a file: a sign
+    stands behind one that would."""
+    *folders, name = inner_path(source).split("/")
+    return "/".join([*(f"{folder}~" if folder.endswith((*MADE, "~")) else folder for folder in folders), name + ending])
+
+
 def as_name(path: str) -> str:
     """The path as a word that can't be taken for an option."""
     return f"./{path}" if path.startswith("-") else path
 
 
-class Analyser:
-    """Analyses sources with a program, and keeps their certificates in a folder."""
+def sum_of(path: str) -> str:
+    return hashlib.sha256(pathlib.Path(path).read_bytes()).hexdigest()
 
-    def __init__(self, program: str, folder: pathlib.Path):
+
+class Program:
+    """The program of a path. Threads may ask it side by side; `stop` ends what it is working on."""
+
+    def __init__(self, path: str):
+        self.path = path
+        self.running: set[subprocess.Popen] = set()
+        self.lock = threading.Lock()
+        self.is_stopped = False
+
+    def asked(self, command: str, source: str, certificate: pathlib.Path, deadline: float) -> Answer:
+        """The answer to a command, which must come before the deadline of the clock `time.monotonic`."""
+        process = self.started([self.path, command, as_name(source), as_name(str(certificate))])
+        try:
+            out, _ = process.communicate(timeout=max(deadline - time.monotonic(), 0))
+        except subprocess.TimeoutExpired:
+            process.kill()
+            process.communicate()
+            raise TimeIsUp from None
+        finally:
+            self.running.discard(process)
+        return answer_of(process.returncode, out.decode("latin-1"))
+
+    def started(self, words: list[str]) -> subprocess.Popen:
+        with self.lock:
+            if self.is_stopped:
+                raise Stopped
+            streams = {"stdin": subprocess.DEVNULL, "stdout": subprocess.PIPE, "stderr": subprocess.DEVNULL}
+            process = subprocess.Popen(words, **streams)
+            self.running.add(process)
+            return process
+
+    def stop(self) -> None:
+        with self.lock:
+            self.is_stopped = True
+            for process in list(self.running):
+                process.kill()
+
+
+class Analyser:
+    """Analyses sources with a program, and keeps their certificates in a folder. A source takes `seconds` at most."""
+
+    def __init__(self, program: Program, folder: pathlib.Path, seconds: float):
         self.program = program
         self.folder = folder
+        self.seconds = seconds
+        self.program_sum = sum_of(program.path)
 
-    def asked(self, command: str, source: str, certificate: pathlib.Path) -> Answer:
-        words = [self.program, command, as_name(source), as_name(str(certificate))]
-        done = subprocess.run(words, stdin=subprocess.DEVNULL, capture_output=True)
-        return answer_of(done.returncode, done.stdout.decode("latin-1"))
+    def certificate_of(self, source: Source) -> pathlib.Path:
+        return self.place_of(source, ".cert")
 
-    def certificate_of(self, source: str) -> pathlib.Path:
-        return self.folder / f"{inner_path(source)}.cert"
+    def note_of(self, source: Source) -> pathlib.Path:
+        """The file that says of which source, and by which program, a certificate with alarms was made."""
+        return self.place_of(source, ".made")
 
-    def result(self, source: str) -> Result:
-        """What is to be said of a source: that its certificate still checks clean, else what an analysis says."""
+    def place_of(self, source: Source, ending: str) -> pathlib.Path:
+        """Of a source that is no file nothing is kept: what is made for it lies beside its copy."""
+        if not source.is_file:
+            return pathlib.Path(source.path + ending)
+        return self.folder / made_path(source.name, ending)
+
+    def note(self, source: Source) -> str:
+        return f"source {sum_of(source.path)}\nprogram {self.program_sum}\n"
+
+    def result(self, source: Source) -> Result:
+        """What is to be said of a source: what its kept certificate says where nothing better can be had, else what an
+        analysis says."""
+        begun = time.monotonic()
         try:
-            kept = self.certificate_of(source)
-            if kept.exists() and self.asked("check", source, kept).verdict == Verdict.CLEAN:
-                return Result(source, Answer(Verdict.CLEAN), *shape_of(kept), is_kept=True)
-            return self.analysed(source, kept)
+            found = self.found(source, begun + self.seconds)
+        except TimeIsUp:
+            told = f"no answer within {self.seconds:g} seconds"
+            found = Result(source, Answer(Verdict.TIMEOUT, told=told))
         except OSError as error:
-            return Result(source, Answer(Verdict.FAILED, told=str(error)))
+            found = Result(source, Answer(Verdict.FAILED, told=told_of(error)))
+        return Result(found.source, found.answer, found.cells, found.nodes, found.is_kept, time.monotonic() - begun)
 
-    def analysed(self, source: str, kept: pathlib.Path) -> Result:
+    def found(self, source: Source, deadline: float) -> Result:
+        kept = self.certificate_of(source)
+        if kept.exists():
+            answer = self.program.asked("check", source.path, kept, deadline)
+            if answer.verdict == Verdict.CLEAN or answer.verdict == Verdict.ALARMS and self.is_unchanged(source):
+                return Result(source, answer, *shape_of(kept), is_kept=True)
+        return self.analysed(source, kept, deadline)
+
+    def is_unchanged(self, source: Source) -> bool:
+        """Whether an analysis would find the certificate that is kept: of this source, by this program."""
+        note = self.note_of(source)
+        return note.exists() and note.read_text("latin-1") == self.note(source)
+
+    def analysed(self, source: Source, kept: pathlib.Path, deadline: float) -> Result:
         """Analyses a source. Its certificate takes the kept one's place when `check` has said the same of it."""
         kept.parent.mkdir(parents=True, exist_ok=True)
         with tempfile.TemporaryDirectory(dir=kept.parent, prefix=".") as folder:
             written = pathlib.Path(folder, "certificate")
-            answer = self.asked("analyse", source, written)
+            note = pathlib.Path(folder, "note")
+            answer = self.program.asked("analyse", source.path, written, deadline)
             if answer.verdict > Verdict.ALARMS:
                 return Result(source, answer)
-            checked = self.asked("check", source, written)
+            note.write_text(self.note(source))
+            checked = self.program.asked("check", source.path, written, deadline)
             if checked != answer:
                 said = checked.told or f"{checked.verdict.name.lower()}, {len(checked.alarms)} alarms"
                 return Result(source, Answer(Verdict.FAILED, told=f"`check` of the new certificate disagrees: {said}"))
             shape = shape_of(written)
-            written.replace(kept)
+            self.keep(source, answer, written, note)
             return Result(source, answer, *shape)
+
+    def keep(self, source: Source, answer: Answer, written: pathlib.Path, note: pathlib.Path) -> None:
+        """Keeps a certificate. The old one's note goes before it, and the new one's comes behind it."""
+        self.note_of(source).unlink(missing_ok=True)
+        written.replace(self.certificate_of(source))
+        if answer.verdict == Verdict.ALARMS:
+            note.replace(self.note_of(source))
+
+
+def told_of(error: OSError) -> str:
+    """What failed, as a shell's commands tell it."""
+    cause = error.strerror or str(error)
+    return f"{os.fsdecode(error.filename)}: {cause}" if isinstance(error.filename, str | bytes) else cause
 
 
 def shape_of(certificate: pathlib.Path) -> tuple[int, int]:

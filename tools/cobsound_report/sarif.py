@@ -4,111 +4,159 @@ import json
 import os
 import pathlib
 import urllib.parse
-from collections.abc import Iterator
 
-from . import VERSION
+from . import ROOT, VERSION
 from .answers import Verdict
-from .program import Result
-from .sources import Listing, Span
-from .words import SENTENCES, Entry, Words, rule_of, sentence
+from .baseline import Known
+from .findings import Finding, Item, Level, SourceReport
+from .report import Report
+from .sources import Source, Span
+from .remarks import PARAGRAPH
+from .words import SEEN, SENTENCES, Entry, Words
 
 SCHEMA = "https://docs.oasis-open.org/sarif/sarif/v2.1.0/errata01/os/schemas/sarif-schema-2.1.0.json"
+GUIDE = (ROOT / "docs/GUIDE.md").as_uri()
+
+# Relative addresses of sources begin in the folder of the call.
+BASE = "%SRCROOT%"
+
+# The name says how the fingerprint is made.
+FINGERPRINT = "ruleParagraphStatementOccurrence/v1"
 
 
-def write(file: pathlib.Path, results: list[Result], words: Words) -> None:
-    file.parent.mkdir(parents=True, exist_ok=True)
-    file.write_text(json.dumps(log(results, words), indent=2) + "\n", "ascii")
+def written(report: Report, words: Words) -> str:
+    return json.dumps(log(report, words), indent=2) + "\n"
 
 
-def log(results: list[Result], words: Words) -> dict:
+def log(report: Report, words: Words) -> dict:
     rules = words.listed()
-    driver = {
-        "name": "cobsound-report",
-        "version": VERSION,
-        "semanticVersion": VERSION,
-        "rules": [rule(name, entry) for name, entry in rules.items()],
-    }
-    worst = max(result.answer.verdict for result in results)
+    names = list(rules)
+    failed = [pair for pair in report.findings() if is_failure(pair[0])]
+    found = [pair for pair in report.findings() if not is_failure(pair[0])]
     invocation = {
-        "executionSuccessful": worst != Verdict.FAILED,
-        "exitCode": int(worst),
-        "toolExecutionNotifications": [notification(result) for result in results if is_failed(result)],
+        "executionSuccessful": not failed,
+        "exitCode": report.worst.status,
+        "toolExecutionNotifications": [notification(source, finding) for source, finding in failed],
     }
-    found = [finding for result in results for finding in findings(result, words, list(rules))]
+    found_told = [result(source, finding, names, report) for source, finding in found]
     run = {
-        "tool": {"driver": driver},
+        "tool": {"driver": driver(rules), "extensions": [analyser(report)]},
         "invocations": [invocation],
+        "originalUriBaseIds": {BASE: {"uri": pathlib.Path(report.call.folder).as_uri() + "/"}},
         "columnKind": "unicodeCodePoints",
-        "results": found,
+        "results": [*found_told, *(absent(known, names) for known in report.gone)],
     }
     return {"$schema": SCHEMA, "version": "2.1.0", "runs": [run]}
 
 
-def is_failed(result: Result) -> bool:
-    return result.answer.verdict == Verdict.FAILED
+def driver(rules: dict[str, Entry]) -> dict:
+    return {
+        "name": "cobsound-report",
+        "version": VERSION,
+        "semanticVersion": VERSION,
+        "informationUri": GUIDE,
+        "rules": [rule(name, entry) for name, entry in rules.items()],
+    }
+
+
+def analyser(report: Report) -> dict:
+    """The program that answered, by its sum."""
+    return {"name": "cobsound", "version": VERSION, "properties": {"sha256": report.call.program_sum}}
+
+
+def is_failure(source: SourceReport) -> bool:
+    return source.verdict > Verdict.REFUSED
 
 
 def rule(name: str, entry: Entry) -> dict:
+    is_alarm = name in SENTENCES
+    level = Level.WARNING if is_alarm or name == PARAGRAPH else Level.ERROR
     return {
         "id": name,
         "shortDescription": {"text": SENTENCES.get(name, entry.cause)},
         "fullDescription": {"text": entry.cause},
         "help": {"text": entry.advice or entry.cause},
-        "defaultConfiguration": {"level": level(name)},
+        "helpUri": f"{GUIDE}#{heading(name)}",
+        "defaultConfiguration": {"level": level.value},
     }
 
 
-def level(rule_name: str) -> str:
-    return "warning" if rule_name in SENTENCES else "error"
+def heading(name: str) -> str:
+    """The part of the guide that has a rule."""
+    if name in SENTENCES:
+        return "the-report"
+    return "what-isnt-in-the-profile" if name in SEEN else "refusals"
 
 
-def findings(result: Result, words: Words, rules: list[str]) -> Iterator[dict]:
-    """A result of SARIF for each alarm, or for a refusal."""
-    if result.answer.verdict == Verdict.ALARMS:
-        listing = Listing(result.source)
-        for alarm in result.answer.alarms:
-            where = region(alarm.line, listing.alarm_span(alarm))
-            yield {
-                **finding(alarm.kind, rules, sentence(alarm), location(result.source, where)),
-                "properties": {"statement": alarm.statement},
-            }
-    elif result.answer.verdict == Verdict.REFUSED:
-        line, column = result.answer.place()
-        where = region(line, Listing(result.source).refusal_span(line, column)) if line is not None else None
-        told = result.answer.told
-        yield finding(rule_of(told), rules, words.refusal(told).cause, location(result.source, where))
+def result(source: SourceReport, finding: Finding, rules: list[str], report: Report) -> dict:
+    """A result of SARIF for an alarm, a warning or a refusal."""
+    told = {
+        "ruleId": finding.rule,
+        "ruleIndex": rules.index(finding.rule) if finding.rule in rules else -1,
+        "level": finding.level.value,
+        "message": {"text": finding.message},
+        "locations": [location(source.source, finding.line, finding.span)],
+        "partialFingerprints": {FINGERPRINT: finding.fingerprint},
+    }
+    if report.baseline:
+        told["baselineState"] = "unchanged" if finding.is_known else "new"
+    if finding.reason:
+        told["suppressions"] = [{"kind": "external", "status": "accepted", "justification": finding.reason}]
+    if finding.items:
+        told["relatedLocations"] = [declaration(source.source, item, at) for at, item in enumerate(finding.items, 1)]
+    if finding.witness:
+        told["rank"] = finding.witness.rank
+        if finding.witness.files:
+            told["attachments"] = [attachment(file) for file in finding.witness.files]
+    if finding.statement is not None:
+        told["properties"] = {"statement": finding.statement, "paragraph": finding.paragraph, "text": finding.text}
+    return told
 
 
-def finding(name: str, rules: list[str], message: str, place: dict) -> dict:
+def attachment(file: pathlib.Path) -> dict:
+    """An input file with which a run meets the fault."""
+    text = f"{file.name}, an input file of a run that meets this"
+    return {"description": {"text": text}, "artifactLocation": artifact(str(file))}
+
+
+def absent(known: Known, rules: list[str]) -> dict:
+    """A finding of the baseline that is gone."""
     return {
-        "ruleId": name,
-        "ruleIndex": rules.index(name) if name in rules else -1,
-        "level": level(name),
-        "message": {"text": message},
-        "locations": [place],
+        "ruleId": known.rule,
+        "ruleIndex": rules.index(known.rule) if known.rule in rules else -1,
+        "message": {"text": known.told()},
+        "locations": [{"physicalLocation": {"artifactLocation": artifact(known.source)}}],
+        "partialFingerprints": {FINGERPRINT: known.fingerprint},
+        "baselineState": "absent",
     }
 
 
-def notification(result: Result) -> dict:
+def declaration(source: Source, item: Item, number: int) -> dict:
+    """Where an item of the statement is declared."""
+    message = {"text": f"{item.name} is declared here"}
+    return {"id": number, "message": message, **location(source, item.line, item.span)}
+
+
+def notification(source: SourceReport, finding: Finding) -> dict:
     return {
         "level": "error",
-        "message": {"text": f"not analysed: {result.answer.told}"},
-        "locations": [location(result.source, None)],
+        "message": {"text": finding.message},
+        "locations": [location(source.source, None, None)],
     }
 
 
-def location(source: str, where: dict | None) -> dict:
-    place: dict = {"artifactLocation": {"uri": uri(source)}}
-    return {"physicalLocation": place | ({"region": where} if where else {})}
+def location(source: Source, line: int | None, span: Span | None) -> dict:
+    place: dict = {"artifactLocation": artifact(source.name)}
+    return {"physicalLocation": place | ({"region": region(line, span)} if line and span else {})}
 
 
 def region(line: int, span: Span) -> dict:
     return {"startLine": line, "startColumn": span.first + 1, "endColumn": max(span.behind, span.first + 1) + 1}
 
 
-def uri(source: str) -> str:
-    """The source's path from the current folder; where it lies elsewhere, its whole address."""
-    path = pathlib.PurePath(source)
+def artifact(name: str) -> dict:
+    """The source's path from the folder of the call; where it lies elsewhere, its whole address."""
+    path = pathlib.PurePath(name)
     if path.is_absolute() or path.parts[:1] == ("..",):
-        return pathlib.Path(os.path.abspath(source)).as_uri()
-    return urllib.parse.quote(os.fsencode(source))
+        return {"uri": pathlib.Path(os.path.abspath(name)).as_uri()}
+    return {"uri": urllib.parse.quote(os.fsencode(name)), "uriBaseId": BASE}

@@ -1,23 +1,50 @@
-"""Sources in fixed form: which files they are, their lines, and where their statements stand."""
+"""Sources in fixed form: which files they are, and their lines as they can be shown."""
 
 import os
-import re
+import pathlib
 from collections.abc import Iterator
 from dataclasses import dataclass
 
-from .answers import Alarm
+from .scan import lines_of
+from .statements import Statement, Text
 
 ENDINGS = (".cob", ".cbl", ".cobol")
-VERBS = frozenset(
-    "ADD CLOSE COMPUTE CONTINUE DISPLAY DIVIDE EVALUATE EXIT GO IF MOVE MULTIPLY OPEN PERFORM READ SET STOP SUBTRACT "
-    "WRITE".split()
-)
+STANDARD_INPUT = "-"
 
 
-def sources_at(paths: list[str]) -> list[str]:
-    """The files that are named, and those below the folders that are, each once."""
-    found = dict.fromkeys(os.path.normpath(source) for path in paths for source in sources_of(path))
-    return list(found)
+@dataclass(frozen=True)
+class Source:
+    """A source: the name under which it is told, and the path under which it can be read, which is that of a copy where
+    it is no file."""
+
+    name: str
+    path: str
+    is_file: bool = True
+
+    @classmethod
+    def at(cls, path: str) -> "Source":
+        return cls(path, path)
+
+
+def sources_at(paths: list[str], folder: pathlib.Path) -> list[Source]:
+    """The files that are named, those below the folders that are, and what comes on standard input where a hyphen is
+    named, which is kept in `folder`; each once."""
+    found: dict[str, Source] = {}
+    for path in paths:
+        if path == STANDARD_INPUT:
+            found.setdefault("<stdin>", standard_input(folder))
+        else:
+            names = (os.path.normpath(name) for name in sources_of(path))
+            found.update((name, Source.at(name)) for name in names if name not in found)
+    return list(found.values())
+
+
+def standard_input(folder: pathlib.Path) -> Source:
+    copy = folder / "stdin.cob"
+    if not copy.exists():
+        with open(0, "rb", closefd=False) as given:
+            copy.write_bytes(given.read())
+    return Source("<stdin>", str(copy), is_file=False)
 
 
 def sources_of(path: str) -> Iterator[str]:
@@ -60,15 +87,19 @@ def shown(raw: bytes) -> str:
 class Listing:
     """The lines of a source, numbered from 1."""
 
-    def __init__(self, source: str):
-        with open(source, "rb") as file:
-            raw = file.read().split(b"\n")
-        self.raw = [line.removesuffix(b"\r") for line in (raw if raw[-1] else raw[:-1])]
+    def __init__(self, source: Source):
+        with open(source.path, "rb") as file:
+            self.bytes = file.read()
+        self.raw = lines_of(self.bytes)
         self.lines = [shown(line) for line in self.raw]
-        self.statements = statements_in(self.raw)
+        self.text = Text(self.raw)
 
     def line(self, number: int) -> str:
         return self.lines[number - 1] if 1 <= number <= len(self.lines) else ""
+
+    def statement(self, number: int) -> Statement | None:
+        """A statement by its number, where there is one."""
+        return self.text.statements[number - 1] if 1 <= number <= len(self.text.statements) else None
 
     def span(self, line: int, column: int, length: int) -> Span:
         """The characters of so many bytes from a column on."""
@@ -84,45 +115,3 @@ class Listing:
         raw = self.raw[line - 1][:72] if 1 <= line <= len(self.raw) else b""
         text = raw[7:].strip()
         return self.span(line, 1 + raw.find(text, 7) if text else 1, len(text))
-
-    def alarm_span(self, alarm: Alarm) -> Span:
-        """The first word of an alarm's statement; the whole text of its line where that isn't found."""
-        if alarm.statement <= len(self.statements):
-            line, column, length = self.statements[alarm.statement - 1]
-            if line == alarm.line:
-                return self.span(line, column, length)
-        return self.text_span(alarm.line)
-
-
-def statements_in(lines: list[bytes]) -> list[tuple[int, int, int]]:
-    """The line, the column and the length of the verb of each statement, in order: each verb behind PROCEDURE DIVISION
-    begins one, since no name is a verb."""
-    text, places = text_of(lines)
-    start = re.search(r"(?<![A-Z0-9-])PROCEDURE\s+DIVISION(?![A-Z0-9-])", text, re.I)
-    words = re.compile(r"[A-Z0-9-]+", re.I).finditer(text, start.end() if start else len(text))
-    return [(*places[word.start()], len(word[0])) for word in words if word[0].upper() in VERBS]
-
-
-def text_of(lines: list[bytes]) -> tuple[str, list[tuple[int, int]]]:
-    """The text with the line and the column of each character. Comment lines are left out, continuations are joined,
-    and literals are points."""
-    text: list[str] = []
-    places: list[tuple[int, int]] = []
-    mark = ""
-    for number, raw in enumerate(lines, 1):
-        line = raw.decode("latin-1").ljust(72)[:72]
-        at = 7
-        if line[6] in "*/Dd" or not line[7:].strip():
-            continue
-        if line[6] == "-":
-            at = 72 - len(line[7:].lstrip()) + (1 if mark else 0)
-            while text and text[-1] == " " and not mark:
-                text.pop()
-                places.pop()
-        for column, character in enumerate(f"{line[at:]} ", at + 1):
-            is_quoted = bool(mark) or character in "'\""
-            if character in "'\"" and mark in ("", character):
-                mark = "" if mark else character
-            text.append("." if is_quoted else character)
-            places.append((number, column))
-    return "".join(text), places

@@ -4,8 +4,9 @@ import re
 from collections.abc import Iterator
 from dataclasses import dataclass
 
+from . import ROOT
 from .answers import Alarm
-from .program import ROOT
+from .remarks import FORM, MISSING, OUTSIDE, PARAGRAPH, UNDECLARED, Reader
 
 # What an alarm says in a line.
 SENTENCES = {
@@ -13,6 +14,21 @@ SENTENCES = {
     "TRUNCATION": "what this statement moves may lose a high-order digit",
     "ZERO": "a divisor of this statement may be 0",
     "CLASS": "an operand of this statement may not be numeric",
+}
+
+# What the tool itself sees in a source, and what is to be done.
+SEEN = {
+    OUTSIDE: (
+        "a word, or a way to write, that isn't in the profile",
+        "see the table \"What isn't in the profile\" in GUIDE.md",
+    ),
+    UNDECLARED: ("a name that nothing declares as what it is used for", "declare it, or correct it"),
+    MISSING: ("a division, section or paragraph is missing", "write its header"),
+    FORM: ("a source in free form or in EBCDIC", "bring it into fixed form in ASCII"),
+    PARAGRAPH: (
+        "a word that begins statements elsewhere is taken as a paragraph's name, so that the program goes on behind it",
+        "write what the profile has for it, or leave it out",
+    ),
 }
 
 # The refusals of a source that have a row of their own in the guide.
@@ -59,6 +75,7 @@ class Words:
     """All words, by the names of alarms and refusals."""
 
     def __init__(self, guide: str, language: str):
+        self.reader = Reader(guide, language)
         self.kinds = {kind: Entry(*words) for kind, *words in rows(guide, "Kind", "Meaning", "What to do")}
         # the commands' own tables stand before the one of all refusals
         self.lines = [(line, Entry(*words)) for line, *words in rows(guide, "Line", "Cause", "What to do")]
@@ -82,7 +99,8 @@ class Words:
         plain = {line.split()[0]: line for line, _ in self.lines}
         refusals = [plain[number] for number in PLAIN_REFUSALS]
         refusals += [f"E9 {rule} line L" for rule in self.rules] + [f"E10 {word} COUNT" for word in self.limits]
-        return self.kinds | {rule_of(line): self.refusal(line) for line in refusals}
+        seen = {name: Entry(*words) for name, words in SEEN.items()}
+        return self.kinds | {rule_of(line): self.refusal(line) for line in refusals} | seen
 
 
 def filled(entry: Entry, row: str, told: str) -> Entry | None:
