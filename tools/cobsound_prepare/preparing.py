@@ -1,0 +1,92 @@
+"""From a file to its prepared source."""
+
+import codecs
+import os
+from collections.abc import Iterator
+from dataclasses import dataclass
+
+from .copying import Expander, with_replace
+from .lexing import lexed
+from .libraries import Library, is_file
+from .lines import Form, guessed_form
+from .places import Map, mapped
+from .printing import printed
+from .rewritings import REWRITINGS
+from .tokens import Note, Origin, Token
+from .work import Rewriting, Work
+
+
+@dataclass(frozen=True)
+class Applied:
+    """A rewriting, and at how many places it was made."""
+
+    rewriting: Rewriting
+    count: int
+
+
+@dataclass(frozen=True)
+class Prepared:
+    """A prepared source: its text, the map of its places, the files that were read, and what is to be told."""
+
+    text: str
+    map: Map
+    files: tuple[str, ...]
+    applied: tuple[Applied, ...]
+    notes: tuple[Note, ...]
+
+
+def prepare(path: str, folders: list[str], form: Form | None = None, encoding: str = "auto") -> Prepared:
+    """Prepares the source at a path, with copybooks in its folder and in these. A SourceError tells why it can't, an
+    OSError what can't be read."""
+    library = Library(list(folders), encoding)
+    origin = Origin(os.fspath(path))
+    if os.path.exists(path) and not is_file(path):
+        raise OSError(f"{path} is no regular file")
+    lines = library.lines(origin.file)
+    form = form or guessed_form(lines)
+    expander = Expander(library, form, False)
+    tokens = expander.expanded(origin)
+    if asks_for_debugging(tokens):
+        expander = Expander(library, form, True)
+        tokens = expander.expanded(origin)
+    work = Work(lexed(with_replace(tokens)), library.encoding)
+    applied = tuple(rewritten(work))
+    made = list(printed(work.tokens, expander.blocks))
+    text = "".join(f"{line.text.rstrip(' ') if line.columns else line.text}\n" for line in made)
+    return Prepared(text, mapped(made, origin), tuple(library.read), applied, tuple(work.notes))
+
+
+def asks_for_debugging(tokens: list[Token]) -> bool:
+    """Whether WITH DEBUGGING MODE makes code of the lines with the indicator D."""
+    for at, token in enumerate(tokens[:-1]):
+        if token.upper == "DEBUGGING" and tokens[at + 1].upper == "MODE":
+            return True
+        if token.upper == "PROCEDURE" and tokens[at + 1].upper == "DIVISION":
+            return False
+    return False
+
+
+def rewritten(work: Work) -> Iterator[Applied]:
+    """Makes all rewritings, in the order of their table."""
+    words = work.words()
+    for rewriting in REWRITINGS:
+        if rewriting.words and not rewriting.words & words:
+            continue
+        count = rewriting.apply(work)
+        if count:
+            words = work.words()
+            yield Applied(rewriting, count)
+
+
+def refused(error: UnicodeError) -> tuple[str, int]:
+    """A character that no program of the profile has, for each that Latin-1 hasn't."""
+    assert isinstance(error, UnicodeEncodeError)
+    return "\N{INVERTED QUESTION MARK}" * (error.end - error.start), error.end
+
+
+codecs.register_error("cobsound-refused", refused)
+
+
+def encoded(text: str) -> bytes:
+    """The bytes of a prepared source: one for each character, so that columns are what they were."""
+    return text.encode("latin-1", "cobsound-refused")
