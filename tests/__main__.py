@@ -4,8 +4,12 @@ A module each has the cases of a kind: `reference` those that were worked out by
 around the sample certificate, `analysed` reports of `analyse` that were worked out by hand, `analyses` sources that an
 independent program looked at, `packs` the packs of cells, `trials` those of `trial`, `programs` small programs by
 subject, `words` the words of the command line, `limits` what stands at a limit and beyond it, `outside` files and
-standard outputs that fail, `bytewise` files that give or take a byte at a time, `report`, `report_files` and `nightly`
-those of the tool around the program and of its document, `calls` the calls of libraries, `ranges` those that work with
+standard outputs that fail, `bytewise` files that give or take a byte at a time, `launching` the launcher, `report`,
+`report_calls`, `report_files`, `refusals`, `standing` and `nightly` those of the tool around the program and of its
+document, `prepare`, `prepare_texts` and `damaged_sources` those of the tool that prepares sources, `prepare_compiled`
+the same under another compiler, which takes a minute and is done where the word is `--all` or `--compiled`, `packaging`
+the packages, `costings` those of the script that watches the gate, `witness` the search for input files on one program
+(with `--witness`, or `--all`, on all of `tests/shop`), `calls` the calls of libraries, `ranges` those that work with
 ranges of numbers, `matrices` those with matrices and forms, `edges` and `diffs` those with edges of control graphs, and
 `slow` the comparison of the interpreter with the plain slow step. The last six need programs of their own, which the
 gate builds: without them their cases are left out, which is told, and is a failure where the word is `--all`. With
@@ -17,12 +21,16 @@ import sys
 from concurrent.futures import ThreadPoolExecutor
 from os import cpu_count
 
-from tests import analysed, analyses, built, bytewise, calls, diffs, edges, limits, matrices, nightly, outside, packs
-from tests import programs, ranges, reference, report, report_files, sample, slow, trials, words
+from tests import analysed, analyses, built, bytewise, calls, costings, damaged_sources, diffs, edges, launching
+from tests import limits, matrices, nightly, outside, packaging, packs, prepare, prepare_compiled, prepare_texts
+from tests import programs, ranges, reference, refusals, report, report_calls, report_files, sample, slow, standing
+from tests import trials, witness, words
 
 PLAIN = (reference, sample, analysed, analyses, packs, trials, programs, words, limits, outside, bytewise)
 
-TOOL = (report, report_files, nightly)
+REPORT = (report, report_calls, report_files, refusals, standing, nightly)
+PREPARE = (prepare, prepare_texts, damaged_sources)
+TOOL = (launching, *REPORT, *PREPARE, packaging, costings, witness)
 
 # These need programs of their own.
 DRIVEN = (calls, ranges, matrices, edges, diffs, slow)
@@ -43,7 +51,8 @@ def main():
         print(line)
     if lacking and "--all" in sys.argv[1:]:
         return 1
-    kinds = [kind for kind in (*PLAIN, *TOOL, *DRIVEN) if kind not in lacking]
+    compiled = [prepare_compiled] if {"--all", "--compiled"} & {*sys.argv[1:]} else []
+    kinds = [kind for kind in (*PLAIN, *TOOL, *compiled, *DRIVEN) if kind not in lacking]
     checks = itertools.chain.from_iterable(kind.checks() for kind in kinds)
     with ThreadPoolExecutor(cpu_count()) as pool:
         told = list(pool.map(lambda check: check(), checks))

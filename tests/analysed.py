@@ -2,7 +2,7 @@
 a difference shows to be clean, and what its words answer. The certificate that is written must be answered by `check` with
 the same report, and the other files must be as they were."""
 
-from tests.built import ROOT, Case, checks_of, launcher, ran
+from tests.built import ROOT, Case, checks_of, program_path, ran
 from tests.sample import SAMPLE
 from tests.reference import CERTIFICATE
 
@@ -134,7 +134,7 @@ def words():
 
 
 def checks():
-    path = launcher()
+    path = program_path()
     yield from checks_of((*words(), *runs()))
     yield lambda: told_of_counts(path)
     for name, source, is_wanted in reports():

@@ -10,7 +10,7 @@ import itertools
 import json
 
 from bench.sources import source, trial
-from tests.built import CASES, launcher, ran, refusal
+from tests.built import CASES, program_path, ran, refusal
 from tests.programs import source_of
 from tests.sample import PAYROLL
 
@@ -112,7 +112,7 @@ def of_length(path):
 
 
 def checks():
-    path = launcher()
+    path = program_path()
     kinds = (referenced, ruled, of_payroll, of_trials, of_length)
     cases = itertools.chain.from_iterable(kind(path) for kind in kinds)
     return [lambda case=case: told(*case) for case in cases]

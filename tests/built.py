@@ -19,15 +19,8 @@ def program(crate):
     return path if path.exists() else None
 
 
-def launcher():
-    """The launcher, which builds the program where it must; or what COBSOUND_PROGRAM names."""
-    path = pathlib.Path(os.environ.get("COBSOUND_PROGRAM") or ROOT / "cobsound")
-    subprocess.run([path], stdout=subprocess.DEVNULL)
-    return path
-
-
 def program_path():
-    """The program itself, which the launcher starts; or what COBSOUND_PROGRAM names."""
+    """The program that COBSOUND_PROGRAM names, as `tests/run` does; or else the one that the launcher starts."""
     named = os.environ.get("COBSOUND_PROGRAM")
     if named:
         return pathlib.Path(named).resolve()
@@ -86,5 +79,5 @@ def refusal(line):
 
 def checks_of(cases):
     """One check for each case."""
-    path = launcher()
+    path = program_path()
     return [lambda case=case: case.tried(path) for case in cases]

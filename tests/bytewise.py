@@ -15,7 +15,7 @@ import termios
 import threading
 import time
 
-from tests.built import ROOT, Case, checks_of, latin, launcher, ran
+from tests.built import ROOT, Case, checks_of, latin, program_path, ran
 from tests.outside import PAID, PAY, PAYING, SHOWN, WRITER, WRITTEN, ended, left_in
 from tests.reference import CERTIFICATE
 from tests.sample import PAYROLL, SAMPLE
@@ -220,4 +220,4 @@ def of_a_trial(path):
 def checks():
     kinds = (commands, records, ends, full_files)
     yield from checks_of(itertools.chain.from_iterable(kind() for kind in kinds))
-    yield lambda: of_a_trial(launcher())
+    yield lambda: of_a_trial(program_path())

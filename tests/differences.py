@@ -330,6 +330,8 @@ class Beside(Moment):
     # ---- what is written
 
     def written_by(self, word, words):
+        if word == "store" and self.keeps_receiver():
+            return []
         if word == "store":
             return [(self.given.items[words[0]].offset, self.given.items[words[0]].length)]
         return [(int(words[0]), int(words[1]))] if word == "bytes" else []
@@ -392,6 +394,8 @@ class Beside(Moment):
         item, amount = self.given.items[home], amount_of(*words)
         units, x = self.results(k), pack.place_of(home)
         fits = units is not None and fits_somewhere(item, units)
+        if self.keeps_receiver():
+            return m
         if self.edge.is_handled() and self.may_fail(item, units, amount):
             return self.forgotten_over(pack, m, item) if fits else m
         if x and fits:

@@ -124,13 +124,13 @@ def near(mode, scale, a):
 
 
 def rest(top, under, scale):
-    """What is divided less divisor times cut quotient, and within plus and minus the greatest divisor times one unit of
-    the quotient."""
+    """What is divided less divisor times cut quotient. Its size stays below that of the greatest divisor, times one unit
+    of the quotient."""
     quotient = over(top, under, scale, "cut")
     if quotient is None:
         return None
     a = plus(top, negative(times(under, quotient)))
-    most = max(map(abs, Range(under.low, under.high, under.scale + scale).at(a.scale)))
+    most = max(map(abs, Range(under.low, under.high, under.scale + scale).at(a.scale))) - 1
     return Range(max(a.low, -most), min(a.high, most), a.scale)
 
 

@@ -1,5 +1,6 @@
 """What docs/NIGHTLY.md shows is run: its jobs on a working copy with samples, and each of its changes of a source."""
 
+import json
 import os
 import pathlib
 import re
@@ -7,7 +8,7 @@ import shutil
 import subprocess
 import tempfile
 
-from tests.built import ROOT, launcher, program_path
+from tests.built import ROOT, program_path
 from tests.report import ORDERS, TOOL, script, told
 
 TEXT = (ROOT / "docs/NIGHTLY.md").read_text("utf-8")
@@ -15,6 +16,12 @@ TEXT = (ROOT / "docs/NIGHTLY.md").read_text("utf-8")
 
 def blocks(language):
     return re.findall(rf"^```{language}\n(.*?)^```$", TEXT, re.M | re.S)
+
+
+def block_with(language, words):
+    """The one block that has these words."""
+    (found,) = (block for block in blocks(language) if words in block)
+    return found
 
 
 class Ledger:
@@ -40,9 +47,8 @@ class Ledger:
         names = {f"GIT_{who}": "shop@example.org" for who in whos}
         job = self.folder / "job"
         job.write_text(text.replace("/srv/ledger", str(self.copy)))
-        shell = "bash" if text.startswith("#!/bin/bash") else "sh"
         env = {**os.environ, **names, "PATH": path}
-        done = subprocess.run([shell, job], cwd=self.copy, env=env, capture_output=True, text=True)
+        done = subprocess.run(["sh", job], cwd=self.copy, env=env, capture_output=True, text=True)
         return done.returncode, done.stdout
 
     def kept(self):
@@ -72,8 +78,65 @@ def of_the_tool():
         found = [ledger.run(job), ledger.kept(), (ledger.folder / "mail").exists()]
         shutil.copy(ROOT / "samples/orders.cob", ledger.copy / "src")
         found += [ledger.run(job), (ledger.folder / "mail").read_text().splitlines()[0]]
-    letter = "-s ledger: 2 sources: 1 clean (1 by the certificate that was kept), 1 with 6 alarms team@example.org"
+    letter = "-s ledger: 2 sources: 1 clean, 1 with 6 alarms; 1 by kept certificates team@example.org"
     return told("the job with the tool", found, [(0, ""), ["certs/src/payroll.cob.cert"], False, (1, ""), letter])
+
+
+def of_the_baseline():
+    """The job with a baseline: what is known sends no letter, and a changed statement does. What is suppressed by the
+    section that is shown isn't told."""
+    with tempfile.TemporaryDirectory() as folder:
+        ledger = Ledger(folder, ("orders",))
+        (ledger.copy / "suppressions").touch()
+        job, mail = block_with("sh", "--suppressions"), ledger.folder / "mail"
+        found = [ledger.run(block_with("sh", "--write-baseline"))[0], ledger.run(job)[0], mail.exists()]
+        source = ledger.copy / "src/orders.cob"
+        source.write_text(source.read_text().replace("ADD 1 TO ORDER-COUNT", "ADD 2 TO ORDER-COUNT"))
+        found += [ledger.run(job)[0], mail.read_text().splitlines()[0]]
+        told_all = json.loads(ledger.run("cobsound-report --format json src")[1])
+        section = re.sub("[0-9a-f]{16}", told_all["sources"][0]["findings"][-1]["fingerprint"], blocks("ini")[0])
+        (ledger.copy / "suppressions").write_text(section)
+        found += [ledger.run(job)[0], (ledger.copy / "report.txt").read_text().splitlines()[-1]]
+    letter = "-s ledger: 1 source: 1 with 6 alarms; 1 new, 5 known, 1 gone team@example.org"
+    last = "1 source: 1 with 6 alarms; 1 by kept certificates; 0 new, 5 known, 1 gone; 1 suppressed"
+    return told("the job with a baseline", found, [1, 0, False, 1, letter, 0, last])
+
+
+# what GNU parallel does here: the command for each word behind three colons, with the word in place of braces
+PARALLEL = """\
+while [ "$1" != ::: ]; do command=$1; shift; done
+shift
+for word; do sh -c "$(printf %s "$command" | sed "s|{}|$word|g")"; done
+"""
+
+
+def with_two(job):
+    """A job with two shards in place of eight."""
+    return job.replace("/8", "/2").replace("1 2 3 4 5 6 7 8", "1 2").replace("1, 2, 3, 4, 5, 6, 7, 8", "1, 2")
+
+
+def of_machines():
+    """The jobs on more than one machine, each with two shards: put together they are what one call shows."""
+    matrix = re.findall(r"^ +- run: (.*)$", with_two(block_with("yaml", "matrix")), re.M)
+    parallel, slurm = (with_two(block_with("sh", word)) for word in ("parallel", "SBATCH"))
+    shard = "${{ matrix.shard }}"
+    jobs = {
+        "matrix": [line.replace(shard, number) for number in "12" for line in matrix[:2]],
+        "parallel": [parallel.replace(parallel.splitlines()[-1], "")],
+        "slurm": [f"SLURM_ARRAY_TASK_ID={number}\n{slurm}" for number in "12"],
+    }
+    put = [matrix[2], f"{parallel.splitlines()[-1]}\ncat report.txt"]
+    with tempfile.TemporaryDirectory() as folder:
+        ledger = Ledger(folder, ("orders", "first", "indexed"))
+        script(ledger.commands, PARALLEL).rename(ledger.commands / "parallel")
+        ledger.run("cobsound-report --write-baseline baseline.json src/first.cob")
+        ones = [ledger.run(f"cobsound-report --baseline baseline.json {form} src") for form in ("--format github", "")]
+        for name, lines in jobs.items():
+            begun = [ledger.run(line)[0] for line in lines]
+            if any(begun) or [ledger.run(line)[1] for line in put] != [out for _, out in ones]:
+                return f"{name}: {begun}, {[ledger.run(line) for line in put]} in place of {ones}"
+            ledger.run("rm -rf shards certs")
+    return told("machines", [status for status, _ in ones], [2, 2])
 
 
 def of_make():
@@ -94,11 +157,11 @@ def of_annotations():
         ledger = Ledger(folder, ("orders", "indexed"))
         text = (ROOT / "samples/first.cob").read_text().replace("ADD 1", "ADD -A")
         (ledger.copy / "src/place.cob").write_text(text)
-        status, out = ledger.run(blocks("sh")[2] + "\n")
+        status, out = ledger.run(block_with("sh", "--format github"))
         is_written = (ledger.copy / "cobsound.sarif").exists()
-    found = re.findall(r"^::(\w+) file=(\S+?),line=(\d+)(?:,col=(\d+))?::(\w+): .", out, re.M)
-    wanted = [("error", "src/indexed.cob", "8", "", "E8")]
-    wanted += [("warning", "src/orders.cob", str(line), "", kind) for line, kind, _, _ in ORDERS]
+    found = re.findall(r"^::(\w+) file=(\S+?),line=(\d+),col=(\d+),title=Cobsound \w+::(\w+): .", out, re.M)
+    wanted = [("error", "src/indexed.cob", "8", "32", "E8")]
+    wanted += [("warning", "src/orders.cob", str(line), str(column), kind) for line, kind, _, column in ORDERS]
     wanted += [("error", "src/place.cob", "7", "12", "E7")]
     return told("annotations", (status, found, is_written), (2, wanted, True))
 
@@ -134,14 +197,16 @@ def of_all_changes(changes):
     return told("all changes", (source == mended, alarms_of(mended)), (True, (0, [])))
 
 
-def of_the_picture():
-    picture = (ROOT / "docs/report.png").read_bytes()
-    return told("the picture", (picture[:8], len(picture) < 200_000), (b"\x89PNG\r\n\x1a\n", True))
+def of_the_pictures():
+    for name in re.findall(r"!\[.*?\]\((.*?)\)", TEXT):
+        picture = (ROOT / "docs" / name).read_bytes()
+        if picture[:8] != b"\x89PNG\r\n\x1a\n" or len(picture) > 200_000:
+            return f"the picture {name}"
+    return None
 
 
 def checks():
-    launcher()
-    yield from (of_the_shell, of_the_tool, of_make, of_annotations, of_the_picture)
+    yield from (of_the_shell, of_the_tool, of_the_baseline, of_machines, of_make, of_annotations, of_the_pictures)
     pattern = r"^### (.*?)\n.*?^```cobol\n(.*?)^```\n.*?^```cobol\n(.*?)^```$"
     changes = re.findall(pattern, TEXT, re.M | re.S)
     for change in changes:

@@ -7,7 +7,7 @@ import dataclasses
 import json
 import re
 
-from tests.built import CASES, ROOT, launcher, ran
+from tests.built import CASES, ROOT, program_path, ran
 
 # ---- words
 
@@ -320,7 +320,7 @@ def sources():
 
 
 def checks():
-    path = launcher()
+    path = program_path()
     for number, line in enumerate((CASES / "packs.jsonl").open(), 1):
         case = json.loads(line)
         yield lambda given=(f"packs.jsonl {number}", case["source"], case["packs"]): told(*given)

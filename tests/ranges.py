@@ -449,6 +449,7 @@ def stores():
 
 RESTS = (
     ((2, 0, "signed"), (0, 99, 0), (7, 7, 0), 0),
+    ((2, 0, "unsigned"), (0, 999, 0), (100, 100, 0), 0),
     ((2, 0, "signed"), (-99, 99, 0), (-9, 9, 0), 0),
     ((2, 0, "unsigned"), (-99, 50, 0), (-9, 9, 0), 0),
     ((3, 2, "signed"), (0, 99, 0), (3, 8, 0), 1),
@@ -469,15 +470,15 @@ def product(a, b):
 
 @functools.lru_cache(None)
 def rests_within(top, under, scale):
-    """What is divided less divisor times cut quotient, each whatever it can be; but no more than the greatest divisor,
-    times one unit of the quotient."""
+    """What is divided less divisor times cut quotient, each whatever it can be; but less than the greatest divisor,
+    times one unit of the quotient, by one unit of the remainder's own scale."""
     below = [d for d in corners(under) if d != 0]
     if not below:
         return []
     quotients = [Fraction(at_scale(n / d, scale), 10**scale) for n in numbers(top) for d in numbers(under) if d != 0]
     ends = [Fraction(units, 10 ** under[2]) for units in under[:2]]
     low, high = product(ends, (min(quotients), max(quotients)))
-    limit = Fraction(max(map(abs, ends)), 10**scale)
+    limit = Fraction(max(map(abs, ends)), 10**scale) - Fraction(1, 10 ** max(top[2], under[2] + scale))
     least, greatest = (Fraction(units, 10 ** top[2]) for units in top[:2])
     return [max(least - high, -limit), min(greatest - low, limit)]
 

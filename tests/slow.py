@@ -11,7 +11,7 @@ import random
 import re
 
 from tests import programs
-from tests.built import ROOT, launcher, program, ran
+from tests.built import ROOT, program, program_path, ran
 from tests.reference import cases_of
 
 PROGRAMS = ("slow_run",)
@@ -86,7 +86,7 @@ def told(fast, slow, name, files):
 
 
 def side_by_side():
-    fast, slow = launcher(), program("slow_run")
+    fast, slow = program_path(), program("slow_run")
     for name, files in given():
         yield lambda name=name, files=files: told(fast, slow, name, files)
 

@@ -213,10 +213,14 @@ class Moment:
         elif a is None or a.low == a.high == 0:
             raise Unreached
 
+    def keeps_receiver(self):
+        """On the edge to ON SIZE ERROR of one receiver, without REMAINDER, that one has failed."""
+        return self.edge.is_handled() and [part[0] for part in self.edge.parts].count("store") == 1
+
     def store(self, k, home, mode, *words):
         item = self.given.items[home]
         units = self.results(k)
-        new = units and fitted(item.digits, item.is_signed, units)
+        new = None if self.keeps_receiver() else units and fitted(item.digits, item.is_signed, units)
         kept = list(self.row)
         if self.edge.is_handled() and self.may_fail(item, units, amount_of(*words)):
             self.may_have_failed = True

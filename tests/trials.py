@@ -2,7 +2,7 @@
 rule (docs/GUIDE.md, "Trying it")."""
 
 from bench.sources import trial
-from tests.built import Case, launcher, ran
+from tests.built import Case, program_path, ran
 
 OLD = b"old"
 
@@ -41,6 +41,6 @@ def forms():
 
 
 def checks():
-    path = launcher()
+    path = program_path()
     tried = [lambda count=count: told(path, count) for count in COUNTS]
     return tried + [lambda case=case: case.tried(path) for case in (*refused(), *forms())]
