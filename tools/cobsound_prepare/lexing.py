@@ -34,8 +34,8 @@ def with_pictures(tokens: list[Token]) -> list[Token]:
             continue
         start = tokens[first]
         text = "".join(token.text for token in tokens[first:behind])
-        is_made = any(token.is_made for token in tokens[first:behind])
-        found += tokens[done:first]
-        found.append(Token(Kind.PICTURE, text, start.block, start.line, start.column, start.is_glued, is_made))
+        picture = start.made(Kind.PICTURE, text)
+        picture.is_made = any(token.is_made for token in tokens[first:behind])
+        found += [*tokens[done:first], picture]
         done = behind
     return found + tokens[done:]

@@ -131,8 +131,7 @@ def end_of_match(tokens: list[Token], at: int, old: tuple[str, ...]) -> int:
 def given(new: tuple[Token, ...], place: Token) -> Iterator[Token]:
     """The new tokens in the place of a token."""
     for number, token in enumerate(new):
-        is_glued = token.is_glued if number else place.is_glued
-        yield Token(token.kind, token.text, place.block, place.line, place.column, is_glued, True)
+        yield place.made(token.kind, token.text, token.is_glued if number else place.is_glued)
 
 
 def in_part(token: Token, parts: list[Replacement]) -> list[Token] | None:
@@ -149,7 +148,7 @@ def in_part(token: Token, parts: list[Replacement]) -> list[Token] | None:
 def glued(token: Token, is_glued: bool) -> Token:
     """The token with that before it; what it is glued to is another, so that it is read again with that."""
     token.block.count = None
-    return Token(token.kind, token.text, token.block, token.line, token.column, is_glued, True)
+    return token.made(token.kind, token.text, is_glued)
 
 
 def rejoined(tokens: list[Token]) -> Iterator[Token]:

@@ -86,9 +86,7 @@ class Token:
 
     __slots__ = ("block", "column", "is_glued", "is_made", "kind", "line", "own_line", "text", "upper")
 
-    def __init__(
-        self, kind: Kind, text: str, block: Block, line: int, column: int, is_glued: bool, is_made: bool = False
-    ):
+    def __init__(self, kind: Kind, text: str, block: Block, line: int, column: int, is_glued: bool):
         self.kind = kind
         self.text = text
         self.upper = text.upper() if kind is Kind.WORD else text
@@ -96,19 +94,22 @@ class Token:
         self.line = line
         self.column = column
         self.is_glued = is_glued
-        self.is_made = is_made
+        self.is_made = False
         self.own_line = ""
 
-    def made(self, kind: Kind, text: str) -> Token:
-        """A token in this one's place."""
-        return Token(kind, text, self.block, self.line, self.column, self.is_glued, True)
+    def made(self, kind: Kind, text: str, is_glued: bool | None = None) -> Token:
+        """A token in this one's place, glued as this one where that isn't said."""
+        glued = self.is_glued if is_glued is None else is_glued
+        token = Token(kind, text, self.block, self.line, self.column, glued)
+        token.is_made = True
+        return token
 
     def word(self, text: str) -> Token:
         return self.made(Kind.WORD, text)
 
     def stop(self) -> Token:
         """A point directly behind what stands before it."""
-        return Token(Kind.STOP, ".", self.block, self.line, self.column, True, True)
+        return self.made(Kind.STOP, ".", is_glued=True)
 
     def is_word(self, *words: str) -> bool:
         return self.kind is Kind.WORD and self.upper in words
