@@ -196,9 +196,9 @@ def of_copies(program):
 def mapped(places, line, column):
     """A place by the map's file, read as docs/GUIDE.md says."""
     origin, number = places["lines"][line - 1]
-    for start, there, at in places["columns"].get(str(line), ()):
+    for start, there, at, same in places["columns"].get(str(line), ()):
         if start <= column:
-            number, mapped_column = there, at + column - start
+            number, mapped_column = there, at + max(min(column - start, same - 1), 0)
     if str(line) not in places["columns"]:
         mapped_column = column
     return places["origins"][origin]["file"], number, mapped_column

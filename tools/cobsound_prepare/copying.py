@@ -71,9 +71,10 @@ class Expander:
     def opened(self, copy: Token, name: str, library: str) -> Origin:
         """The copybook of a COPY: the first of that name that isn't among those in which the COPY stands."""
         origin = copy.block.origin
-        if len(self.blocks) > MOST_LINES or origin.depth() > DEEPEST:
+        way = origin.way()
+        if len(self.blocks) > MOST_LINES or len(way) > DEEPEST:
             raise SourceError(copy.place(), f"the text with its copybooks is too long or too deep{behind(origin)}")
-        open_files = {os.path.realpath(file) for file in origin.files()}
+        open_files = {os.path.realpath(above.file) for above in way}
         is_circle = False
         for path in self.library.found(name, library, origin.file):
             if os.path.realpath(path) not in open_files:

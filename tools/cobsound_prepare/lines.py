@@ -31,8 +31,14 @@ ENTRY_END = re.compile(rf"(?:{'|'.join(ENTRIES)}|PROGRAM-ID)(?![\w-])|{LATER}", 
 LATER_HEADER = re.compile(rf"\s*{LATER}", re.I)
 
 FIRST_HEADER = re.compile(r"\s*(?:(?:IDENTIFICATION|ID)\s+DIVISION|PROGRAM-ID)(?![\w-])", re.I)
-FORMAT = re.compile(r"(?:>>\s*SOURCE\s+(?:FORMAT\s+)?(?:IS\s+)?|\$\s*SET\s+SOURCEFORMAT\s*\(?[\"'])(FIXED|FREE)", re.I)
-DIRECTIVE = re.compile(r"\s*(>>|\$\s*SET\s)", re.I)
+FORMAT = re.compile(
+    r"\s*(?:>>\s*SOURCE\s+(?:FORMAT\s+)?(?:IS\s+)?(FIXED|FREE)\s*\.?"
+    r"|\$\s*SET\s+SOURCEFORMAT\s*\(?\s*[\"']?(FIXED|FREE)[\"']?\s*\)?)\s*(?:\*>.*)?",
+    re.I,
+)
+DIRECTIVE = re.compile(r"\s*(>>|\$\s*(SET|IF|ELSE|ELIF|END|END-IF|DISPLAY|REGION|END-REGION)(?![\w-]))", re.I)
+LISTING = re.compile(r"\s*>>\s*(LISTING|PAGE)(?![\w-])", re.I)
+DEBUGGING = re.compile(r"\s*>>\s*D(\s|$)", re.I)
 
 
 def guessed_form(lines: list[str]) -> Form:
@@ -40,14 +46,20 @@ def guessed_form(lines: list[str]) -> Form:
     8; else fixed."""
     for line in lines:
         line = line.expandtabs(TAB)
-        directive = FORMAT.search(line) if DIRECTIVE.match(line[6:]) or DIRECTIVE.match(line) else None
-        if directive:
-            return Form[directive[1].upper()]
+        form = form_asked(line) or form_asked(line[6:])
+        if form:
+            return form
         for start in (0, 7):
             header = FIRST_HEADER.match(line[start:])
             if header:
                 return Form.FREE if start == 0 and len(line) - len(line.lstrip()) < 7 else Form.FIXED
     return Form.FIXED
+
+
+def form_asked(directive: str) -> Form | None:
+    """The form that a directive asks for, where it says that and nothing else."""
+    found = FORMAT.fullmatch(directive)
+    return Form[(found[1] or found[2]).upper()] if found else None
 
 
 @dataclass
@@ -81,7 +93,7 @@ class Reader:
         if indicator and indicator in "*/" or indicator and indicator in "Dd" and not self.is_debugged:
             return LineKind.COMMENT
         if DIRECTIVE.match(line[6:72]):
-            return LineKind.DIRECTIVE
+            return self.directive_kind(line[6:72])
         if not text.strip() and indicator.strip() == "":
             return LineKind.BLANK
         return LineKind.CODE
@@ -101,8 +113,8 @@ class Reader:
     def fixed_lines(self, raw: list[str], line: str, number: int, kind: LineKind) -> tuple[Block, list[Token]]:
         is_plain = not any("\t" in text for text in raw) and line[6:7] not in ("D", "d")
         block = Block(self.origin, number, raw, kind, is_plain)
-        if kind is LineKind.DIRECTIVE:
-            self.follow(line[6:72])
+        if kind is LineKind.IDLE:
+            self.form = form_asked(line[6:72]) or self.form
         if kind is not LineKind.CODE:
             return block, []
         if self.is_in_identification:
@@ -120,11 +132,11 @@ class Reader:
         content = line.lstrip()
         if not content:
             kind = LineKind.BLANK
-        elif content.startswith("*>") or not self.is_debugged and re.match(r">>\s*D\s", content, re.I):
+        elif content.startswith("*>"):
             kind = LineKind.COMMENT
         elif DIRECTIVE.match(content):
-            kind = LineKind.DIRECTIVE
-            self.follow(content)
+            kind = self.directive_kind(content)
+            self.form = form_asked(content) or self.form
         else:
             kind = LineKind.CODE
         block = Block(self.origin, number, [raw], kind, False)
@@ -136,11 +148,11 @@ class Reader:
         entry = self.entry_tokens(block, line, number, 1) if self.is_in_identification else None
         return block, scanned(Text(line, number, 1), block) if entry is None else entry
 
-    def follow(self, directive: str) -> None:
-        """Takes the form that a directive names for the lines behind it."""
-        found = FORMAT.search(directive)
-        if found:
-            self.form = Form[found[1].upper()]
+    def directive_kind(self, directive: str) -> LineKind:
+        """Idle are the form of the lines behind it, what lays out a listing, and lines for debugging without it."""
+        is_passed = not self.is_debugged and DEBUGGING.match(directive)
+        is_idle = is_passed or LISTING.match(directive) or form_asked(directive)
+        return LineKind.IDLE if is_idle else LineKind.DIRECTIVE
 
     def entry_tokens(self, block: Block, text: str, number: int, column: int) -> list[Token] | None:
         """The tokens of a line of a comment-entry, or None where it is none."""

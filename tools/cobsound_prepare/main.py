@@ -9,11 +9,13 @@ from enum import IntEnum
 from cobsound_report import outputs
 from cobsound_report.command_line import Parser
 
-from .answers import WrittenMap, placed
+from .answers import placed
 from .encodings import ENCODINGS
 from .lines import Form
+from .places import Map
 from .preparing import Prepared, encoded, prepare
 from .tokens import SourceError
+from .untaken import untaken
 
 
 class Status(IntEnum):
@@ -48,13 +50,13 @@ def told(prepared: Prepared) -> None:
     for row in prepared.applied:
         assumed = row.rewriting.assumes
         print(f"{row.rewriting.name}: {row.count}; assumes {assumed}", file=sys.stderr)
-    for note in prepared.notes:
+    for note in (*prepared.notes, *untaken(prepared)):
         print(note, file=sys.stderr)
 
 
 def show_places(options: argparse.Namespace) -> Status:
     with open(options.places, encoding="utf-8") as file:
-        places = WrittenMap(file.read())
+        places = Map.read(file.read())
     with open(0 if options.source == "-" else options.source, encoding="latin-1") as answer:
         for line in placed(answer, places):
             print(line, end="")

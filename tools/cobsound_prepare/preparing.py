@@ -12,7 +12,7 @@ from .lines import Form, guessed_form
 from .places import Map, mapped
 from .printing import printed
 from .rewritings import REWRITINGS
-from .tokens import Note, Origin, Token
+from .tokens import Block, LineKind, Note, Origin, Place, Token
 from .work import Rewriting, Work
 
 
@@ -26,11 +26,13 @@ class Applied:
 
 @dataclass(frozen=True)
 class Prepared:
-    """A prepared source: its text, the map of its places, the files that were read, and what is to be told."""
+    """A prepared source: its text, the map of its places, the files that were read, the encoding that was guessed of
+    them or given, and what is to be told."""
 
     text: str
     map: Map
     files: tuple[str, ...]
+    encoding: str
     applied: tuple[Applied, ...]
     notes: tuple[Note, ...]
 
@@ -49,11 +51,25 @@ def prepare(path: str, folders: list[str], form: Form | None = None, encoding: s
     if asks_for_debugging(tokens):
         expander = Expander(library, form, True)
         tokens = expander.expanded(origin)
-    work = Work(lexed(with_replace(tokens)), library.encoding)
+    work = Work(lexed(with_replace(tokens)), library.encoding, list(odd_lines(expander.blocks)))
     applied = tuple(rewritten(work))
     made = list(printed(work.tokens, expander.blocks))
     text = "".join(f"{line.text.rstrip(' ') if line.columns else line.text}\n" for line in made)
-    return Prepared(text, mapped(made, origin), tuple(library.read), applied, tuple(work.notes))
+    notes = tuple(work.notes)
+    return Prepared(text, mapped(made, origin), tuple(library.read), library.encoding, applied, notes)
+
+
+def odd_lines(blocks: list[Block]) -> Iterator[Note]:
+    """What is told of lines that stay as they are."""
+    for block in blocks:
+        raw = block.raw[0]
+        if block.kind is LineKind.DIRECTIVE:
+            text = raw[0 if block.indent else 6 :].lstrip()
+            told = f"the directive {' '.join(text[:72].split())} isn't taken"
+            yield Note(Place(block.origin, block.number, len(raw) - len(text) + 1), told)
+        elif block.kind is LineKind.ODD:
+            told = "a continuation of nothing" if raw[6:7] == "-" else f"the indicator {raw.expandtabs()[6:7]}"
+            yield Note(Place(block.origin, block.number, 7), f"{told} isn't taken")
 
 
 def asks_for_debugging(tokens: list[Token]) -> bool:

@@ -4,7 +4,6 @@ Lines whose tokens are all as they were read are printed as they stand. What els
 where there is room, and goes on on lines of its own. Lines of which nothing is left become comments.
 """
 
-import re
 from collections.abc import Iterator
 from dataclasses import dataclass
 
@@ -13,9 +12,6 @@ from .tokens import Block, Kind, LineKind, Token
 FIRST, LAST = 8, 72  # the columns of the text
 DEEP = 40  # the last column in which what goes on begins
 MARGIN = 12  # the column of a continuation's text
-
-# Directives that say nothing of what the program does.
-IDLE_DIRECTIVE = re.compile(r"\s*(>>\s*(SOURCE|LISTING|PAGE|D)\b|\$\s*SET\s+SOURCEFORMAT)", re.I)
 
 
 @dataclass(frozen=True)
@@ -70,7 +66,7 @@ def as_comment(block: Block, raw: str) -> str:
         return raw if block.is_plain or block.kind is LineKind.ODD else raw.expandtabs()
     if block.kind is LineKind.BLANK:
         return raw if is_fixed and not raw.strip(" ") else ""
-    if block.kind is LineKind.DIRECTIVE and not IDLE_DIRECTIVE.match(raw[6:] if is_fixed else raw):
+    if block.kind is LineKind.DIRECTIVE:
         return raw if is_fixed else f"      {raw.strip()}"
     text = raw.expandtabs()
     text = text[7:] if is_fixed else text.strip().removeprefix("*>")

@@ -28,8 +28,9 @@ class LineKind(Enum):
     CODE = auto()
     COMMENT = auto()
     BLANK = auto()
-    DIRECTIVE = auto()
-    ODD = auto()  # an indicator that isn't known, or a continuation of nothing: it stays, and the program refuses it
+    IDLE = auto()  # a directive that says nothing of what the program does
+    DIRECTIVE = auto()  # any other: it stays, and the program refuses it
+    ODD = auto()  # an indicator that isn't known, or a continuation of nothing: likewise
 
 
 @dataclass(frozen=True)
@@ -40,21 +41,20 @@ class Origin:
     copied_by: Origin | None = None
     copied_at: int = 0  # the line of the COPY in the file that has it
 
-    def files(self) -> list[str]:
-        """The file, and those of the COPYs that led to it."""
-        above = self.copied_by.files() if self.copied_by else []
-        return [self.file, *above]
+    def way(self) -> list[Origin]:
+        """The reading itself, and those with the COPYs that led to it, the source's last."""
+        found = [self]
+        while found[-1].copied_by:
+            found.append(found[-1].copied_by)
+        return found
 
-    def depth(self) -> int:
-        return len(self.files()) - 1
+    def copies(self) -> list[tuple[str, int]]:
+        """The COPYs that led to it, the nearest first: the file and the line of each."""
+        return [(origin.copied_by.file, origin.copied_at) for origin in self.way() if origin.copied_by]
 
     def chain(self) -> str:
         """The file, and the COPYs that led to it, the nearest first."""
-        text, origin = self.file, self
-        while origin.copied_by is not None:
-            text += f", copied by {origin.copied_by.file} line {origin.copied_at}"
-            origin = origin.copied_by
-        return text
+        return self.file + "".join(f", copied by {file} line {line}" for file, line in self.copies())
 
 
 class Block:
@@ -129,8 +129,11 @@ class Place:
     line: int
     column: int
 
+    def line_told(self) -> str:
+        return f"{self.origin.file}:{self.line}"
+
     def __str__(self) -> str:
-        return f"{self.origin.file}:{self.line}:{self.column}"
+        return f"{self.line_told()}:{self.column}"
 
 
 def raw_column(block: Block, line: int, column: int) -> int:

@@ -79,6 +79,7 @@ class Reading:
         self.lines = lines
         joined = Joined(lines, is_free)
         self.notes = joined.notes
+        self.directives = joined.directives
         self.tokens, self.parts = without_texts(joined.tokens())
         self.reserved = vocabulary.reserved
         self.verbs = vocabulary.verbs

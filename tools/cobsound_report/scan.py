@@ -6,6 +6,7 @@ from bisect import bisect_right
 from dataclasses import dataclass
 from enum import Enum, auto
 
+from cobsound_prepare.lines import DIRECTIVE
 
 class Sort(Enum):
     WORD = auto()
@@ -28,6 +29,16 @@ class Token:
 
     def is_word(self, *words: str) -> bool:
         return self.sort == Sort.WORD and self.text in words
+
+
+@dataclass(frozen=True)
+class Spot:
+    """A word, or another thing, that is told of a source, with its place."""
+
+    text: str
+    line: int
+    column: int
+    length: int
 
 
 @dataclass(frozen=True)
@@ -54,7 +65,7 @@ SORTS = {"text": Sort.TEXT, "number": Sort.NUMBER, "word": Sort.WORD, "stop": So
 
 class Joined:
     """The text of a source in one string, with the place of each character: comment lines are left out, continuations
-    joined, and what stands behind `*>` is dropped."""
+    joined, what stands behind `*>` is dropped, and so are directives."""
 
     def __init__(self, lines: list[bytes], is_free: bool = False):
         self.lines = lines
@@ -64,14 +75,19 @@ class Joined:
         self.length = 0
         self.mark = ""
         self.notes: list[tuple[int, int]] = []
+        self.directives: list[Spot] = []
         for number, raw in enumerate(lines, 1):
             self.add_line(number, raw.decode("latin-1"))
         self.text = "".join(self.parts)
 
     def add_line(self, number: int, line: str) -> None:
         line = line.expandtabs(8)
+        start = 0 if self.is_free else 6
+        if DIRECTIVE.match(line[start:]):
+            self.add_directive(number, line, start)
+            return
         if self.is_free:
-            self.add_text(number, 0, "" if line.lstrip().startswith(("*", ">>", "$")) else line)
+            self.add_text(number, 0, "" if line.lstrip().startswith(("*", "$")) else line)
             return
         line = line.ljust(72)[:72]
         if line[6] in "*/Dd" or not line[7:].strip():
@@ -83,6 +99,11 @@ class Joined:
         if not self.mark:
             self.drop_blanks()
         self.add_text(number, start + bool(self.mark), line[start + bool(self.mark) :], is_continued=True)
+
+    def add_directive(self, number: int, line: str, start: int) -> None:
+        text = line[start:72].split("*>")[0].strip()
+        column = raw_column(self.lines[number - 1], line.index(text, start) + 1)
+        self.directives.append(Spot(text, number, column, len(text)))
 
     def drop_blanks(self) -> None:
         """What a continuation joins: the text before it without its last spaces, and without a mark that closed it."""
@@ -162,16 +183,6 @@ def lines_of(raw: bytes) -> list[bytes]:
     """The lines of a source without their ends."""
     lines = [line.removesuffix(b"\r") for line in raw.split(b"\n")]
     return lines if lines[-1] else lines[:-1]
-
-
-@dataclass(frozen=True)
-class Spot:
-    """A word, or another thing, that is told of a source, with its place."""
-
-    text: str
-    line: int
-    column: int
-    length: int
 
 
 def spot(*tokens: Token, text: str = "") -> Spot:

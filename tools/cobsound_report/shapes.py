@@ -209,6 +209,10 @@ def inline_comments(source: Reading) -> Iterator[Spot]:
     yield from first_of("*>", source.notes, 2)
 
 
+def directives(source: Reading) -> Iterator[Spot]:
+    yield from source.directives
+
+
 def prefixed_texts(source: Reading) -> Iterator[Spot]:
     yield from (spot(token) for token in source.tokens if token.sort == Sort.TEXT and token.text[0] not in "'\"")
 
@@ -287,6 +291,7 @@ SHAPES: dict[str, Callable[[Reading], Iterator[Spot]]] = {
     "a tab": tabs,
     "a character beyond ASCII": wide_characters,
     "a comment within a line": inline_comments,
+    "a directive": directives,
     "a literal with a letter before it": prefixed_texts,
     "a comma without a space behind it": commas,
     "a name with an underscore, of digits alone, or longer than 30 characters": odd_names,
