@@ -140,14 +140,14 @@ NAMES = """\
 
 def of_names():
     """Names that nothing declares as what they are used for, each once, with the nearest."""
-    found = [(r.message, r.place, r.advice) for r in READER.seen(NAMES.encode()).remarks]
+    found = [(r.message, r.place, r.advice, r.named_on) for r in READER.seen(NAMES.encode()).remarks]
     wanted = [
-        ("COUNTR isn't declared", (9, 17), "COUNTER, on line 5?"),
-        ("DISPLY isn't a verb", (10, 12), "DISPLAY?"),
-        ("CLOSE-AL isn't a paragraph", (11, 20), "CLOSE-ALL, on line 17?"),
-        ("COUNTER isn't a paragraph", (12, 20), ""),
-        ("ZZZ isn't declared", (13, 17), ""),
-        ("TWICE isn't one item alone", (15, 17), ""),
+        ("COUNTR isn't declared", (9, 17), "COUNTER", 5),
+        ("DISPLY isn't a verb", (10, 12), "DISPLAY?", 0),
+        ("CLOSE-AL isn't a paragraph", (11, 20), "CLOSE-ALL", 17),
+        ("COUNTER isn't a paragraph", (12, 20), "", 0),
+        ("ZZZ isn't declared", (13, 17), "", 0),
+        ("TWICE isn't one item alone", (15, 17), "", 0),
     ]
     return told("names", found, wanted)
 
@@ -205,7 +205,7 @@ def of_all_rules():
     """Each rule is explained in words, also as the program writes its name; those that a few lines show have an
     example."""
     limits = ("nesting", "items", "storage", "files", "cells", "nodes")
-    without = {"E5", "E11", "form", *(f"E10-{word}" for word in limits)}
+    without = {"E5", "E11", "form", "not-prepared", *(f"E10-{word}" for word in limits)}
     for rule in WORDS.listed():
         text = explained(rule.removeprefix("E9-") if rule.startswith("E9") else rule.replace("E10-", "E10 "), WORDS)
         if not text.startswith(f"{rule}: ") or ("For example" in text) == (rule in without):

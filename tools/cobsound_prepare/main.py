@@ -10,10 +10,9 @@ from cobsound_report import outputs
 from cobsound_report.command_line import Parser
 
 from .answers import placed
-from .encodings import ENCODINGS
-from .lines import Form
+from .options import Way, add_way
 from .places import Map
-from .preparing import Prepared, encoded, prepare
+from .preparing import Prepared, encoded
 from .tokens import SourceError
 from .untaken import untaken
 
@@ -34,11 +33,9 @@ def parsed(words: list[str]) -> argparse.Namespace:
         epilog="Exit status: 0 prepared, 2 the source or a copybook can't be, 3 a failure of the outside.",
     )
     parser.add_argument("source", metavar="SOURCE", help="the source; with --places the answer, - for standard input")
-    parser.add_argument("-I", dest="folders", metavar="DIR", action="append", default=[], help="a folder of copybooks")
+    add_way(parser)
     told = "write to FILE, and the map of places to FILE.map.json"
     parser.add_argument("-o", dest="output", metavar="FILE", help=told)
-    parser.add_argument("--form", choices=[form.value for form in Form], help="the source's form; guessed without it")
-    parser.add_argument("--encoding", choices=ENCODINGS, default="auto", help="its encoding; guessed without it")
     told = "put the places of the map in the file MAP before the lines of what the program answered"
     parser.add_argument("--places", metavar="MAP", help=told)
     parser.add_argument("--quiet", action="store_true", help="don't tell which rewritings were made, nor what stays")
@@ -67,8 +64,7 @@ def show_places(options: argparse.Namespace) -> Status:
 def run(options: argparse.Namespace) -> Status:
     if options.places:
         return show_places(options)
-    form = Form(options.form) if options.form else None
-    prepared = prepare(options.source, options.folders, form, options.encoding)
+    prepared = Way.of(options).prepared(options.source)
     if options.output:
         text, places = pathlib.Path(options.output), pathlib.Path(f"{options.output}.map.json")
         outputs.refuse_clashes(prepared.files, (text, places))

@@ -2,7 +2,7 @@
 
 import codecs
 import os
-from collections.abc import Iterator
+from collections.abc import Iterator, Sequence
 from dataclasses import dataclass
 
 from .copying import Expander, with_replace
@@ -37,7 +37,9 @@ class Prepared:
     notes: tuple[Note, ...]
 
 
-def prepare(path: str, folders: list[str], form: Form | None = None, encoding: str = "auto") -> Prepared:
+def prepare(
+    path: str | os.PathLike[str], folders: Sequence[str], form: Form | None = None, encoding: str = "auto"
+) -> Prepared:
     """Prepares the source at a path, with copybooks in its folder and in these. A SourceError tells why it can't, an
     OSError what can't be read."""
     library = Library(list(folders), encoding)

@@ -1,14 +1,13 @@
 """The report in a form of its own: all that the other forms are made of. `history` reads it again."""
 
 import json
-from dataclasses import asdict
 
 from . import VERSION
 from .findings import Finding, Item, SourceReport
 from .history import key_of
 from .report import Report
-from .shards import Shard, source_sum
-from .sources import Span
+from .shards import Shard, sum_or_none
+from .sources import Original, Span
 from .witnesses import Witness
 
 # Another number stands for another form.
@@ -25,16 +24,19 @@ def written(report: Report) -> str:
         "summary": report.summary(),
         "sources": [source_told(source, report.shard) for source in report.sources],
     }
+    if report.prepared:
+        told["prepared"] = report.prepared
     if report.shard:
         told |= {"shard": str(report.shard), "list": report.list_sum}
     if report.baseline:
-        told["gone"] = [asdict(known) for known in report.gone]
+        told["gone"] = [known.as_object() for known in report.gone]
     return json.dumps(told, indent=1) + "\n"
 
 
 def source_told(source: SourceReport, shard: Shard | None) -> dict:
-    summed = {"sum": source_sum(source.source)} if shard else {}
-    return summed | {
+    summed = {"sum": sum_or_none(source.source.own_path)} if shard else {}
+    original = {"prepared": original_told(source.source.original, shard)} if source.source.original else {}
+    return summed | original | {
         "source": key_of(source),
         "verdict": source.verdict.name.lower(),
         "told": source.told,
@@ -46,6 +48,12 @@ def source_told(source: SourceReport, shard: Shard | None) -> dict:
     }
 
 
+def original_told(original: Original, shard: Shard | None) -> dict:
+    """Of what a prepared source was made, and where it is kept."""
+    told = {"kept": original.kept, "encoding": original.encoding, "copybooks": list(original.copybooks)}
+    return told | ({"sums": [sum_or_none(file) for file in original.copybooks]} if shard else {})
+
+
 def finding_told(finding: Finding) -> dict:
     """A finding; columns are counted from 1, and `behind` is the one behind the last character that is meant."""
     return {
@@ -53,6 +61,8 @@ def finding_told(finding: Finding) -> dict:
         "level": finding.level.value,
         "message": finding.message,
         "advice": finding.advice,
+        "file": finding.file,
+        "copied_by": [{"file": file, "line": line} for file, line in finding.copies],
         "line": finding.line,
         "column": finding.column,
         "marked": marked(finding.span),
@@ -70,7 +80,7 @@ def finding_told(finding: Finding) -> dict:
 
 
 def item_told(item: Item) -> dict:
-    return {"name": item.name, "line": item.line, "marked": marked(item.span)}
+    return {"name": item.name, "file": item.file, "line": item.line, "marked": marked(item.span)}
 
 
 def witness_told(witness: Witness) -> dict:

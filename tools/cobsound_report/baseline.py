@@ -19,18 +19,23 @@ FORM = 1
 
 @dataclass(frozen=True)
 class Known:
-    """A finding of the baseline, by its fingerprint in its source; the rest is for whoever reads it."""
+    """A finding of the baseline, by its fingerprint in its source; the rest is for whoever reads it, the file too, where
+    it stands in a copybook."""
 
     source: str
     rule: str
     paragraph: str
     text: str
     fingerprint: str
+    file: str = ""
 
     @property
     def is_refusal(self) -> bool:
         """Whether it is one of a source that was refused."""
         return self.rule not in SENTENCES and self.rule != PARAGRAPH
+
+    def as_object(self) -> dict[str, str]:
+        return {name: value for name, value in asdict(self).items() if name != "file" or value}
 
     def told(self) -> str:
         place = f" in {self.paragraph}" if self.paragraph else ""
@@ -85,10 +90,10 @@ def may_be_known(report: SourceReport) -> bool:
 def written(reports: list[SourceReport]) -> str:
     """The findings that count or are known, each on a line of its own. Those that are suppressed stay so."""
     known = [
-        Known(key_of(report), finding.rule, finding.paragraph, finding.text, finding.fingerprint)
+        Known(key_of(report), finding.rule, finding.paragraph, finding.text, finding.fingerprint, finding.file)
         for report in reports
         for finding in report.findings
         if may_be_known(report) and not finding.reason
     ]
-    lines = ",\n".join(json.dumps(asdict(finding)) for finding in known)
+    lines = ",\n".join(json.dumps(finding.as_object()) for finding in known)
     return f'{{"form": {FORM}, "tool": "{VERSION}", "findings": [\n{lines}\n]}}\n'

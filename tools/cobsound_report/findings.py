@@ -4,16 +4,20 @@ writes in its own way."""
 import hashlib
 import os
 from collections import Counter
+from collections.abc import Iterator
 from dataclasses import dataclass, replace
 from enum import Enum
 from typing import TYPE_CHECKING
 
+from cobsound_prepare.tokens import Note
+
 from .answers import Alarm, Verdict
 from .causes import cause_of
+from .prepared import OwnFiles, listing_of
 from .program import Result
-from .remarks import Remark
-from .sources import Listing, Source, Span, shown
-from .words import Entry, Words, rule_of, sentence
+from .remarks import OUTSIDE, Remark
+from .sources import Listing, Original, Place, Source, Span, shown
+from .words import UNPREPARED, Entry, Words, rule_of, sentence
 
 if TYPE_CHECKING:
     from .witnesses import Witness
@@ -29,17 +33,20 @@ class Level(Enum):
 
 @dataclass(frozen=True)
 class Item:
-    """An item that a statement names, with the line and the characters of its declaration."""
+    """An item that a statement names, with the line and the characters of its declaration, and the file as that of a
+    finding."""
 
     name: str
     line: int
     span: Span
+    file: str = ""
 
 
 @dataclass(frozen=True)
 class Finding:
-    """What is told at a place of a source, or of the whole where it has no line. `column` stands where the program
-    named one. The fingerprint is the same as long as the statement stays, on whatever line. `is_new` is said beside an
+    """What is told at a place of a source, or of the whole where it has no line. `file` is the copybook in which that
+    stands, empty where it is the source itself, and `copies` are the COPYs that led there, the nearest first, each with
+    its file and line. `column` stands where the program named one. The fingerprint is the same as long as the statement stays, on whatever line. `is_new` is said beside an
     earlier report, `is_known` beside a baseline, the reason is that of a suppression, and the witness what a search for
     input files left."""
 
@@ -60,6 +67,17 @@ class Finding:
     is_known: bool = False
     reason: str = ""
     witness: "Witness | None" = None
+    file: str = ""
+    copies: tuple[tuple[str, int], ...] = ()
+
+    def at(self, place: Place) -> "Finding":
+        """The finding at a place."""
+        shown, file, copies = place.shown, place.file, place.copies
+        return replace(self, line=place.line, span=place.span, shown=shown, file=file, copies=copies)
+
+    def file_told(self, source: "SourceReport") -> str:
+        """The name of the file in which it stands, as it can be shown."""
+        return shown(os.fsencode(self.file)) if self.file else source.name
 
     @property
     def counts(self) -> bool:
@@ -91,6 +109,11 @@ class SourceReport:
         counts = self.verdict > Verdict.REFUSED or any(finding.counts for finding in self.findings)
         return self.verdict if counts else Verdict.CLEAN
 
+    def copybooks(self) -> list[str]:
+        """The copybooks in which something is told, or is declared that it names."""
+        places = (place.file for finding in self.findings for place in (finding, *finding.items))
+        return list(dict.fromkeys(filter(None, places)))
+
     def alarms(self) -> list[Finding]:
         return [finding for finding in self.findings if finding.statement is not None]
 
@@ -104,13 +127,13 @@ def report_of(result: Result, words: Words) -> SourceReport:
     answer = result.answer
     verdict = answer.verdict
     if verdict <= Verdict.ALARMS:
-        listing = Listing(result.source)
+        listing = listing_of(result.source)
         found = [of_alarm(alarm, listing, words) for alarm in answer.alarms]
         warnings = [of_remark(remark, Level.WARNING, listing) for remark in words.reader.warnings(listing.raw)]
         verdict = max(verdict, Verdict.WARNED) if warnings else verdict
         found += warnings
     elif verdict == Verdict.REFUSED:
-        found = of_refusal(result, words)
+        found = [*of_refusal(result, words)]
     else:
         found = [of_failure(result, words)]
     shape = (result.cells, result.nodes, result.is_kept, result.seconds)
@@ -119,19 +142,11 @@ def report_of(result: Result, words: Words) -> SourceReport:
 
 def of_remark(remark: Remark, level: Level, listing: Listing) -> Finding:
     """What the tool itself has seen."""
-    place = remark.spot
-    shown = listing.line(place.line)
-    return Finding(
-        rule=remark.rule,
-        level=level,
-        message=remark.message,
-        advice=remark.advice,
-        line=place.line,
-        column=place.column,
-        span=listing.span(place.line, place.column, place.length),
-        shown=shown,
-        text=shown[7:72].strip(),
-    )
+    spot = remark.spot
+    place = listing.place(spot.line, spot.column, spot.length)
+    where = f", on {listing.line_told(remark.named_on)}?" if remark.named_on else ""
+    found = Finding(remark.rule, level, remark.message, remark.advice + where, text=listing.text_of(spot.line))
+    return replace(found.at(place), column=place.column)
 
 
 def of_alarm(alarm: Alarm, listing: Listing, words: Words) -> Finding:
@@ -142,39 +157,67 @@ def of_alarm(alarm: Alarm, listing: Listing, words: Words) -> Finding:
         level=Level.WARNING,
         message=sentence(alarm),
         advice=entry.advice if entry else "",
-        line=alarm.line,
-        span=listing.text_span(alarm.line),
-        shown=listing.line(alarm.line),
         statement=alarm.statement,
-        text=listing.line(alarm.line)[7:72].strip(),
-    )
+        text=listing.text_of(alarm.line),
+    ).at(listing.text_place(alarm.line))
     statement = listing.statement(alarm.statement)
     if not statement or statement.verb.line != alarm.line:
         return plain
-    places = {name: listing.text.items[name] for name in statement.items}
-    items = (Item(name, at.line, listing.span(at.line, at.column, at.length)) for name, at in places.items())
-    span = listing.span(alarm.line, statement.verb.column, statement.verb.length)
-    return replace(plain, span=span, text=statement.text, paragraph=statement.paragraph, items=tuple(items))
+    items = tuple(item_of(name, listing) for name in statement.items)
+    place = listing.place(alarm.line, statement.verb.column, statement.verb.length)
+    return replace(plain, text=statement.text, paragraph=statement.paragraph, items=items).at(place)
 
 
-def of_refusal(result: Result, words: Words) -> list[Finding]:
-    """The program's own refusal, with the word that is its cause where a reader sees one; and behind it whatever else
-    is seen, all of which is none of the program's answer."""
+def item_of(name: str, listing: Listing) -> Item:
+    declared = listing.text.items[name]
+    place = listing.place(declared.line, declared.column, declared.length)
+    return Item(name, place.line, place.span, place.file)
+
+
+def of_refusal(result: Result, words: Words) -> Iterator[Finding]:
+    """Why a source is refused, and behind it whatever else is seen, all of which is none of the program's answer."""
+    original = result.source.original
+    if original and original.refusal:
+        yield of_note(original.refusal, UNPREPARED, Level.ERROR, OwnFiles(result.source, original))
+        return
+    found = list(of_answer(result, words))
+    yield from found
+    if original:
+        yield from notes_beside(found, result.source, original)
+
+
+def of_answer(result: Result, words: Words) -> Iterator[Finding]:
+    """The program's own refusal, with the word that is its cause where a reader sees one; and what else that sees."""
     told = result.answer.told
     line, column = result.answer.place()
     entry = words.refusal(told)
-    refusal = Finding(rule_of(told), Level.ERROR, named(told, entry.cause), entry.advice, line, column)
+    refusal = Finding(rule_of(told), Level.ERROR, named(told, entry.cause), entry.advice)
     if line is None:
-        return [refusal]
-    listing = Listing(result.source)
+        yield refusal
+        return
+    listing = listing_of(result.source)
     seen = words.reader.seen(listing.bytes)
     cause = cause_of(told, seen, words.reader)
-    others = [of_remark(remark, Level.ERROR, listing) for remark in seen.remarks if remark != cause]
     if cause:
-        return [caused(refusal, cause, entry, listing), *others]
-    text = listing.line(line)
-    span = listing.refusal_span(line, column)
-    return [replace(refusal, span=span, shown=text, text=text[7:72].strip()), *others]
+        yield caused(refusal, cause, entry, listing)
+    else:
+        place = listing.refusal_place(line, column)
+        yield replace(refusal.at(place), column=column and place.column, text=listing.text_of(line))
+    yield from (of_remark(remark, Level.ERROR, listing) for remark in seen.remarks if remark != cause)
+
+
+def notes_beside(found: list[Finding], source: Source, original: Original) -> Iterator[Finding]:
+    """What preparing tells of lines of which nothing is told yet."""
+    files = OwnFiles(source, original)
+    told = {(finding.file, finding.line) for finding in found}
+    notes = (of_note(note, OUTSIDE, Level.NOTE, files) for note in original.notes)
+    yield from (note for note in notes if (note.file, note.line) not in told)
+
+
+def of_note(note: Note, rule: str, level: Level, files: OwnFiles) -> Finding:
+    """What is told of a place of a source, or of a copybook, before the program has read it."""
+    place = files.place(note.place)
+    return replace(Finding(rule, level, note.text, text=place.shown[7:72].strip()).at(place), column=place.column)
 
 
 def caused(refusal: Finding, cause: Remark, entry: Entry, listing: Listing) -> Finding:
@@ -182,7 +225,7 @@ def caused(refusal: Finding, cause: Remark, entry: Entry, listing: Listing) -> F
     number = refusal.message.partition(":")[0]
     seen = of_remark(cause, Level.ERROR, listing)
     told = f"{cause.message}: {entry.cause}" if cause.is_name else cause.message
-    return replace(seen, rule=refusal.rule, message=f"{number}: {told}", advice=cause.advice or entry.advice)
+    return replace(seen, rule=refusal.rule, message=f"{number}: {told}", advice=seen.advice or entry.advice)
 
 
 def of_failure(result: Result, words: Words) -> Finding:

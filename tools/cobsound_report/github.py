@@ -5,13 +5,14 @@ from .report import Report
 
 
 def written(report: Report) -> str:
-    lines = [annotation(source, finding) for source, finding in report.findings() if finding.counts]
+    lines = [f"::notice title=Cobsound prepare::{escaped(report.prepared)}"] if report.prepared else []
+    lines += [annotation(source, finding) for source, finding in report.findings() if finding.counts]
     return "\n".join([*lines, report.summary(), ""])
 
 
 def annotation(source: SourceReport, finding: Finding) -> str:
     column = finding.span.first + 1 if finding.span else None
-    given = {"file": source.name, "line": finding.line, "col": column, "title": f"Cobsound {finding.rule}"}
+    given = {"file": finding.file_told(source), "line": finding.line, "col": column, "title": f"Cobsound {finding.rule}"}
     words = ",".join(f"{name}={escaped(str(value), ',:')}" for name, value in given.items() if value is not None)
     return f"::{finding.level.value.replace('note', 'notice')} {words}::{escaped(finding.message)}"
 

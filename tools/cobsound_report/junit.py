@@ -21,6 +21,9 @@ def written(report: Report) -> str:
         time=f"{sum(source.seconds for source in report.sources):.3f}",
         timestamp=report.call.when.isoformat(),
     )
+    if report.prepared:
+        properties = ElementTree.SubElement(suite, "properties")
+        ElementTree.SubElement(properties, "property", name="prepared", value=report.prepared)
     suite.extend(case(source) for source in report.sources)
     suites = ElementTree.Element("testsuites")
     suites.append(suite)

@@ -1,31 +1,39 @@
-"""The listing of a source's page, with what is told below the lines."""
+"""The listings of a source's page, of the source and its copybooks, with what is told below the lines."""
 
 from html import escape
 
-from .findings import Finding, Level, SourceReport
-from .sources import Listing, Span
+from .findings import Finding, Item, Level, SourceReport
+from .sources import Span
 from .words import SENTENCES
 
 
-def listing_table(source: SourceReport, listing: Listing) -> str:
-    below: dict[int, list[Finding]] = {}
+def anchor(source: SourceReport, line: int | None, file: str = "") -> str:
+    """The name by which links lead to a line of the source, or of a copybook."""
+    return f"F{source.copybooks().index(file) + 1}L{line}" if file else f"L{line}"
+
+
+def listing_table(source: SourceReport, lines: list[str], file: str = "") -> str:
+    """The listing of a source, or of a copybook."""
+    front = anchor(source, None, file).removesuffix("None")
+    below: dict[int, list[str]] = {}
+    spans: dict[int, list[Finding]] = {}
     for finding in source.findings:
-        if finding.line is not None:
-            below.setdefault(finding.line, []).append(finding)
-    rows = (row(number, line, below.get(number, [])) for number, line in enumerate(listing.lines, 1))
+        if finding.line is not None and finding.file == file:
+            spans.setdefault(finding.line, []).append(finding)
+            below.setdefault(finding.line, []).append(note(source, finding))
+    rows = (row(f"{front}{at}", line, spans.get(at, []), below.get(at, [])) for at, line in enumerate(lines, 1))
     return '<div class="wide"><table class="listing">\n' + "\n".join(rows) + "\n</table></div>"
 
 
-def row(number: int, line: str, below: list[Finding]) -> str:
+def row(name: str, line: str, found: list[Finding], said: list[str]) -> str:
     """A line of the listing, and what is to be said of it."""
-    kind = f' class="{below[0].level.value}"' if below else ""
-    code = marked(line, [finding.span for finding in below if finding.span]) if below else plain(line)
-    number_cell = f'<td class="number"><a href="#L{number}">{number}</a></td>'
-    said = "".join(note(finding) for finding in below)
-    return f'<tr id="L{number}"{kind}>{number_cell}<td class="code">{code}</td></tr>{said}'
+    kind = f' class="{found[0].level.value}"' if found else ""
+    code = marked(line, [finding.span for finding in found if finding.span]) if found else plain(line)
+    number_cell = f'<td class="number"><a href="#{name}">{name.partition("L")[2]}</a></td>'
+    return f'<tr id="{name}"{kind}>{number_cell}<td class="code">{code}</td></tr>{"".join(said)}'
 
 
-def note(finding: Finding) -> str:
+def note(source: SourceReport, finding: Finding) -> str:
     """What is said below a line: of an alarm in one line, since its kind is explained above the listing."""
     if finding.level == Level.ERROR:
         number, colon, cause = finding.message.partition(": ")
@@ -36,8 +44,10 @@ def note(finding: Finding) -> str:
     elif finding.statement is None:
         text = f"{escape(finding.message)}. <i>What to do:</i> {escape(finding.advice)}.{marks(finding)}"
     else:
-        text = f"<b>{finding.rule}</b> {escape(SENTENCES[finding.rule])}{declared(finding)}{marks(finding)}"
+        items = declared(source, finding.items)
+        text = f"<b>{finding.rule}</b> {escape(SENTENCES[finding.rule])}{items}{marks(finding)}"
         text += f' <span class="statement">statement {finding.statement}</span>'
+    text += copied(finding)
     return f'\n<tr class="note {finding.level.value}"><td class="number"></td><td>{text}</td></tr>'
 
 
@@ -48,10 +58,15 @@ def marks(finding: Finding) -> str:
     return "".join(f' <span class="new">{escape(mark)}</span>' for mark in told)
 
 
-def declared(finding: Finding) -> str:
+def declared(source: SourceReport, items: tuple[Item, ...]) -> str:
     """The items of a statement, with links to their declarations."""
-    links = ", ".join(f'<a href="#L{item.line}">{escape(item.name)}</a>' for item in finding.items)
-    return f": {links}" if links else ""
+    links = (f'<a href="#{anchor(source, item.line, item.file)}">{escape(item.name)}</a>' for item in items)
+    return f": {', '.join(links)}" if items else ""
+
+
+def copied(finding: Finding) -> str:
+    """The COPYs that led to a line of a copybook."""
+    return "".join(f"; copied by {escape(file)} line {line}" for file, line in finding.copies)
 
 
 def plain(line: str) -> str:

@@ -11,6 +11,8 @@ from concurrent.futures import Future, ThreadPoolExecutor
 from dataclasses import replace
 from queue import Empty, SimpleQueue
 
+from cobsound_prepare.options import Way
+
 from . import as_json, baseline, github, junit, outputs, pages, sarif, text
 from .answers import Verdict
 from .baseline import Baseline
@@ -18,6 +20,7 @@ from .explain import explained
 from .findings import report_of
 from .history import Earlier
 from .options import parsed
+from .prepared import Preparation, keep, kept_files
 from .program import Analyser, Program, Result, Stopped, found_program, told_of
 from .report import Call, Report, counted
 from .shards import list_sum, merged
@@ -99,7 +102,7 @@ def write_files(options: argparse.Namespace, report: Report, words: Words) -> No
     if options.sarif:
         outputs.write(options.sarif, sarif.written(report, words))
     if options.html:
-        for name, page in pages.written(report, words):
+        for name, page in pages.written(report, words, options.html):
             outputs.write(options.html / name, page)
 
 
@@ -121,11 +124,19 @@ def found(options: argparse.Namespace, words: Words, folder: pathlib.Path) -> Re
     sources = options.shard.taken(listed) if options.shard else listed
     if options.shard and not all(source.is_file for source in listed):
         raise OSError("what comes on standard input has no shards")
-    files = [*written_files(options, listed), *certificates(analyser, listed)]
-    outputs.refuse_clashes((source.path for source in [*listed, *read_files(options)]), files)
-    results = analysed(analyser, sources, options.jobs or os.cpu_count() or 1)
+    jobs = options.jobs or os.cpu_count() or 1
+    preparation = Preparation(Way.of(options), folder / "prepared", options.kept) if options.prepare else None
+    sources = preparation.all_made(sources, jobs) if preparation else sources
+    written = [*written_files(options, listed), *(kept for kept, _ in kept_files(sources))]
+    read = [*listed, *sources, *read_files(options)]
+    files = (file for source in read for file in source.files())
+    outputs.refuse_clashes(files, [*written, *certificates(analyser, listed)])
+    results = analysed(analyser, sources, jobs)
+    keep(sources)
     told = tuple(report_of(result, words) for result in results)
-    return Report(Call.now(analyser.program_sum), told, shard=options.shard, list_sum=list_sum(listed))
+    prepared = preparation.told() if preparation else ""
+    call = Call.now(analyser.program_sum)
+    return Report(call, told, shard=options.shard, list_sum=list_sum(listed), prepared=prepared)
 
 
 def put_together(options: argparse.Namespace) -> Report:
@@ -134,8 +145,8 @@ def put_together(options: argparse.Namespace) -> Report:
     whole = merged([pathlib.Path(file.path) for file in files])
     sources = [report.source for report in whole.reports]
     read = [*sources, *files, *read_files(options)]
-    outputs.refuse_clashes((source.path for source in read), written_files(options, sources))
-    return Report(Call.at(whole.when, whole.program_sum), whole.reports)
+    outputs.refuse_clashes((file for source in read for file in source.files()), written_files(options, sources))
+    return Report(Call.at(whole.when, whole.program_sum), whole.reports, prepared=whole.prepared)
 
 
 def read_files(options: argparse.Namespace) -> list[Source]:

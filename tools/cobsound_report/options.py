@@ -2,6 +2,8 @@
 
 import argparse
 
+from cobsound_prepare.options import Way, add_way
+
 from . import VERSION
 from .command_line import Parser, path
 from .shards import Shard
@@ -16,6 +18,7 @@ def parsed(words: list[str]) -> argparse.Namespace:
         epilog="Exit status: 0 all clean, 1 alarms, 2 a source is refused, 3 a failure of the outside.",
     )
     add_sources(parser)
+    add_preparation(parser)
     add_outputs(parser)
     add_work(parser)
     add_knowledge(parser)
@@ -23,11 +26,25 @@ def parsed(words: list[str]) -> argparse.Namespace:
     options = parser.parse_args(words)
     if not options.paths and not options.explain:
         parser.error("the following arguments are required: SOURCE")
+    if not options.prepare and (options.kept or not Way.of(options).is_plain):
+        parser.error("-I, --form, --encoding and --prepared go with --prepare")
+    if options.prepare and options.merge:
+        parser.error("--merge takes sources as the shards have prepared them")
     if options.shard and options.merge:
         parser.error("--merge takes all shards together")
     if options.shard and (options.sarif or options.html or options.write_baseline or options.format != "json"):
         parser.error("--shard goes with --format json, and --merge makes the rest")
+    if options.prepare and options.html and not options.kept:
+        options.kept = options.html / "prepared"
     return options
+
+
+def add_preparation(parser: Parser) -> None:
+    told = "prepare each source first, as `cobsound prepare` does; places are those of the files from which it is made"
+    parser.add_argument("--prepare", action="store_true", help=told)
+    told = "keep prepared sources, and their maps of places, in this folder; below that of --html without it"
+    parser.add_argument("--prepared", dest="kept", metavar="FOLDER", type=path, help=told)
+    add_way(parser)
 
 
 def add_sources(parser: Parser) -> None:

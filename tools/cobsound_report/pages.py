@@ -10,10 +10,11 @@ from html import escape
 from . import VERSION, as_json
 from .answers import Verdict
 from .findings import Finding, SourceReport
-from .listing import listing_table, marks
+from .listing import anchor, listing_table, marks
+from .prepared import own_lines
 from .program import made_path
 from .report import UNITS, Report, counted
-from .sources import Listing, Source
+from .sources import Original, Source
 from .words import SENTENCES, Entry, Words
 
 STYLE = pathlib.Path(__file__).with_name("style.css").read_text("utf-8")
@@ -61,11 +62,10 @@ def names(sources: list[Source]) -> Iterator[str]:
     yield from (page_name(source) for source in sources)
 
 
-def written(report: Report, words: Words) -> Iterator[tuple[str, str]]:
-    """Each file with its text, the index last."""
+def written(report: Report, words: Words, folder: pathlib.Path) -> Iterator[tuple[str, str]]:
+    """Each file below the folder of pages with its text, the index last."""
     for source in report.sources:
-        name = page_name(source.source)
-        yield name, source_page(source, words, "../" * name.count("/") + ANSWER.file)
+        yield page_name(source.source), source_page(source, words, folder)
     for column in COLUMNS:
         if column is not ANSWER:
             yield column.file, index_page(report, column, words)
@@ -86,8 +86,10 @@ def page(title: str, body: str) -> str:
     )
 
 
-def source_link(source: SourceReport, line: int | None = None) -> str:
-    place, text = (f"#L{line}", f"{source.name}:{line}") if line else ("", source.name)
+def source_link(source: SourceReport, finding: Finding | None = None) -> str:
+    place, text = "", source.name
+    if finding and finding.line:
+        place, text = f"#{anchor(source, finding.line, finding.file)}", f"{finding.file_told(source)}:{finding.line}"
     return f'<a href="{urllib.parse.quote(os.fsencode(page_name(source.source)))}{place}">{escape(text)}</a>'
 
 
@@ -107,6 +109,7 @@ def index_page(report: Report, order: Column, words: Words) -> str:
     parts = [
         "<h1>Cobsound report</h1>",
         f'<p class="facts">{made_by(report)}</p>',
+        f"<p>{escape(capital(report.prepared))}.</p>" if report.prepared else "",
         bar(report),
         f"<p>{escape(report.summary())}</p>",
         *(f"<p>{escape(capital(idle))}.</p>" for idle in report.idle),
@@ -143,7 +146,7 @@ def news(report: Report) -> str:
     found = [(source, finding) for source, finding in report.findings() if finding.is_new]
     gone = report.earlier.gone(list(report.sources))
     told = f"<h2>Since {escape(report.earlier.when[:16].replace('T', ' '))}</h2>\n<p>{len(found)} new, {gone} gone</p>"
-    rows = "\n".join(f"<li>{source_link(source, finding.line)} {told_short(finding)}</li>" for source, finding in found)
+    rows = "\n".join(f"<li>{source_link(source, finding)} {told_short(finding)}</li>" for source, finding in found)
     return f"{told}\n<ul>\n{rows}\n</ul>" if rows else told
 
 
@@ -191,20 +194,35 @@ def index_row(source: SourceReport) -> str:
     return f"<tr>{''.join(cells)}</tr>"
 
 
-def source_page(source: SourceReport, words: Words, index: str) -> str:
-    listing = Listing(source.source) if os.path.isfile(source.source.path) else None
+def source_page(source: SourceReport, words: Words, folder: pathlib.Path) -> str:
+    index = "../" * page_name(source.source).count("/") + ANSWER.file
+    lines = own_lines(source.source)
     facts = [verdict_of(source)]
     if source.nodes is not None:
         kept = "kept, and checked again" if source.is_kept else "made anew, and checked"
         facts.append(f"certificate of {counted(source.nodes, 'node')} and {counted(source.cells or 0, 'cell')}, {kept}")
-    if listing:
-        facts.append(counted(len(listing.lines), "line"))
-    return page(
-        escape(source.name),
-        f'<nav><a href="{index}">All sources</a></nav>\n<h1>{escape(source.name)}</h1>\n'
-        f'<p class="facts">{" · ".join(facts)}</p>\n{causes(source, words)}'
-        + (f"\n<h2>Listing</h2>\n{listing_table(source, listing)}" if listing else ""),
-    )
+    facts += [counted(len(lines), "line")] if lines else []
+    parts = [
+        f'<nav><a href="{index}">All sources</a></nav>\n<h1>{escape(source.name)}</h1>',
+        f'<p class="facts">{" · ".join(facts)}</p>',
+        prepared_told(source.source.original, (folder / page_name(source.source)).parent),
+        causes(source, words),
+        f"<h2>Listing</h2>\n{listing_table(source, lines)}" if lines else "",
+    ]
+    for file in source.copybooks():
+        parts.append(f"<h2>{escape(file)}</h2>\n{listing_table(source, own_lines(source.source, file), file)}")
+    return page(escape(source.name), "\n".join(part for part in parts if part))
+
+
+def prepared_told(original: Original | None, page_folder: pathlib.Path) -> str:
+    """Of what a page in this folder tells, where its source was prepared."""
+    if not original or original.answer:
+        return ""
+    made = ", ".join(escape(file) for file in original.copybooks)
+    of = f", made of it and of {made}" if made else ""
+    link = urllib.parse.quote(os.fsencode(os.path.relpath(original.kept, page_folder))) if original.kept else ""
+    kept = f'<a href="{link}">prepared source</a>' if link else "prepared source"
+    return f"<p>What is told holds of the {kept}{of}; its places are those of these files.</p>"
 
 
 def causes(source: SourceReport, words: Words) -> str:
@@ -216,23 +234,26 @@ def causes(source: SourceReport, words: Words) -> str:
         return f"<p>{escape(capital(first.message))}.{advised(first.advice)}</p>"
     parts = []
     if source.verdict == Verdict.REFUSED:
-        parts.append(f'<p>Cobsound refuses this source: see <a href="#L{first.line}">line {first.line}</a>.</p>')
-        parts += [found_table("What else is seen in it", others, seen_row)] if others else []
+        place = line_link(source, first).replace("Line", "line")
+        parts.append(f"<p>Cobsound refuses this source: see {place}.</p>")
+        parts += [found_table("What else is seen in it", source, others, seen_row)] if others else []
     if source.alarms():
-        parts += [found_table("Alarms", source.alarms(), alarm_row), meanings(source, words)]
+        parts += [found_table("Alarms", source, source.alarms(), alarm_row), meanings(source, words)]
     if source.warnings():
-        parts.append(found_table("Warnings", source.warnings(), seen_row))
+        parts.append(found_table("Warnings", source, source.warnings(), seen_row))
     return "\n".join(parts)
 
 
-def found_table(title: str, findings: list[Finding], row: Callable[[Finding], str]) -> str:
-    rows = "\n".join(row(finding) for finding in findings)
+def found_table(
+    title: str, source: SourceReport, findings: list[Finding], row: Callable[[SourceReport, Finding], str]
+) -> str:
+    rows = "\n".join(row(source, finding) for finding in findings)
     return f'<h2>{title}</h2>\n<table class="found">\n{rows}\n</table>'
 
 
-def alarm_row(alarm: Finding) -> str:
+def alarm_row(source: SourceReport, alarm: Finding) -> str:
     text = f"<code>{escape(alarm.text)}</code>{marks(alarm)}{witnessed(alarm)}"
-    return f'<tr><td class="place">{line_link(alarm)}</td><td><b>{alarm.rule}</b></td><td>{text}</td></tr>'
+    return f'<tr><td class="place">{line_link(source, alarm)}</td><td><b>{alarm.rule}</b></td><td>{text}</td></tr>'
 
 
 def witnessed(alarm: Finding) -> str:
@@ -243,13 +264,14 @@ def witnessed(alarm: Finding) -> str:
     return f'<br>{escape(capital(alarm.witness.told))}{" " if files else ""}{files}'
 
 
-def seen_row(finding: Finding) -> str:
+def seen_row(source: SourceReport, finding: Finding) -> str:
     text = f"{escape(finding.message)}.{advised(finding.advice)}{marks(finding)}"
-    return f'<tr><td class="place">{line_link(finding)}</td><td>{text}</td></tr>'
+    return f'<tr><td class="place">{line_link(source, finding)}</td><td>{text}</td></tr>'
 
 
-def line_link(finding: Finding) -> str:
-    return f'<a href="#L{finding.line}">Line {finding.line}</a>'
+def line_link(source: SourceReport, finding: Finding) -> str:
+    of = f" of {escape(finding.file)}" if finding.file else ""
+    return f'<a href="#{anchor(source, finding.line, finding.file)}">Line {finding.line}{of}</a>'
 
 
 def meanings(source: SourceReport, words: Words) -> str:

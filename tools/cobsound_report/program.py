@@ -15,7 +15,7 @@ from .answers import Answer, Verdict, answer_of
 from .sources import Source
 
 # Endings of files that are made below a folder for each source.
-MADE = (".cert", ".made", ".html")
+MADE = (".cert", ".made", ".html", ".txt", ".map.json")
 
 
 class Stopped(Exception):
@@ -138,6 +138,8 @@ class Analyser:
     def result(self, source: Source) -> Result:
         """What is to be said of a source: what its kept certificate says where nothing better can be had, else what an
         analysis says."""
+        if source.original and source.original.answer:
+            return Result(source, source.original.answer)
         begun = time.monotonic()
         try:
             found = self.found(source, begun + self.seconds)

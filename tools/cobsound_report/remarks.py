@@ -29,6 +29,9 @@ class Remark:
     # whether the message is a name alone, of which a rule is to be told
     is_name: bool = False
 
+    # the line of the source that is to be told behind the advice
+    named_on: int = 0
+
     @property
     def place(self) -> tuple[int, int]:
         return self.spot.line, self.spot.column
@@ -112,5 +115,6 @@ def missing_remark(place: Spot) -> Remark:
 
 def undeclared_remark(unknown: Unknown) -> Remark:
     message = f"{unknown.spot.text} isn't {unknown.wanted}"
-    line = f", on line {unknown.nearest_line}" if unknown.nearest_line else ""
-    return Remark(UNDECLARED, unknown.spot, message, f"{unknown.nearest}{line}?" if unknown.nearest else "")
+    if not unknown.nearest_line:
+        return Remark(UNDECLARED, unknown.spot, message, f"{unknown.nearest}?" if unknown.nearest else "")
+    return Remark(UNDECLARED, unknown.spot, message, unknown.nearest, named_on=unknown.nearest_line)

@@ -53,7 +53,7 @@ def commit_here() -> str:
 @dataclass(frozen=True)
 class Report:
     """What is told of the sources; beside a baseline also what is gone of it, and of suppressions which are idle. A
-    shard's has the sum of the list of all sources."""
+    shard's has the sum of the list of all sources. `prepared` says of what all this holds, where sources were prepared."""
 
     call: Call
     sources: tuple[SourceReport, ...]
@@ -63,6 +63,7 @@ class Report:
     idle: tuple[str, ...] = ()
     shard: Shard | None = None
     list_sum: str = ""
+    prepared: str = ""
 
     @property
     def worst(self) -> Verdict:

@@ -12,7 +12,7 @@ from .findings import Finding, Item, Level, SourceReport
 from .report import Report
 from .sources import Source, Span
 from .remarks import PARAGRAPH
-from .words import SEEN, SENTENCES, Entry, Words
+from .words import SEEN, SENTENCES, UNPREPARED, Entry, Words
 
 SCHEMA = "https://docs.oasis-open.org/sarif/sarif/v2.1.0/errata01/os/schemas/sarif-schema-2.1.0.json"
 GUIDE = (ROOT / "docs/GUIDE.md").as_uri()
@@ -46,6 +46,8 @@ def log(report: Report, words: Words) -> dict:
         "columnKind": "unicodeCodePoints",
         "results": [*found_told, *(absent(known, names) for known in report.gone)],
     }
+    if report.prepared:
+        run["properties"] = {"prepared": report.prepared}
     return {"$schema": SCHEMA, "version": "2.1.0", "runs": [run]}
 
 
@@ -85,6 +87,8 @@ def heading(name: str) -> str:
     """The part of the guide that has a rule."""
     if name in SENTENCES:
         return "the-report"
+    if name == UNPREPARED:
+        return "your-own-sources"
     return "what-isnt-in-the-profile" if name in SEEN else "refusals"
 
 
@@ -95,15 +99,17 @@ def result(source: SourceReport, finding: Finding, rules: list[str], report: Rep
         "ruleIndex": rules.index(finding.rule) if finding.rule in rules else -1,
         "level": finding.level.value,
         "message": {"text": finding.message},
-        "locations": [location(source.source, finding.line, finding.span)],
+        "locations": [location(finding.file or source.source.name, finding.line, finding.span)],
         "partialFingerprints": {FINGERPRINT: finding.fingerprint},
     }
     if report.baseline:
         told["baselineState"] = "unchanged" if finding.is_known else "new"
     if finding.reason:
         told["suppressions"] = [{"kind": "external", "status": "accepted", "justification": finding.reason}]
-    if finding.items:
-        told["relatedLocations"] = [declaration(source.source, item, at) for at, item in enumerate(finding.items, 1)]
+    related = [declaration(source.source, item) for item in finding.items]
+    related += [copied(file, line) for file, line in finding.copies]
+    if related:
+        told["relatedLocations"] = [{"id": number} | place for number, place in enumerate(related, 1)]
     if finding.witness:
         told["rank"] = finding.witness.rank
         if finding.witness.files:
@@ -125,33 +131,40 @@ def absent(known: Known, rules: list[str]) -> dict:
         "ruleId": known.rule,
         "ruleIndex": rules.index(known.rule) if known.rule in rules else -1,
         "message": {"text": known.told()},
-        "locations": [{"physicalLocation": {"artifactLocation": artifact(known.source)}}],
+        "locations": [location(known.file or known.source, None, None)],
         "partialFingerprints": {FINGERPRINT: known.fingerprint},
         "baselineState": "absent",
     }
 
 
-def declaration(source: Source, item: Item, number: int) -> dict:
+def declaration(source: Source, item: Item) -> dict:
     """Where an item of the statement is declared."""
     message = {"text": f"{item.name} is declared here"}
-    return {"id": number, "message": message, **location(source, item.line, item.span)}
+    return {"message": message, **location(item.file or source.name, item.line, item.span)}
+
+
+def copied(file: str, line: int) -> dict:
+    """A COPY that led to the file of a finding."""
+    return {"message": {"text": "copied by this"}, **location(file, line, None)}
 
 
 def notification(source: SourceReport, finding: Finding) -> dict:
     return {
         "level": "error",
         "message": {"text": finding.message},
-        "locations": [location(source.source, None, None)],
+        "locations": [location(source.source.name, None, None)],
     }
 
 
-def location(source: Source, line: int | None, span: Span | None) -> dict:
-    place: dict = {"artifactLocation": artifact(source.name)}
-    return {"physicalLocation": place | ({"region": region(line, span)} if line and span else {})}
+def location(name: str, line: int | None, span: Span | None) -> dict:
+    place: dict = {"artifactLocation": artifact(name)}
+    return {"physicalLocation": place | ({"region": region(line, span)} if line else {})}
 
 
-def region(line: int, span: Span) -> dict:
-    return {"startLine": line, "startColumn": span.first + 1, "endColumn": max(span.behind, span.first + 1) + 1}
+def region(line: int, span: Span | None) -> dict:
+    """Characters of a line, or the whole line."""
+    columns = {"startColumn": span.first + 1, "endColumn": max(span.behind, span.first + 1) + 1} if span else {}
+    return {"startLine": line, **columns}
 
 
 def artifact(name: str) -> dict:

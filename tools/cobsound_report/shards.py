@@ -6,12 +6,12 @@ import hashlib
 import json
 import os
 import pathlib
-from dataclasses import dataclass
+from dataclasses import dataclass, replace
 
 from .answers import Verdict
 from .findings import Finding, Item, Level, SourceReport
 from .program import sum_of
-from .sources import Source, Span
+from .sources import Original, Source, Span
 
 
 @dataclass(frozen=True)
@@ -53,15 +53,18 @@ class Part:
     when: datetime.datetime
     program_sum: str
     list_sum: str
+    prepared: str
     reports: tuple[SourceReport, ...]
 
 
 @dataclass(frozen=True)
 class Merged:
-    """The reports of all shards in the order of one call, with the last time and the program of them all."""
+    """The reports of all shards in the order of one call, with the last time and the program of them all, and of what
+    they hold where sources were prepared."""
 
     when: datetime.datetime
     program_sum: str
+    prepared: str
     reports: tuple[SourceReport, ...]
 
 
@@ -76,6 +79,8 @@ def merged(files: list[pathlib.Path]) -> Merged:
         raise OSError(f"{told} aren't all shards of {count}")
     if len({part.program_sum for part in parts}) > 1:
         raise OSError("the shards were made by different programs")
+    if len({part.prepared for part in parts}) > 1:
+        raise OSError("the shards haven't prepared their sources in the same way")
     if len({part.list_sum for part in parts}) > 1:
         raise OSError("the shards weren't made of the same list of sources")
     total = sum(len(part.reports) for part in parts)
@@ -83,7 +88,7 @@ def merged(files: list[pathlib.Path]) -> Merged:
         raise OSError("a shard lacks sources")
     longest = len(parts[0].reports)
     rows = (part.reports[at] for at in range(longest) for part in parts if at < len(part.reports))
-    return Merged(max(part.when for part in parts), parts[0].program_sum, tuple(rows))
+    return Merged(max(part.when for part in parts), parts[0].program_sum, parts[0].prepared, tuple(rows))
 
 
 def part_at(file: pathlib.Path) -> Part:
@@ -91,7 +96,8 @@ def part_at(file: pathlib.Path) -> Part:
         told = json.loads(file.read_text("ascii"))
         when = datetime.datetime.fromisoformat(told["when"])
         reports = tuple(source_of(source) for source in told["sources"])
-        return Part(Shard.of(told["shard"]), when, told["program"], told["list"], reports)
+        prepared = told.get("prepared", "")
+        return Part(Shard.of(told["shard"]), when, told["program"], told["list"], prepared, reports)
     except (ValueError, KeyError, TypeError):
         raise OSError(f"{file} isn't written as the report of a shard is") from None
 
@@ -99,8 +105,10 @@ def part_at(file: pathlib.Path) -> Part:
 def source_of(told: dict) -> SourceReport:
     """What a shard tells of a source, which must stand here as the shard found it."""
     source = Source.at(told["source"])
-    if source_sum(source) != told["sum"]:
+    if sum_or_none(source.path) != told["sum"]:
         raise OSError(f"{source.name} isn't the source that a shard has read")
+    if "prepared" in told:
+        source = replace(source, original=original_of(source, told["prepared"]))
     return SourceReport(
         source,
         Verdict[told["verdict"].upper()],
@@ -113,19 +121,32 @@ def source_of(told: dict) -> SourceReport:
     )
 
 
-def source_sum(source: Source) -> str:
-    """The sum of a source; nothing where it can't be read."""
-    return sum_of(source.path) if os.path.isfile(source.path) and os.access(source.path, os.R_OK) else ""
+def original_of(source: Source, told: dict) -> Original:
+    """Of what a shard has made a prepared source."""
+    for file, wanted in zip(told["copybooks"], told["sums"], strict=True):
+        if sum_or_none(file) != wanted:
+            raise OSError(f"{file} isn't the copybook that a shard has read")
+    return Original(source.path, tuple(told["copybooks"]), told["encoding"], told["kept"])
+
+
+def sum_or_none(file: str) -> str:
+    """The sum of a file; nothing where it can't be read."""
+    return sum_of(file) if os.path.isfile(file) and os.access(file, os.R_OK) else ""
 
 
 def finding_of(told: dict) -> Finding:
     """A finding; what is new or known of it is found anew."""
     plain = {name: told[name] for name in PLAIN}
-    items = tuple(Item(item["name"], item["line"], span_of(item["marked"]) or Span(0, 0)) for item in told["items"])
-    return Finding(**plain, level=Level(told["level"]), span=span_of(told["marked"]), items=items)
+    copies = tuple((copy["file"], copy["line"]) for copy in told["copied_by"])
+    items = tuple(item_of(item) for item in told["items"])
+    return Finding(**plain, level=Level(told["level"]), span=span_of(told["marked"]), items=items, copies=copies)
 
 
-PLAIN = ("rule", "message", "advice", "line", "column", "shown", "statement", "text", "paragraph", "fingerprint")
+def item_of(told: dict) -> Item:
+    return Item(told["name"], told["line"], span_of(told["marked"]) or Span(0, 0), told["file"])
+
+
+PLAIN = ("rule", "message", "advice", "file", "line", "column", "shown", "statement", "text", "paragraph", "fingerprint")
 
 
 def span_of(marked: dict | None) -> Span | None:

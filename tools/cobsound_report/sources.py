@@ -5,6 +5,9 @@ import pathlib
 from collections.abc import Iterator
 from dataclasses import dataclass
 
+from cobsound_prepare.tokens import Note
+
+from .answers import Answer, Verdict
 from .scan import lines_of
 from .statements import Statement, Text
 
@@ -13,17 +16,49 @@ STANDARD_INPUT = "-"
 
 
 @dataclass(frozen=True)
+class Original:
+    """What a prepared source was made of: its own path, its copybooks, and their encoding; and what came of that, which
+    is `kept` in a file, with its places in another. Where it couldn't be prepared there is a refusal or a failure."""
+
+    path: str
+    copybooks: tuple[str, ...] = ()
+    encoding: str = "auto"
+    kept: str = ""
+    places: str = ""
+    notes: tuple[Note, ...] = ()
+    refusal: Note | None = None
+    failure: str = ""
+
+    @property
+    def answer(self) -> Answer | None:
+        """What is to be said in place of the program's answer."""
+        if self.failure:
+            return Answer(Verdict.FAILED, told=self.failure)
+        return Answer(Verdict.REFUSED, told=self.refusal.text) if self.refusal else None
+
+
+@dataclass(frozen=True)
 class Source:
-    """A source: the name under which it is told, and the path under which it can be read, which is that of a copy where
-    it is no file."""
+    """A source: the name under which it is told, and the path under which the program can read it, which is that of a
+    copy where it is no file, or was prepared."""
 
     name: str
     path: str
     is_file: bool = True
+    original: Original | None = None
 
     @classmethod
     def at(cls, path: str) -> "Source":
         return cls(path, path)
+
+    @property
+    def own_path(self) -> str:
+        """The path of the file as it stands there."""
+        return self.original.path if self.original else self.path
+
+    def files(self) -> tuple[str, ...]:
+        """All files that are read of it."""
+        return (self.own_path, *(self.original.copybooks if self.original else ()))
 
 
 def sources_at(paths: list[str], folder: pathlib.Path) -> list[Source]:
@@ -75,12 +110,29 @@ class Span:
     behind: int
 
 
+@dataclass(frozen=True)
+class Place:
+    """Characters of a line as it is shown, with the column of the first byte, from 1. Of another file than the source's
+    own it names that, and the COPYs that led there, the nearest first."""
+
+    line: int
+    column: int
+    span: Span
+    shown: str
+    file: str = ""
+    copies: tuple[tuple[str, int], ...] = ()
+
+
 def shown(raw: bytes) -> str:
     """The bytes of a line as characters that a terminal and a page can show."""
     try:
         text = raw.decode()
     except UnicodeDecodeError:
         text = raw.decode("latin-1")
+    return showable(text)
+
+
+def showable(text: str) -> str:
     return "".join(c if c.isprintable() else " " if c == "\t" else "\N{REPLACEMENT CHARACTER}" for c in text)
 
 
@@ -101,17 +153,25 @@ class Listing:
         """A statement by its number, where there is one."""
         return self.text.statements[number - 1] if 1 <= number <= len(self.text.statements) else None
 
-    def span(self, line: int, column: int, length: int) -> Span:
-        """The characters of so many bytes from a column on."""
+    def text_of(self, number: int) -> str:
+        """What stands in columns 8 to 72 of a line."""
+        return self.line(number)[7:72].strip()
+
+    def line_told(self, number: int) -> str:
+        return f"line {number}"
+
+    def place(self, line: int, column: int, length: int) -> Place:
+        """The place of so many bytes from a column on."""
         raw = self.raw[line - 1] if 1 <= line <= len(self.raw) else b""
-        return Span(*(len(shown(raw[:end])) for end in (column - 1, column - 1 + length)))
+        span = Span(*(len(shown(raw[:end])) for end in (column - 1, column - 1 + length)))
+        return Place(line, column, span, self.line(line))
 
-    def refusal_span(self, line: int, column: int | None) -> Span:
+    def refusal_place(self, line: int, column: int | None) -> Place:
         """The character that a refusal names; the whole text of its line where it names none."""
-        return self.span(line, column, 1) if column else self.text_span(line)
+        return self.place(line, column, 1) if column else self.text_place(line)
 
-    def text_span(self, line: int) -> Span:
-        """The characters of a line's text, in columns 8 to 72."""
+    def text_place(self, line: int) -> Place:
+        """The place of a line's text, in columns 8 to 72."""
         raw = self.raw[line - 1][:72] if 1 <= line <= len(self.raw) else b""
         text = raw[7:].strip()
-        return self.span(line, 1 + raw.find(text, 7) if text else 1, len(text))
+        return self.place(line, 1 + raw.find(text, 7) if text else 1, len(text))

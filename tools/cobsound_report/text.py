@@ -30,7 +30,8 @@ class Style:
 
 
 def written(report: Report, style: Style = Style()) -> str:
-    lines = [told for source in report.sources for told in lines_of(source, style)]
+    lines = [line("prepared", Level.NOTE, report.prepared, style)] if report.prepared else []
+    lines += [told for source in report.sources for told in lines_of(source, style)]
     lines += [line(known.source, Level.NOTE, known.told(), style) for known in report.gone]
     lines += [line("suppressions", Level.WARNING, idle, style) for idle in report.idle]
     return "\n".join([*lines, report.summary(), ""])
@@ -39,10 +40,12 @@ def written(report: Report, style: Style = Style()) -> str:
 def lines_of(source: SourceReport, style: Style) -> Iterator[str]:
     """The lines on what counts of a source: none where it is clean."""
     for finding in filter(lambda finding: finding.counts, source.findings):
-        place = ":".join(str(part) for part in (source.name, finding.line, finding.column) if part is not None)
+        name = finding.file_told(source)
+        place = ":".join(str(part) for part in (name, finding.line, finding.column) if part is not None)
         yield line(place, finding.level, finding.message, style)
         if finding.span:
             yield from pointed(finding.shown, finding.span, style)
+        yield from (line(place, Level.NOTE, f"copied by {file} line {at}", style) for file, at in finding.copies)
         if finding.witness:
             yield line(place, Level.NOTE, finding.witness.told, style)
         if finding.advice and finding.statement is None:

@@ -16,6 +16,9 @@ SENTENCES = {
     "CLASS": "an operand of this statement may not be numeric",
 }
 
+# Of a source that can't be prepared.
+UNPREPARED = "not-prepared"
+
 # What the tool itself sees in a source, and what is to be done.
 SEEN = {
     OUTSIDE: (
@@ -25,6 +28,10 @@ SEEN = {
     UNDECLARED: ("a name that nothing declares as what it is used for", "declare it, or correct it"),
     MISSING: ("a division, section or paragraph is missing", "write its header"),
     FORM: ("a source in free form or in EBCDIC", "bring it into fixed form in ASCII"),
+    UNPREPARED: (
+        "a source that can't be prepared, as a copybook isn't found or copies itself, or COPY isn't rightly written",
+        "give the folders of copybooks by -I, or correct it",
+    ),
     PARAGRAPH: (
         "a word that begins statements elsewhere is taken as a paragraph's name, so that the program goes on behind it",
         "write what the profile has for it, or leave it out",
