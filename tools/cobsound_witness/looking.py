@@ -10,6 +10,7 @@ from dataclasses import dataclass, replace
 
 from cobsound_report.answers import Alarm, Answer, Verdict, answer_of
 from cobsound_report.program import as_name
+from cobsound_report.scan import lines_of
 
 from .growth import Growth, growth_of
 from .kept import Finding, Results
@@ -91,7 +92,7 @@ def alarms_of(program: str, source: str, folder: str) -> dict[Fault, int]:
 
 def model_of(text: bytes, alarms: dict[Fault, int]) -> Model:
     """What the source is made of, as this tool reads it. The alarms must stand where it finds their statements."""
-    tokens = tokens_of([line.removesuffix("\r") for line in text.decode("latin-1").split("\n")])
+    tokens = tokens_of(lines_of(text))
     layout = layout_of(tokens)
     statements = statements_of(tokens, layout)
     for fault, line in alarms.items():

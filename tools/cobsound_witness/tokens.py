@@ -5,6 +5,8 @@ import re
 from dataclasses import dataclass
 from enum import Enum, auto
 
+from cobsound_report.scan import Joined
+
 
 class Kind(Enum):
     WORD = auto()
@@ -42,49 +44,21 @@ PATTERN = re.compile(
 PICTURE = re.compile(r"\s+(?:IS\s+)?(\S+?)(?=[.,;]?\s)", re.I)
 
 
-def tokens_of(lines: list[str]) -> list[Token]:
+def tokens_of(lines: list[bytes]) -> list[Token]:
     """All tokens; commas and semicolons are left out."""
-    text, places = joined(lines)
+    joined = Joined(lines)
     found: list[Token] = []
     at = 0
-    while match := PATTERN.search(text, at):
+    while match := PATTERN.search(joined.text, at):
         kind, raw, at = Kind[match.lastgroup or ""], match[0], match.end()
-        line, column = places[match.start()]
-        is_on_one_line = line == places[at - 1][0]
+        line, column = joined.place(match.start())
+        is_on_one_line = line == joined.place(at - 1)[0]
         if kind == Kind.TEXT:
             raw = raw[1:-1].replace(raw[0] * 2, raw[0])
         found.append(Token(kind, raw if kind == Kind.TEXT else raw.upper(), line, column, is_on_one_line))
         if kind == Kind.WORD and raw.upper() in ("PIC", "PICTURE"):
-            picture = PICTURE.match(text, at)
+            picture = PICTURE.match(joined.text, at)
             if picture:
-                found.append(Token(Kind.PICTURE, picture[1].upper(), *places[picture.start(1)]))
+                found.append(Token(Kind.PICTURE, picture[1].upper(), *joined.place(picture.start(1))))
                 at = picture.end()
     return found
-
-
-def joined(lines: list[str]) -> tuple[str, list[tuple[int, int]]]:
-    """The text without comment lines, with continuations joined, and the line and column of each character."""
-    text: list[str] = []
-    places: list[tuple[int, int]] = []
-    mark = ""
-    for number, raw in enumerate(lines, 1):
-        line = raw.ljust(72)[:72]
-        if line[6] in "*/Dd" or not line[7:].strip():
-            continue
-        at = 7
-        if line[6] == "-":
-            at = 72 - len(line[7:].lstrip()) + (1 if mark else 0)
-            while text and text[-1] == " " and not mark:
-                text.pop()
-                places.pop()
-        elif text:
-            text.append(" ")
-            places.append((number, 0))
-        for column, character in enumerate(line[at:], at + 1):
-            if character in "'\"" and mark in ("", character):
-                mark = "" if mark else character
-            text.append(character)
-            places.append((number, column))
-    text.append(" ")
-    places.append((len(lines), 73))
-    return "".join(text), places
