@@ -17,7 +17,9 @@ from concurrent.futures import ProcessPoolExecutor
 from tests.prepare import REWRITINGS, encoded, prepare, rows, source_of
 from tests.prepare_texts import COPIES, FORMS, laid
 
+from cobsound_prepare.places import Map
 from cobsound_prepare.tokens import SourceError
+from cobsound_prepare.untaken import untaken
 
 FEW = 300
 CHUNK = 500
@@ -27,7 +29,8 @@ WHOLE += [source.encode() for source, _ in FORMS.values()]
 WHOLE += [COPIES["pay.cob"].encode()] * 20
 WORDS = sorted(set().union(*(rewriting.words for rewriting in REWRITINGS)))
 WORDS += "COPY REPLACE REPLACING BY == ==. OFF LEADING :TAG: PIC IS PICTURE SECTION DIVISION DATA 78 VALUE OF".split()
-WORDS += "IN X'41' X'4 ' \" *> >>IF . , ( ) LIMITS RATES é".split() + ["\t", "\n      -", "\n      D", "\n"]
+WORDS += "IN X'41' X'4 ' \" *> >>IF . , ( ) LIMITS RATES é EXEC END-EXEC".split()
+WORDS += ["\t", "\n      -", "\n      D", "\n", "\n      $SET", "\n      >>D ", "\n      >>SOURCE FREE\n", "\n      $IF"]
 
 
 def damaged(number):
@@ -64,7 +67,10 @@ def fault(number, folder):
     try:
         found = prepare(str(path), [os.path.join(folder, "books")])
         encoded(found.text)
-        found.map.as_json()
+        for note in (*found.notes, *untaken(found)):
+            str(note)
+        if Map.read(found.map.as_json()) != found.map:
+            return f"damaged source {number}: the map isn't what is written"
         if len(found.map.lines) != found.text.count("\n"):
             return f"damaged source {number}: a line of the prepared source has no place"
     except SourceError as error:

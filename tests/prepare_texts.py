@@ -204,6 +204,50 @@ def mapped(places, line, column):
     return places["origins"][origin]["file"], number, mapped_column
 
 
+# Lines with directives, each with what becomes of it, and what is told of it by name; none of the others.
+KEPT = {
+    "      >>IF A = 1": ("      >>IF A = 1", ">>IF A = 1"),
+    "        >>EVALUATE TRUE": ("        >>EVALUATE TRUE", ">>EVALUATE TRUE"),
+    "      >>DEFINE A AS 1": ("      >>DEFINE A AS 1", ">>DEFINE A AS 1"),
+    "      $SET ANS85": ("      $SET ANS85", "$SET ANS85"),
+    "      $if A": ("      $if A", "$if A"),
+    "      ++INCLUDE BOOK": ("      ++INCLUDE BOOK", "++INCLUDE BOOK"),
+    "      >>SOURCE FORMAT VARIABLE": ("      >>SOURCE FORMAT VARIABLE", ">>SOURCE FORMAT VARIABLE"),
+    "      >>SOURCE FORMAT IS FIXED": ("      *>SOURCE FORMAT IS FIXED", None),
+    '      $SET SOURCEFORMAT"FIXED"': ('      *SET SOURCEFORMAT"FIXED"', None),
+    "      >>LISTING OFF": ("      *>LISTING OFF", None),
+    "      >>D DISPLAY 'A'": ("      *>D DISPLAY 'A'", None),
+}
+DEBUGGED = "       ENVIRONMENT DIVISION. CONFIGURATION SECTION.\n       SOURCE-COMPUTER. PC WITH DEBUGGING MODE.\n"
+
+
+def of_directives(program):
+    """Those that say something stay, are told, and are refused; so is `>>D` where it is code."""
+    for line, (wanted, name) in KEPT.items():
+        found = prepared(f"{FIXED}{line}\n           STOP RUN.\n")
+        told = [note.text for note in found.notes]
+        if found.text.splitlines()[3] != wanted or told != ([f"the directive {name} isn't taken"] if name else []):
+            return f"prepare, {line.strip()}: {found.text.splitlines()[3]!r}, {told}"
+        out = "" if name is None else "E"
+        wrong = Case(f"prepare, {line}", ["run", "S"], {"S": found.text}, 0, lambda text, out=out: text[:1] == out)
+        if wrong.tried(program):
+            return wrong.tried(program)
+    source = FIXED.replace("       PROCEDURE", f"{DEBUGGED}       PROCEDURE") + "      >>D    DISPLAY 'A'.\n"
+    found = prepared(source)
+    is_right = found.text.splitlines()[-1] == "      >>D    DISPLAY 'A'." and len(found.notes) == 1
+    return None if is_right else f"prepare, >>D with DEBUGGING MODE: {found.text}"
+
+
+def of_free_directives():
+    """Free form: the line stays in column 7, where the program refuses it."""
+    source = "identification division.\nprogram-id. t.\nprocedure division.\n  >>if a = 1\n>>D display 'A'\nstop run.\n"
+    found = prepared(source)
+    lines = found.text.splitlines()[3:5]
+    told = [(note.place.line, note.place.column, note.text) for note in found.notes]
+    wanted = (["      >>if a = 1", "      *>>D display 'A'"], [(4, 3, "the directive >>if a = 1 isn't taken")])
+    return None if (lines, told) == wanted else f"prepare, directives in free form: {lines}, {told}"
+
+
 REFUSED = {  # files, and the error of the first of them
     "a copybook that isn't there": (
         {"s.cob": "       COPY A.\n", "A.cpy": "\n       COPY B.\n"},
@@ -250,7 +294,7 @@ def of_an_answer():
 def of_the_command():
     """Words, places that can't be written, outputs that are sources, and what is told."""
     with tempfile.TemporaryDirectory() as folder:
-        source = f"{FIXED}           DISPLAY X'00' END-DISPLAY.\n"
+        source = f"{FIXED}           DISPLAY X'00' END-DISPLAY.\n           EXEC SQL COMMIT END-EXEC.\n"
         laid(folder, {"s.cob": source, "t.cob": "       COPY A.\n", "A": "\n"})
         statuses = [called(folder, *words)[0] for words in ((), ("s.cob", "t.cob"), ("none",), (".",))]
         statuses += [called(folder, "s.cob", "-o", out)[0] for out in ("s.cob", "none/out", "./s.cob")]
@@ -258,8 +302,10 @@ def of_the_command():
         told = called(folder, "s.cob")
         left = sorted(path.name for path in pathlib.Path(folder).iterdir())
     note = "s.cob:4:20: note: X'00' isn't taken: it has characters that can't be printed"
-    found = (statuses, told[0], told[1].splitlines()[3:], note in told[2], "display-end: 1; " in told[2], left)
-    wanted = ([3] * 8, 0, ["           DISPLAY X'00'."], True, True, ["A", "s.cob", "t.cob"])
+    other = "s.cob:5:12: note: EXEC isn't in the profile\n"
+    found = (statuses, told[0], told[1].splitlines()[3:4], left)
+    found += (note in told[2], other in told[2], "display-end: 1; " in told[2])
+    wanted = ([3] * 8, 0, ["           DISPLAY X'00'."], ["A", "s.cob", "t.cob"], True, True, True)
     return None if found == wanted else f"prepare, the command: {found}"
 
 
@@ -270,6 +316,8 @@ def of_taken_sources():
         if "refused" in row or b"COPY" in source:
             continue
         found = encoded(prepared(source).text)
+        if prepared(source).notes:
+            return f"prepare, {name}, {row['rule']}: of a source that is taken something isn't"
         if found.rstrip(b"\n") != source.replace(b"\r\n", b"\n").rstrip(b"\n"):
             return f"prepare, {name}, {row['rule']}: a source that is taken is changed"
     return None
@@ -281,6 +329,7 @@ def checks():
         yield lambda name=name, source=source, shown=shown: of_form(name, source, shown, program)
     for name in ("cp037", "cp1140", "cp273"):
         yield lambda name=name: of_an_encoding(name, program)
+    yield from (of_free_directives, lambda: of_directives(program))
     yield from (of_utf8, lambda: of_copies(program), of_an_answer, of_the_command, of_taken_sources)
     for name in REFUSED:
         yield lambda name=name: of_refused(name)

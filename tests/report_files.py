@@ -31,6 +31,7 @@ SCHEMA = {
             "results": ["result"],
             "columnKind": {"utf16CodeUnits", "unicodeCodePoints"},
             "originalUriBaseIds": dict,
+            "properties": dict,
         },
     ),
     "tool": ({"driver": "component"}, {"extensions": ["component"]}),
@@ -197,7 +198,7 @@ def of_rules():
     broken = [f"L{n}" for n in range(1, 13)] + [f"Q{n}" for n in range(1, 12)] + [f"N{n}" for n in range(1, 6)]
     limits = ["nesting", "items", "storage", "files", "cells", "nodes"]
     refusals = ["E5", "E6", "E7", "E8", "E11", *(f"E9-{rule}" for rule in broken), *(f"E10-{word}" for word in limits)]
-    seen = ["outside-profile", "undeclared", "missing", "form"]
+    seen = ["outside-profile", "undeclared", "missing", "form", "not-prepared"]
     wanted = dict.fromkeys([*kinds, "statement-as-paragraph"], "warning") | dict.fromkeys([*refusals, *seen], "error")
     silent = [rule["id"] for rule in rules if not (rule["help"]["text"] and rule["fullDescription"]["text"])]
     return told("rules", (levels, silent), (wanted, []))

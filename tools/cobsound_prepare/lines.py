@@ -36,7 +36,9 @@ FORMAT = re.compile(
     r"|\$\s*SET\s+SOURCEFORMAT\s*\(?\s*[\"']?(FIXED|FREE)[\"']?\s*\)?)\s*(?:\*>.*)?",
     re.I,
 )
-DIRECTIVE = re.compile(r"\s*(>>|\$\s*(SET|IF|ELSE|ELIF|END|END-IF|DISPLAY|REGION|END-REGION)(?![\w-]))", re.I)
+DIRECTIVE = re.compile(
+    r"\s*(>>|\$\s*(SET|IF|ELSE|ELIF|END|END-IF|DISPLAY|REGION|END-REGION)(?![\w-])|\+\+\s*INCLUDE(?![\w-]))", re.I
+)
 LISTING = re.compile(r"\s*>>\s*(LISTING|PAGE)(?![\w-])", re.I)
 DEBUGGING = re.compile(r"\s*>>\s*D(\s|$)", re.I)
 

@@ -178,7 +178,8 @@ def of_refusal(result: Result, words: Words) -> Iterator[Finding]:
     """Why a source is refused, and behind it whatever else is seen, all of which is none of the program's answer."""
     original = result.source.original
     if original and original.refusal:
-        yield of_note(original.refusal, UNPREPARED, Level.ERROR, OwnFiles(result.source, original))
+        found = of_note(original.refusal, UNPREPARED, Level.ERROR, OwnFiles(result.source, original))
+        yield replace(found, advice=words.listed()[UNPREPARED].advice)
         return
     found = list(of_answer(result, words))
     yield from found

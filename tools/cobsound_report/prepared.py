@@ -1,6 +1,7 @@
 """Sources that are prepared before the program reads them (docs/GUIDE.md, Your own sources), and the places of what is
 told of them in the files from which they were made."""
 
+import hashlib
 import multiprocessing
 import os
 import pathlib
@@ -49,11 +50,13 @@ class Preparation:
         name = made_path(source.name, ".txt")
         path = self.folder / name
         path.parent.mkdir(parents=True, exist_ok=True)
-        path.write_bytes(encoded(found.text))
+        text = encoded(found.text)
+        path.write_bytes(text)
         places = pathlib.Path(f"{path}{MAP}")
         places.write_text(found.map.as_json())
         kept = str(self.kept / name) if self.kept else ""
-        original = Original(source.path, found.files[1:], found.encoding, kept, str(places), found.notes)
+        text_sum = hashlib.sha256(text).hexdigest()
+        original = Original(source.path, found.files[1:], found.encoding, text_sum, kept, str(places), found.notes)
         return replace(source, path=str(path), original=original)
 
     def told(self) -> str:
@@ -117,11 +120,17 @@ class OwnFiles:
         """The place of a text; of what stands there in its stead where that is another one."""
         path, first = found.origin.file, found.column - 1
         line = self.line(path, found.line)
-        there = line[first : first + len(text)]
-        word = WORD.match(line, first)
-        length = len(word[0]) if word and there.upper() != text.upper() or not text and word else max(len(text), 1)
+        span = Span(first, first + length_there(line, first, text))
         copies = tuple((self.name(file) or self.source.name, at) for file, at in found.origin.copies())
-        return Place(found.line, found.column, Span(first, first + length), line, self.name(path), copies)
+        return Place(found.line, found.column, span, line, self.name(path), copies)
+
+
+def length_there(line: str, first: int, text: str) -> int:
+    """How long the text is that stands at a place of a line, or the word in its stead."""
+    if text and line[first : first + len(text)].upper() == text.upper():
+        return len(text)
+    word = WORD.match(line, first)
+    return len(word[0]) if word else 1
 
 
 class PreparedListing(Listing):

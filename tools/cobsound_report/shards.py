@@ -126,7 +126,7 @@ def original_of(source: Source, told: dict) -> Original:
     for file, wanted in zip(told["copybooks"], told["sums"], strict=True):
         if sum_or_none(file) != wanted:
             raise OSError(f"{file} isn't the copybook that a shard has read")
-    return Original(source.path, tuple(told["copybooks"]), told["encoding"], told["kept"])
+    return Original(source.path, tuple(told["copybooks"]), told["encoding"], told["sum"], told["kept"])
 
 
 def sum_or_none(file: str) -> str:

@@ -17,12 +17,14 @@ STANDARD_INPUT = "-"
 
 @dataclass(frozen=True)
 class Original:
-    """What a prepared source was made of: its own path, its copybooks, and their encoding; and what came of that, which
-    is `kept` in a file, with its places in another. Where it couldn't be prepared there is a refusal or a failure."""
+    """What a prepared source was made of: its own path, its copybooks, and their encoding; and what came of that: its
+    sum, the file in which it is kept, and that of its places. Where it can't be prepared there is a refusal or a
+    failure."""
 
     path: str
     copybooks: tuple[str, ...] = ()
     encoding: str = "auto"
+    sum: str = ""
     kept: str = ""
     places: str = ""
     notes: tuple[Note, ...] = ()

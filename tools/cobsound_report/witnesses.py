@@ -58,7 +58,8 @@ class Witnesses:
         """The report of a source with what is known of its alarms, those that are met first."""
         if not self.found or not report.alarms():
             return report
-        source = sum_of(report.source.path)
+        original = report.source.original
+        source = original.sum if original else sum_of(report.source.path)
         found = [
             replace(finding, witness=self.found.get((source, finding.rule, finding.statement or 0)))
             for finding in report.findings

@@ -1,5 +1,6 @@
 """The results as files: those that meet a fault, each fault's in a folder of its own, and `witness.json`."""
 
+import hashlib
 import json
 import pathlib
 import re
@@ -12,9 +13,14 @@ from cobsound_report.witnesses import FORMAT, NAME, State
 
 from .growth import Growth
 from .makers import Files
+from .read import Read
 from .search import Met
 
 DEFAULT_STEPS = 1_000_000
+
+# the prepared source that is run, where there is one, and its map of places
+PREPARED = "prepared.cob"
+PREPARED_PLACES = f"{PREPARED}.map.json"
 
 
 @dataclass(frozen=True)
@@ -40,8 +46,7 @@ class Finding:
 class Results:
     """What a search has found out of a source. `outputs` are the files that the program writes."""
 
-    source: str
-    sha256: str
+    source: Read
     seed: int
     runs: int
     findings: list[Finding]
@@ -63,7 +68,8 @@ def emptied(folder: pathlib.Path) -> None:
     """Makes the folder, or takes away what an earlier search left in it."""
     refuse_strangers(folder)
     folder.mkdir(parents=True, exist_ok=True)
-    (folder / NAME).unlink(missing_ok=True)
+    for name in (NAME, PREPARED, PREPARED_PLACES):
+        (folder / name).unlink(missing_ok=True)
     for inner in folder.iterdir():
         if re.fullmatch(r"[0-9]{3,}-[A-Z]+", inner.name) and inner.is_dir() and not inner.is_symlink():
             shutil.rmtree(inner)
@@ -81,7 +87,7 @@ def paths_of(folder: pathlib.Path, finding: Finding) -> dict[str, pathlib.Path]:
 def words_of(folder: pathlib.Path, results: Results, finding: Finding) -> list[str]:
     """The words of a call of `run` that shows the fault. Files that the program writes get paths beside the others."""
     assert finding.met
-    words = ["run", results.source]
+    words = ["run", str(folder / PREPARED) if results.source.prepared else results.source.name]
     if finding.met.step > DEFAULT_STEPS:
         words += ["--steps", str(finding.met.step)]
     words += [f"{name}={path}" for name, path in paths_of(folder, finding).items()]
@@ -98,6 +104,9 @@ def write(folder: pathlib.Path, results: Results) -> None:
     for finding in (*results.findings, *results.unforeseen):
         if finding.met:
             write_files(folder, finding, finding.met.files)
+    if results.source.prepared:
+        (folder / PREPARED).write_bytes(results.source.text)
+        (folder / PREPARED_PLACES).write_text(results.source.prepared.map.as_json())
     text = json.dumps(as_object(folder, results), indent=1)
     (folder / NAME).write_text(f"{text}\n", "utf-8")
 
@@ -111,10 +120,11 @@ def write_files(folder: pathlib.Path, finding: Finding, files: Files) -> None:
 
 
 def as_object(folder: pathlib.Path, results: Results) -> dict:
-    return {
+    prepared = {"prepared": PREPARED} if results.source.prepared else {}
+    return prepared | {
         "format": FORMAT,
-        "source": results.source,
-        "sha256": results.sha256,
+        "source": results.source.name,
+        "sha256": hashlib.sha256(results.source.text).hexdigest(),
         "seed": results.seed,
         "runs": results.runs,
         "alarms": [finding_object(folder, results, finding) for finding in results.findings],
@@ -124,7 +134,11 @@ def as_object(folder: pathlib.Path, results: Results) -> dict:
 
 def finding_object(folder: pathlib.Path, results: Results, finding: Finding) -> dict:
     alarm, met, growth = finding.alarm, finding.met, finding.growth
-    found = {"kind": alarm.kind, "statement": alarm.statement, "line": alarm.line, "state": finding.state.value}
+    place = results.source.place(alarm.line)
+    found = {"kind": alarm.kind, "statement": alarm.statement, "line": place.line, "state": finding.state.value}
+    if results.source.prepared:
+        found["file"] = place.origin.file
+        found["copied_by"] = [{"file": file, "line": line} for file, line in place.origin.copies()]
     if met:
         paths = paths_of(folder, finding)
         found["step"] = met.step

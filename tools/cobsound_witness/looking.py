@@ -1,6 +1,5 @@
 """A search on one source from its analysis to small files."""
 
-import hashlib
 import os
 import pathlib
 import subprocess
@@ -18,6 +17,7 @@ from .layout import layout_of
 from .makers import Files
 from .model import Model
 from .probes import Probed
+from .read import Read
 from .runs import Fault, Runner
 from .search import ROUND, SHORT_STEPS, Met, Search
 from .shrink import Budget, shrunk
@@ -45,7 +45,7 @@ class Length:
 class Wish:
     """What is asked for."""
 
-    source: str
+    source: Read
     seed: int
     jobs: int
     length: Length
@@ -54,17 +54,20 @@ class Wish:
 class Refused(Exception):
     """The source isn't analysed; with the answer of the analysis."""
 
-    def __init__(self, answer: Answer):
-        super().__init__(answer.told)
+    def __init__(self, source: Read, answer: Answer):
+        super().__init__(source.refusal(answer.told))
         self.answer = answer
 
 
 def look(wish: Wish, program: str, folder: str) -> Results:
     """The results of a search that has this folder for its files."""
-    text = pathlib.Path(wish.source).read_bytes()
+    text = wish.source.text
     copied = os.path.join(folder, "source")
     pathlib.Path(copied).write_bytes(text)
-    alarms = alarms_of(program, copied, folder)
+    answer = analysed(program, copied, folder)
+    if answer.verdict > Verdict.ALARMS:
+        raise Refused(wish.source, answer)
+    alarms = {Fault(alarm.kind, alarm.statement): alarm.line for alarm in answer.alarms}
     model = model_of(text, alarms)
     search = search_of(wish, model, alarms, Runner(program, folder, model.outputs, model.works), copied)
     copy = os.path.join(folder, "probed")
@@ -77,17 +80,14 @@ def look(wish: Wish, program: str, folder: str) -> Results:
         small = made_small(search, pool)
     finally:
         pool.shutdown(cancel_futures=True)
-    return results_of(wish, hashlib.sha256(text).hexdigest(), search, small)
+    return results_of(wish, search, small)
 
 
-def alarms_of(program: str, source: str, folder: str) -> dict[Fault, int]:
-    """The alarms of the source's analysis, with their lines."""
+def analysed(program: str, source: str, folder: str) -> Answer:
+    """The answer of the source's analysis."""
     words = [program, "analyse", as_name(source), os.path.join(folder, "certificate")]
     done = subprocess.run(words, stdin=subprocess.DEVNULL, stdout=subprocess.PIPE)
-    answer = answer_of(done.returncode, done.stdout.decode("latin-1"))
-    if answer.verdict > Verdict.ALARMS:
-        raise Refused(answer)
-    return {Fault(alarm.kind, alarm.statement): alarm.line for alarm in answer.alarms}
+    return answer_of(done.returncode, done.stdout.decode("latin-1"))
 
 
 def model_of(text: bytes, alarms: dict[Fault, int]) -> Model:
@@ -136,7 +136,7 @@ def made_small(search: Search, pool: ThreadPoolExecutor) -> dict[Fault, Met]:
     return {one.fault: one for one in pool.map(small, [*search.met.values(), *search.unforeseen.values()])}
 
 
-def results_of(wish: Wish, sha256: str, search: Search, small: dict[Fault, Met]) -> Results:
+def results_of(wish: Wish, search: Search, small: dict[Fault, Met]) -> Results:
     def finding(fault: Fault, growth: Growth | None) -> Finding:
         line = search.model.statements[fault.statement - 1].first.line
         alarm = Alarm(fault.kind, fault.statement, line)
@@ -144,7 +144,6 @@ def results_of(wish: Wish, sha256: str, search: Search, small: dict[Fault, Met])
 
     return Results(
         source=wish.source,
-        sha256=sha256,
         seed=wish.seed,
         runs=search.count,
         findings=[finding(fault, growth) for fault, growth in search.alarms.items()],

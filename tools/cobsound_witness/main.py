@@ -8,12 +8,15 @@ import sys
 import tempfile
 from enum import IntEnum
 
+from cobsound_prepare.options import Way, add_way
+from cobsound_prepare.tokens import SourceError
 from cobsound_report.answers import Verdict
 from cobsound_report.command_line import Parser, path
 from cobsound_report.program import found_program
 
 from . import kept, told
 from .looking import LEAST_RUNS, Length, Refused, Wish, look
+from .read import Read
 from .runs import fast_folder
 
 SECONDS = 20
@@ -49,7 +52,13 @@ def parsed(words: list[str]) -> argparse.Namespace:
     parser.add_argument("-o", metavar="FOLDER", dest="folder", type=path, help="where files are written")
     parser.add_argument("--seed", metavar="N", type=int, default=1, help="from which all choices come; 1 without it")
     parser.add_argument("--jobs", metavar="N", type=number, help="runs at a time; a processor each without it")
-    return parser.parse_args(words)
+    told = "prepare the source first, as `cobsound prepare` does; places are those of the files from which it is made"
+    parser.add_argument("--prepare", action="store_true", help=told)
+    add_way(parser)
+    options = parser.parse_args(words)
+    if not options.prepare and not Way.of(options).is_plain:
+        parser.error("-I, --form and --encoding go with --prepare")
+    return options
 
 
 def number(word: str) -> int:
@@ -68,7 +77,8 @@ def witnessed(options: argparse.Namespace) -> Status:
     folder = options.folder or pathlib.Path(f"{pathlib.Path(options.source).stem}.witness")
     kept.refuse_strangers(folder)
     length = Length(options.seconds, options.runs)
-    wish = Wish(options.source, options.seed, options.jobs or len(os.sched_getaffinity(0)), length)
+    read = Read.prepared_at(options.source, Way.of(options)) if options.prepare else Read.at(options.source)
+    wish = Wish(read, options.seed, options.jobs or len(os.sched_getaffinity(0)), length)
     with tempfile.TemporaryDirectory(prefix="cobsound-witness-", dir=fast_folder()) as inner:
         results = look(wish, found_program(), inner)
     kept.write(folder, results)
@@ -93,8 +103,11 @@ def main(words: list[str]) -> int:
     try:
         sys.stdout.reconfigure(errors="replace")
         return witnessed(options)
+    except SourceError as error:
+        print(error)
+        return Status.REFUSED
     except Refused as refused:
-        print(f"{options.source}: {refused.answer.told}")
+        print(refused)
         return Status.REFUSED if refused.answer.verdict == Verdict.REFUSED else Status.FAILED
     except (Stopped, OSError) as error:
         message = str(error)

@@ -12,6 +12,8 @@ from .search import Met
 
 def lines(folder: pathlib.Path, results: Results) -> Iterator[str]:
     """The lines on each alarm, those that are met first, and a summary."""
+    if results.source.prepared:
+        yield f"{results.source.name}: what is told holds of the prepared source, {folder / kept.PREPARED}"
     for finding in results.ranked():
         yield from lines_of(folder, results, finding)
     for finding in results.unforeseen:
@@ -20,12 +22,14 @@ def lines(folder: pathlib.Path, results: Results) -> Iterator[str]:
         yield f"  {kept.command_of(folder, results, finding)}"
     states = [finding.state for finding in results.findings]
     counts = ", ".join(f"{states.count(state)} {state.value}" for state in State if state in states) or "clean"
-    yield f"{results.source}: {counts}; {results.runs:,} {'run' if results.runs == 1 else 'runs'}"
+    yield f"{results.source.name}: {counts}; {results.runs:,} {'run' if results.runs == 1 else 'runs'}"
 
 
 def place_of(results: Results, finding: Finding) -> str:
     alarm = finding.alarm
-    return f"{results.source}:{alarm.line}: {alarm.kind} at statement {alarm.statement}"
+    place = results.source.place(alarm.line)
+    copies = "".join(f", copied by {file} line {line}" for file, line in place.origin.copies())
+    return f"{place.line_told()}: {alarm.kind} at statement {alarm.statement}{copies}"
 
 
 def lines_of(folder: pathlib.Path, results: Results, finding: Finding) -> Iterator[str]:
