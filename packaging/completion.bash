@@ -7,10 +7,10 @@ _cobsound_options() {
   case $1 in
     report)
       echo --certs --html --sarif --format --witness --timeout --jobs --exit-zero --baseline --write-baseline \
-        --suppressions --shard --merge --explain --version --help
+        --suppressions --shard --merge --explain --prepare --prepared -I --form --encoding --version --help
       ;;
     prepare) echo -I -o --form --encoding --places --quiet --help ;;
-    witness) echo --seconds --runs -o --seed --jobs --help ;;
+    witness) echo --seconds --runs -o --seed --jobs --prepare -I --form --encoding --help ;;
     run) echo --steps --help ;;
     *) echo --help ;;
   esac
@@ -25,8 +25,8 @@ _cobsound() {
   case $command,$before in
     cobsound,* | help,help) words=$_cobsound_commands ;;
     report,--format) words="text json sarif github junit" ;;
-    prepare,--form) words="fixed free" ;;
-    prepare,--encoding) words="auto utf-8 latin-1 cp037 cp1140 cp273" ;;
+    prepare,--form | report,--form | witness,--form) words="fixed free" ;;
+    prepare,--encoding | report,--encoding | witness,--encoding) words="auto utf-8 latin-1 cp037 cp1140 cp273" ;;
     *) [[ $word != -* ]] || words=$(_cobsound_options "$command") ;;
   esac
   mapfile -t COMPREPLY < <(compgen -W "$words" -- "$word")

@@ -17,6 +17,11 @@ _cobsound_report() {
     '--shard[take every N-th source]:K/N:' \
     '--merge[put shards together]' \
     '--explain[tell what a rule means]:rule:' \
+    '--prepare[prepare each source first]' \
+    '--prepared[keep prepared sources]:folder:_files -/' \
+    '*-I[a folder of copybooks]:folder:_files -/' \
+    '--form[the form of the source]:form:(fixed free)' \
+    '--encoding[its encoding]:encoding:(auto utf-8 latin-1 cp037 cp1140 cp273)' \
     '--version[the version]' \
     '--help[help]' \
     '*:source:_files'
@@ -40,6 +45,10 @@ _cobsound_witness() {
     '(--seconds)--runs[do so many runs]:number:' \
     '-o[where files are written]:folder:_files -/' \
     '--seed[from which all choices come]:number:' \
+    '--prepare[prepare the source first]' \
+    '*-I[a folder of copybooks]:folder:_files -/' \
+    '--form[the form of the source]:form:(fixed free)' \
+    '--encoding[its encoding]:encoding:(auto utf-8 latin-1 cp037 cp1140 cp273)' \
     '--jobs[runs at a time]:number:' \
     '--help[help]' \
     '1:source:_files'

@@ -111,7 +111,7 @@ def of_the_completion():
     of cobsound a; of cobsound help t; of cobsound run S --s; of cobsound report --f; of cobsound-report --format j
     of cobsound w; of cobsound-prepare --form fr"""
     done = subprocess.run(["bash", "-c", shell], cwd=ROOT, capture_output=True, text=True)
-    wanted = ["analyse", "trial", "--steps", "--format", "json junit", "witness", "free"]
+    wanted = ["analyse", "trial", "--steps", "--format --form", "json junit", "witness", "free"]
     return told("completion", done.stdout.splitlines(), wanted)
 
 

@@ -1,5 +1,5 @@
-"""`--prepare` of `tools/cobsound-report` and `tools/cobsound-witness`: all places that they tell are those of the source
-and its copybooks, also three COPYs deep. What is told of the sources here was worked out by hand."""
+"""`--prepare` of `tools/cobsound-report` and `tools/cobsound-witness`: all places that they tell are those of the
+source and its copybooks, also three COPYs deep. What is told of the sources here was worked out by hand."""
 
 import json
 import pathlib

@@ -50,8 +50,9 @@ def source_told(source: SourceReport, shard: Shard | None) -> dict:
 
 def original_told(original: Original, shard: Shard | None) -> dict:
     """Of what a prepared source was made, and where it is kept."""
-    told = {"sum": original.sum, "kept": original.kept, "encoding": original.encoding, "copybooks": list(original.copybooks)}
-    return told | ({"sums": [sum_or_none(file) for file in original.copybooks]} if shard else {})
+    books = list(original.copybooks)
+    told = {"sum": original.sum, "kept": original.kept, "encoding": original.encoding, "copybooks": books}
+    return told | ({"sums": [sum_or_none(file) for file in books]} if shard else {})
 
 
 def finding_told(finding: Finding) -> dict:

@@ -19,7 +19,7 @@ FORM = 1
 
 @dataclass(frozen=True)
 class Known:
-    """A finding of the baseline, by its fingerprint in its source; the rest is for whoever reads it, the file too, where
+    """A finding of the baseline, by its fingerprint in its source; the rest is for whoever reads it, also the file where
     it stands in a copybook."""
 
     source: str

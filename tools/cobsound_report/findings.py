@@ -46,9 +46,9 @@ class Item:
 class Finding:
     """What is told at a place of a source, or of the whole where it has no line. `file` is the copybook in which that
     stands, empty where it is the source itself, and `copies` are the COPYs that led there, the nearest first, each with
-    its file and line. `column` stands where the program named one. The fingerprint is the same as long as the statement stays, on whatever line. `is_new` is said beside an
-    earlier report, `is_known` beside a baseline, the reason is that of a suppression, and the witness what a search for
-    input files left."""
+    its file and line. `column` stands where the program named one. The fingerprint is the same as long as the statement
+    stays, on whatever line. `is_new` is said beside an earlier report, `is_known` beside a baseline, the reason is that
+    of a suppression, and the witness what a search for input files left."""
 
     rule: str
     level: Level

@@ -12,7 +12,8 @@ def written(report: Report) -> str:
 
 def annotation(source: SourceReport, finding: Finding) -> str:
     column = finding.span.first + 1 if finding.span else None
-    given = {"file": finding.file_told(source), "line": finding.line, "col": column, "title": f"Cobsound {finding.rule}"}
+    file, title = finding.file_told(source), f"Cobsound {finding.rule}"
+    given = {"file": file, "line": finding.line, "col": column, "title": title}
     words = ",".join(f"{name}={escaped(str(value), ',:')}" for name, value in given.items() if value is not None)
     return f"::{finding.level.value.replace('note', 'notice')} {words}::{escaped(finding.message)}"
 

@@ -53,7 +53,7 @@ def commit_here() -> str:
 @dataclass(frozen=True)
 class Report:
     """What is told of the sources; beside a baseline also what is gone of it, and of suppressions which are idle. A
-    shard's has the sum of the list of all sources. `prepared` says of what all this holds, where sources were prepared."""
+    shard has the sum of the list of all sources; `prepared` says of what all this holds where sources were prepared."""
 
     call: Call
     sources: tuple[SourceReport, ...]
