@@ -9,6 +9,8 @@ import subprocess
 import tempfile
 
 from tests.built import ROOT, program_path
+from tests.prepare_texts import laid
+from tests.prepared import FILES
 from tests.report import ORDERS, TOOL, script, told
 
 TEXT = (ROOT / "docs/NIGHTLY.md").read_text("utf-8")
@@ -100,6 +102,24 @@ def of_the_baseline():
     letter = "-s ledger: 1 source: 1 with 6 alarms; 1 new, 5 known, 1 gone team@example.org"
     last = "1 source: 1 with 6 alarms; 1 by kept certificates; 0 new, 5 known, 1 gone; 1 suppressed"
     return told("the job with a baseline", found, [1, 0, False, 1, letter, 0, last])
+
+
+def of_copybooks():
+    """The job with copybooks: its certificate is one of the prepared source that it keeps, an unchanged night has
+    checks alone, and a changed copybook is seen."""
+    job, check = block_with("sh", "--prepare"), re.search("`(cobsound check .*?)`", TEXT)[1]
+    with tempfile.TemporaryDirectory() as folder:
+        ledger = Ledger(folder, ())
+        texts = {name.replace("books/", "copybooks/"): text for name, text in FILES.items()}
+        laid(ledger.copy, {"src/pay.cob": texts.pop("pay.cob"), **texts})
+        found = [ledger.run(job)[0], ledger.run(check), ledger.run(job)[0]]
+        found.append((ledger.copy / "report.txt").read_text().splitlines()[-1])
+        laid(ledger.copy, {"copybooks/add1.cpy": "           CONTINUE\n"})
+        found += [ledger.run(job), ledger.run("git ls-files certs prepared")[1].split()]
+    answer = "SIZE statement 8 line 32\nCLASS statement 8 line 32\nalarms 2\n"
+    names = ["certs/src/pay.cob.cert", "prepared/src/pay.cob.txt", "prepared/src/pay.cob.txt.map.json"]
+    last = "1 source: 1 with 2 alarms; 1 by kept certificates"
+    return told("the job with copybooks", found, [1, (1, answer), 1, last, (0, ""), names])
 
 
 # what GNU parallel does here: the command for each word behind three colons, with the word in place of braces
@@ -207,6 +227,7 @@ def of_the_pictures():
 
 def checks():
     yield from (of_the_shell, of_the_tool, of_the_baseline, of_machines, of_make, of_annotations, of_the_pictures)
+    yield of_copybooks
     pattern = r"^### (.*?)\n.*?^```cobol\n(.*?)^```\n.*?^```cobol\n(.*?)^```$"
     changes = re.findall(pattern, TEXT, re.M | re.S)
     for change in changes:

@@ -257,8 +257,9 @@ def wide_characters(source: Reading) -> Iterator[Spot]:
     if found:
         line, column = found[0]
         raw = source.lines[line - 1][column - 1 :]
-        text = raw[:4].decode("utf-8", "ignore")[:1] or raw[:1].decode("latin-1")
-        yield from first_of(text if text.isprintable() else f"byte {raw[0]}", found, len(text.encode()))
+        utf8 = re.match(rb"[\xc2-\xf4][\x80-\xbf]+", raw)
+        text = utf8[0].decode("utf-8", "replace") if utf8 else raw[:1].decode("latin-1")
+        yield from first_of(text if text.isprintable() else f"byte {raw[0]}", found, len(utf8[0]) if utf8 else 1)
 
 
 def is_comment(raw: bytes) -> bool:
