@@ -6,6 +6,9 @@ it, `findings` says what there is to tell in the words that `words` has of docs/
 earlier report, `outputs` writes without replacing a source, `text`, `as_json`, `sarif`, `github`, `junit` and `pages`
 are the forms of a report, and `main` is the command.
 
+`prepared` has sources prepared before the program reads them, by `cobsound_prepare`, and then says where what is told
+of them stands in their own files.
+
 What the tool itself sees in a source: `scan` has its tokens with their places, `forms` guesses in which form it is
 written, `declared` knows what it declares, `profile` and `shapes` find what isn't in the profile by the guide's table,
 `missing` and `undeclared` what there isn't, `remarks` puts this together, and `causes` says which of it the program's

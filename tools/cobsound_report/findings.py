@@ -7,6 +7,7 @@ from collections import Counter
 from collections.abc import Iterator
 from dataclasses import dataclass, replace
 from enum import Enum
+from functools import cached_property
 from typing import TYPE_CHECKING
 
 from cobsound_prepare.tokens import Note
@@ -109,6 +110,7 @@ class SourceReport:
         counts = self.verdict > Verdict.REFUSED or any(finding.counts for finding in self.findings)
         return self.verdict if counts else Verdict.CLEAN
 
+    @cached_property
     def copybooks(self) -> list[str]:
         """The copybooks in which something is told, or is declared that it names."""
         places = (place.file for finding in self.findings for place in (finding, *finding.items))
@@ -218,7 +220,7 @@ def notes_beside(found: list[Finding], source: Source, original: Original) -> It
 def of_note(note: Note, rule: str, level: Level, files: OwnFiles) -> Finding:
     """What is told of a place of a source, or of a copybook, before the program has read it."""
     place = files.place(note.place)
-    return replace(Finding(rule, level, note.text, text=place.shown[7:72].strip()).at(place), column=place.column)
+    return replace(Finding(rule, level, note.text, text=place.shown.strip()).at(place), column=place.column)
 
 
 def caused(refusal: Finding, cause: Remark, entry: Entry, listing: Listing) -> Finding:

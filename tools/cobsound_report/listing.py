@@ -1,5 +1,6 @@
 """The listings of a source's page, of the source and its copybooks, with what is told below the lines."""
 
+from dataclasses import dataclass
 from html import escape
 
 from .findings import Finding, Item, Level, SourceReport
@@ -9,28 +10,39 @@ from .words import SENTENCES
 
 def anchor(source: SourceReport, line: int | None, file: str = "") -> str:
     """The name by which links lead to a line of the source, or of a copybook."""
-    return f"F{source.copybooks().index(file) + 1}L{line}" if file else f"L{line}"
+    return f"F{source.copybooks.index(file) + 1}L{line}" if file else f"L{line}"
 
 
-def listing_table(source: SourceReport, lines: list[str], file: str = "") -> str:
+@dataclass(frozen=True)
+class Shown:
+    """The lines of a source, or of a copybook of it, and whether they are in fixed form."""
+
+    lines: list[str]
+    file: str = ""
+    is_fixed: bool = True
+
+
+def listing_table(source: SourceReport, shown: Shown) -> str:
     """The listing of a source, or of a copybook."""
-    front = anchor(source, None, file).removesuffix("None")
-    below: dict[int, list[str]] = {}
-    spans: dict[int, list[Finding]] = {}
+    below: dict[int, list[Finding]] = {}
     for finding in source.findings:
-        if finding.line is not None and finding.file == file:
-            spans.setdefault(finding.line, []).append(finding)
-            below.setdefault(finding.line, []).append(note(source, finding))
-    rows = (row(f"{front}{at}", line, spans.get(at, []), below.get(at, [])) for at, line in enumerate(lines, 1))
+        if finding.line is not None and finding.file == shown.file:
+            below.setdefault(finding.line, []).append(finding)
+    rows = (row(source, shown, number, below.get(number, [])) for number in range(1, len(shown.lines) + 1))
     return '<div class="wide"><table class="listing">\n' + "\n".join(rows) + "\n</table></div>"
 
 
-def row(name: str, line: str, found: list[Finding], said: list[str]) -> str:
+def row(source: SourceReport, shown: Shown, number: int, below: list[Finding]) -> str:
     """A line of the listing, and what is to be said of it."""
-    kind = f' class="{found[0].level.value}"' if found else ""
-    code = marked(line, [finding.span for finding in found if finding.span]) if found else plain(line)
-    number_cell = f'<td class="number"><a href="#{name}">{name.partition("L")[2]}</a></td>'
-    return f'<tr id="{name}"{kind}>{number_cell}<td class="code">{code}</td></tr>{"".join(said)}'
+    name, line = anchor(source, number, shown.file), shown.lines[number - 1]
+    kind = f' class="{below[0].level.value}"' if below else ""
+    if below:
+        code = marked(line, [finding.span for finding in below if finding.span])
+    else:
+        code = plain(line) if shown.is_fixed else escape(line)
+    number_cell = f'<td class="number"><a href="#{name}">{number}</a></td>'
+    said = "".join(note(source, finding) for finding in below)
+    return f'<tr id="{name}"{kind}>{number_cell}<td class="code">{code}</td></tr>{said}'
 
 
 def note(source: SourceReport, finding: Finding) -> str:

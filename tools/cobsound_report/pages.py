@@ -7,10 +7,12 @@ from collections.abc import Callable, Iterator
 from dataclasses import dataclass
 from html import escape
 
+from cobsound_prepare.lines import Form, guessed_form
+
 from . import VERSION, as_json
 from .answers import Verdict
 from .findings import Finding, SourceReport
-from .listing import anchor, listing_table, marks
+from .listing import Shown, anchor, listing_table, marks
 from .prepared import own_lines
 from .program import made_path
 from .report import UNITS, Report, counted
@@ -197,6 +199,7 @@ def index_row(source: SourceReport) -> str:
 def source_page(source: SourceReport, words: Words, folder: pathlib.Path) -> str:
     index = "../" * page_name(source.source).count("/") + ANSWER.file
     lines = own_lines(source.source)
+    is_fixed = not source.source.original or guessed_form(lines) is Form.FIXED
     facts = [verdict_of(source)]
     if source.nodes is not None:
         kept = "kept, and checked again" if source.is_kept else "made anew, and checked"
@@ -207,10 +210,11 @@ def source_page(source: SourceReport, words: Words, folder: pathlib.Path) -> str
         f'<p class="facts">{" · ".join(facts)}</p>',
         prepared_told(source.source.original, (folder / page_name(source.source)).parent),
         causes(source, words),
-        f"<h2>Listing</h2>\n{listing_table(source, lines)}" if lines else "",
+        f"<h2>Listing</h2>\n{listing_table(source, Shown(lines, is_fixed=is_fixed))}" if lines else "",
     ]
-    for file in source.copybooks():
-        parts.append(f"<h2>{escape(file)}</h2>\n{listing_table(source, own_lines(source.source, file), file)}")
+    for file in source.copybooks:
+        shown = Shown(own_lines(source.source, file), file, is_fixed)
+        parts.append(f"<h2>{escape(file)}</h2>\n{listing_table(source, shown)}")
     return page(escape(source.name), "\n".join(part for part in parts if part))
 
 

@@ -45,7 +45,6 @@ class Spot:
 class Piece:
     """A stretch of the joined text that stands on one line."""
 
-    offset: int
     line: int
     column: int
 
@@ -71,6 +70,7 @@ class Joined:
         self.lines = lines
         self.is_free = is_free
         self.pieces: list[Piece] = []
+        self.offsets: list[int] = []
         self.parts: list[str] = []
         self.length = 0
         self.mark = ""
@@ -110,6 +110,7 @@ class Joined:
         while self.parts and self.parts[-1].isspace():
             self.length -= len(self.parts.pop())
             self.pieces.pop()
+            self.offsets.pop()
         if self.parts:
             kept = self.parts[-1].rstrip()
             self.length -= len(self.parts[-1]) - len(kept)
@@ -129,14 +130,16 @@ class Joined:
         self.append(number, start, text if self.mark else f"{text} ")
 
     def append(self, number: int, start: int, text: str) -> None:
-        self.pieces.append(Piece(self.length, number, start + 1))
+        self.pieces.append(Piece(number, start + 1))
+        self.offsets.append(self.length)
         self.parts.append(text)
         self.length += len(text)
 
     def place(self, offset: int) -> tuple[int, int]:
         """The line and the column of a character, where a tab counts as one."""
-        piece = self.pieces[bisect_right(self.pieces, offset, key=lambda piece: piece.offset) - 1]
-        return piece.line, raw_column(self.lines[piece.line - 1], piece.column + offset - piece.offset)
+        at = bisect_right(self.offsets, offset) - 1
+        piece = self.pieces[at]
+        return piece.line, raw_column(self.lines[piece.line - 1], piece.column + offset - self.offsets[at])
 
     def tokens(self) -> list[Token]:
         found: list[Token] = []
