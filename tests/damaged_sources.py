@@ -22,6 +22,7 @@ from cobsound_prepare.tokens import SourceError
 from cobsound_prepare.untaken import untaken
 
 FEW = 300
+READ_EACH = 8  # so many are also read for what isn't taken
 CHUNK = 500
 
 WHOLE = [source_of(row).encode() for _, row in rows()]
@@ -67,7 +68,7 @@ def fault(number, folder):
     try:
         found = prepare(str(path), [os.path.join(folder, "books")])
         encoded(found.text)
-        for note in (*found.notes, *untaken(found)):
+        for note in (*found.notes, *(untaken(found) if number % READ_EACH == 0 else ())):
             str(note)
         if Map.read(found.map.as_json()) != found.map:
             return f"damaged source {number}: the map isn't what is written"

@@ -48,7 +48,7 @@ def guessed_form(lines: list[str]) -> Form:
     8; else fixed."""
     for line in lines:
         line = line.expandtabs(TAB)
-        form = form_asked(line) or form_asked(line[6:])
+        form = form_asked(line) or form_asked(line[6:72])
         if form:
             return form
         for start in (0, 7):

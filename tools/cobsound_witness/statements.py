@@ -4,13 +4,11 @@ from collections.abc import Iterator
 from dataclasses import dataclass, field
 from enum import Enum, auto
 
+from cobsound_report.profile import VERBS
+
 from .layout import Constant, Item, Layout, constant_of
 from .tokens import Kind, Token
 
-VERBS = frozenset(
-    "ADD CLOSE COMPUTE CONTINUE DISPLAY DIVIDE EVALUATE EXIT GO IF MOVE MULTIPLY OPEN PERFORM READ SET STOP SUBTRACT "
-    "WRITE".split()
-)
 # These begin what is no longer of the statement itself.
 ENDINGS = frozenset(
     "ELSE WHEN END AT SIZE ON NOT-AT NOT-ON END-IF END-EVALUATE END-PERFORM END-READ END-WRITE END-ADD END-SUBTRACT "
