@@ -211,6 +211,7 @@ KEPT = {
     "      >>DEFINE A AS 1": ("      >>DEFINE A AS 1", ">>DEFINE A AS 1"),
     "      $SET ANS85": ("      $SET ANS85", "$SET ANS85"),
     "      $if A": ("      $if A", "$if A"),
+    "\t>>IF B": ("\t>>IF B", ">>IF B"),
     "      ++INCLUDE BOOK": ("      ++INCLUDE BOOK", "++INCLUDE BOOK"),
     "      >>SOURCE FORMAT VARIABLE": ("      >>SOURCE FORMAT VARIABLE", ">>SOURCE FORMAT VARIABLE"),
     "      >>SOURCE FORMAT IS FIXED": ("      *>SOURCE FORMAT IS FIXED", None),

@@ -8,11 +8,11 @@ from dataclasses import dataclass
 from .copying import Expander, with_replace
 from .lexing import lexed
 from .libraries import Library, is_file
-from .lines import Form, guessed_form
+from .lines import TAB, Form, guessed_form
 from .places import Map, mapped
 from .printing import printed
 from .rewritings import REWRITINGS
-from .tokens import Block, LineKind, Note, Origin, Place, Token
+from .tokens import Block, LineKind, Note, Origin, Place, Token, raw_column
 from .work import Rewriting, Work
 
 
@@ -64,14 +64,15 @@ def prepare(
 def odd_lines(blocks: list[Block]) -> Iterator[Note]:
     """What is told of lines that stay as they are."""
     for block in blocks:
-        raw = block.raw[0]
+        line = block.raw[0].expandtabs(TAB)
         if block.kind is LineKind.DIRECTIVE:
-            text = raw[0 if block.indent else 6 :].lstrip()
-            told = f"the directive {' '.join(text[:72].split())} isn't taken"
-            yield Note(Place(block.origin, block.number, len(raw) - len(text) + 1), told)
+            text = line[0 if block.indent else 6 :].lstrip()
+            told, column = f"the directive {' '.join(text[:66].split())}", len(line) - len(text) + 1
         elif block.kind is LineKind.ODD:
-            told = "a continuation of nothing" if raw[6:7] == "-" else f"the indicator {raw.expandtabs()[6:7]}"
-            yield Note(Place(block.origin, block.number, 7), f"{told} isn't taken")
+            told, column = "a continuation of nothing" if line[6] == "-" else f"the indicator {line[6]}", 7
+        else:
+            continue
+        yield Note(Place(block.origin, block.number, raw_column(block, block.number, column)), f"{told} isn't taken")
 
 
 def asks_for_debugging(tokens: list[Token]) -> bool:

@@ -82,9 +82,9 @@ class Joined:
 
     def add_line(self, number: int, line: str) -> None:
         line = line.expandtabs(8)
-        start = 0 if self.is_free else 6
-        if DIRECTIVE.match(line[start:]):
-            self.add_directive(number, line, start)
+        text = line if self.is_free else line[6:72]
+        if DIRECTIVE.match(text):
+            self.add_directive(number, line, text.split("*>")[0].strip())
             return
         if self.is_free:
             self.add_text(number, 0, "" if line.lstrip().startswith(("*", "$")) else line)
@@ -100,9 +100,8 @@ class Joined:
             self.drop_blanks()
         self.add_text(number, start + bool(self.mark), line[start + bool(self.mark) :], is_continued=True)
 
-    def add_directive(self, number: int, line: str, start: int) -> None:
-        text = line[start:72].split("*>")[0].strip()
-        column = raw_column(self.lines[number - 1], line.index(text, start) + 1)
+    def add_directive(self, number: int, line: str, text: str) -> None:
+        column = raw_column(self.lines[number - 1], line.index(text) + 1)
         self.directives.append(Spot(text, number, column, len(text)))
 
     def drop_blanks(self) -> None:
