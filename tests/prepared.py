@@ -218,6 +218,49 @@ def of_shards(folder):
     return told("prepared, shards", found, (one, True, 3, True, files))
 
 
+EBCDIC = """\
+       IDENTIFICATION DIVISION.
+       PROGRAM-ID. T.
+       DATA DIVISION.
+       WORKING-STORAGE SECTION.
+       COPY ITEM.
+       PROCEDURE DIVISION.
+           ADD 9 TO N-1.
+           GOBACK.
+""".splitlines()
+FREE = """\
+identification division.
+program-id. t.
+data division.
+working-storage section.
+01 num_1 pic 9 value 1.
+procedure division.
+first section.
+\tadd 9 to num_1. subtract 1 from num_2.
+"""
+
+
+def of_forms(folder):
+    """Lines of EBCDIC and of free form are shown as they read, with the words that stand there."""
+    (folder / "e.cob").write_bytes("".join(f"{line:80}" for line in EBCDIC).encode("cp1140"))
+    (folder / "books/item.cpy").write_bytes("       77 N-1 PIC 9 VALUE 1.\x85".encode("cp1140"))
+    report = json.loads(reported([*CALL, "e.cob", "--format", "json"], folder)[1])
+    (finding,) = report["sources"][0]["findings"]
+    (item,) = finding["items"]
+    ebcdic = (finding["line"], finding["shown"].rstrip(), item["file"], item["line"], item["marked"])
+    (folder / "f.cob").write_text(FREE)
+    free = reported(["--prepare", "f.cob"], folder)[1].splitlines()[1:]
+    declared = {"first": 11, "behind": 14}
+    wanted = [
+        "f.cob:8:34: error: E9: NUM-2 isn't declared",
+        " add 9 to num_1. subtract 1 from num_2.",
+        " " * 33 + "^~~~~",
+        "f.cob:8:34: note: NUM-1, on line 5?",
+        "1 source: 1 refused",
+    ]
+    return told("prepared, forms", (ebcdic, free), ((7, EBCDIC[6], "books/item.cpy", 1, declared), wanted))
+
+
 def of_wrong_calls(folder):
     """No output takes the place of a copybook, and the words of preparing go with --prepare alone."""
     calls = [
@@ -262,7 +305,7 @@ def of_a_refused_witness(folder):
 
 
 def checks():
-    for check in (of_text, of_json, of_sarif, of_servers, of_pages, of_a_baseline, of_shards, of_wrong_calls):
+    for check in (of_text, of_json, of_sarif, of_servers, of_pages, of_a_baseline, of_shards, of_forms, of_wrong_calls):
         yield lambda check=check: in_folder(check)
     yield lambda: in_folder(of_a_witness)
     yield lambda: in_folder(of_a_refusal, REFUSED)
