@@ -80,6 +80,9 @@ class Finding:
         """The name of the file in which it stands, as it can be shown."""
         return shown(os.fsencode(self.file)) if self.file else source.name
 
+    def copies_told(self) -> list[str]:
+        return [f"copied by {shown(os.fsencode(file))} line {line}" for file, line in self.copies]
+
     @property
     def counts(self) -> bool:
         """Whether it is neither known by the baseline nor suppressed for a reason."""

@@ -47,19 +47,19 @@ def row(source: SourceReport, shown: Shown, number: int, below: list[Finding]) -
 
 def note(source: SourceReport, finding: Finding) -> str:
     """What is said below a line: of an alarm in one line, since its kind is explained above the listing."""
+    advice = f" <i>What to do:</i> {escape(finding.advice)}." if finding.advice else ""
     if finding.level == Level.ERROR:
         number, colon, cause = finding.message.partition(": ")
         is_numbered = bool(colon) and finding.rule.startswith(number)
-        advice = f" <i>What to do:</i> {escape(finding.advice)}." if finding.advice else ""
         text = f"<b>{escape(number)}</b> {escape(cause)}." if is_numbered else f"{escape(finding.message)}."
         text += advice + marks(finding)
     elif finding.statement is None:
-        text = f"{escape(finding.message)}. <i>What to do:</i> {escape(finding.advice)}.{marks(finding)}"
+        text = f"{escape(finding.message)}.{advice}{marks(finding)}"
     else:
         items = declared(source, finding.items)
         text = f"<b>{finding.rule}</b> {escape(SENTENCES[finding.rule])}{items}{marks(finding)}"
         text += f' <span class="statement">statement {finding.statement}</span>'
-    text += copied(finding)
+    text += "".join(f"; {escape(copied)}" for copied in finding.copies_told())
     return f'\n<tr class="note {finding.level.value}"><td class="number"></td><td>{text}</td></tr>'
 
 
@@ -74,11 +74,6 @@ def declared(source: SourceReport, items: tuple[Item, ...]) -> str:
     """The items of a statement, with links to their declarations."""
     links = (f'<a href="#{anchor(source, item.line, item.file)}">{escape(item.name)}</a>' for item in items)
     return f": {', '.join(links)}" if items else ""
-
-
-def copied(finding: Finding) -> str:
-    """The COPYs that led to a line of a copybook."""
-    return "".join(f"; copied by {escape(file)} line {line}" for file, line in finding.copies)
 
 
 def plain(line: str) -> str:

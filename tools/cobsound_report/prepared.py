@@ -22,7 +22,7 @@ from cobsound_prepare.tokens import Place as Found
 
 from . import outputs
 from .program import made_path, told_of
-from .sources import Listing, Original, Place, Source, Span, showable
+from .sources import Listing, Original, Place, Source, Span, showable, shown
 
 MAP = ".map.json"
 WORD = re.compile(r"[\w:-]+|'[^']*'?|\"[^\"]*\"?|\S")
@@ -61,8 +61,8 @@ class Preparation:
 
     def told(self) -> str:
         """Of what all that is told holds, and where that is to be seen."""
-        shown = f"are kept below {self.kept}" if self.kept else f"`{self.way.command()} SOURCE` shows"
-        return f"what is told holds of the prepared sources, which {shown}"
+        where = f"are kept below {self.kept}" if self.kept else f"`{self.way.command()} SOURCE` shows"
+        return shown(os.fsencode(f"what is told holds of the prepared sources, which {where}"))
 
     def all_made(self, sources: list[Source], jobs: int) -> list[Source]:
         """Each source as it was prepared, side by side in processes of their own."""

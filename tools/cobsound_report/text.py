@@ -45,7 +45,7 @@ def lines_of(source: SourceReport, style: Style) -> Iterator[str]:
         yield line(place, finding.level, finding.message, style)
         if finding.span:
             yield from pointed(finding.shown, finding.span, style)
-        yield from (line(place, Level.NOTE, f"copied by {file} line {at}", style) for file, at in finding.copies)
+        yield from (line(place, Level.NOTE, copied, style) for copied in finding.copies_told())
         if finding.witness:
             yield line(place, Level.NOTE, finding.witness.told, style)
         if finding.advice and finding.statement is None:
