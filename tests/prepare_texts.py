@@ -245,8 +245,10 @@ def of_free_directives():
     found = prepared(source)
     lines = found.text.splitlines()[3:5]
     told = [(note.place.line, note.place.column, note.text) for note in found.notes]
-    wanted = (["      >>if a = 1", "      *>>D display 'A'"], [(4, 3, "the directive >>if a = 1 isn't taken")])
-    return None if (lines, told) == wanted else f"prepare, directives in free form: {lines}, {told}"
+    place = found.map.place(4, 7)
+    found = (lines, told, place.line, place.column)
+    wanted = (["      >>if a = 1", "      *>>D display 'A'"], [(4, 3, "the directive >>if a = 1 isn't taken")], 4, 3)
+    return None if found == wanted else f"prepare, directives in free form: {found}"
 
 
 REFUSED = {  # files, and the error of the first of them

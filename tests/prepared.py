@@ -229,6 +229,7 @@ EBCDIC = """\
            GOBACK.
 """.splitlines()
 FREE = """\
+>>SOURCE FORMAT FREE
 identification division.
 program-id. t.
 data division.
@@ -252,10 +253,10 @@ def of_forms(folder):
     free = reported(["--prepare", "f.cob"], folder)[1].splitlines()[1:]
     declared = {"first": 11, "behind": 14}
     wanted = [
-        "f.cob:8:34: error: E9: NUM-2 isn't declared",
+        "f.cob:9:34: error: E9: NUM-2 isn't declared",
         " add 9 to num_1. subtract 1 from num_2.",
         " " * 33 + "^~~~~",
-        "f.cob:8:34: note: NUM-1, on line 5?",
+        "f.cob:9:34: note: NUM-1, on line 6?",
         "1 source: 1 refused",
     ]
     return told("prepared, forms", (ebcdic, free), ((7, EBCDIC[6], "books/item.cpy", 1, declared), wanted))

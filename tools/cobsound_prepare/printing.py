@@ -54,8 +54,19 @@ def runs(tokens: list[Token]) -> Iterator[list[Token]]:
 
 def without_code(block: Block) -> Iterator[Line]:
     """The lines of a block of which no token is left."""
+    if block.kind is LineKind.DIRECTIVE and block.indent:
+        yield moved_directive(block)
+        return
     for at, raw in enumerate(block.raw):
         yield Line(as_comment(block, raw), block, block.number + at)
+
+
+def moved_directive(block: Block) -> Line:
+    """A directive of free form in column 7, where the program refuses it."""
+    line = block.raw[0].expandtabs()
+    text = line.strip()
+    token = Token(Kind.OTHER, text, block, block.number, line.index(text) + 1, False)
+    return Line(f"      {text}", block, block.number, ((FIRST - 1, token),))
 
 
 def as_comment(block: Block, raw: str) -> str:
@@ -67,7 +78,7 @@ def as_comment(block: Block, raw: str) -> str:
     if block.kind is LineKind.BLANK:
         return raw if is_fixed and not raw.strip(" ") else ""
     if block.kind is LineKind.DIRECTIVE:
-        return raw if is_fixed else f"      {raw.strip()}"
+        return raw
     text = raw.expandtabs()
     text = text[7:] if is_fixed else text.strip().removeprefix("*>")
     return f"      *{text}"

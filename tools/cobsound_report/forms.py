@@ -5,7 +5,9 @@ from enum import Enum
 
 EBCDIC = "cp037"
 WORDS = re.compile(r"\b(IDENTIFICATION|ID|ENVIRONMENT|DATA|PROCEDURE)\s+DIVISION\b", re.I)
-FREE = re.compile(rb">>\s*SOURCE\s+FORMAT\s+(IS\s+)?FREE|\$SET\s+SOURCEFORMAT\s*[(\"']+FREE", re.I)
+FREE = re.compile(
+    rb"^(?:.{6})?[ \t]*(?:>>[ \t]*SOURCE\s+FORMAT\s+(?:IS\s+)?FREE|\$SET\s+SOURCEFORMAT\s*[(\"']+FREE)", re.I | re.M
+)
 
 
 class Form(Enum):
