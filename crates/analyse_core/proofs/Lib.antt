@@ -17,6 +17,7 @@ pub mod Noting
 pub mod Fixed
 pub mod Owned
 pub mod Allowing
+pub mod SameRows
 pub mod RowClaims
 pub mod PacksBeside
 pub mod PacksFixed
@@ -25,6 +26,7 @@ pub mod Finding
 pub mod Evaluating
 pub mod PacksGiven
 pub mod SolvedRows
+pub mod FoundRows
 mod SameCertificates
 mod SamePackLists
 pub mod ActCuts

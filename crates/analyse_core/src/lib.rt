@@ -23,7 +23,7 @@ mod statements;
 mod sums;
 mod threshold_lists;
 
-pub use analysis::analyse;
+pub use analysis::{Found, analyse, find};
 pub use choice::packs;
 pub use choice_laws::reached_paragraphs_are_marked;
 pub use laws::plain_evaluation_assigns;
