@@ -23,6 +23,7 @@ pub mod PacksBeside
 pub mod PacksFixed
 pub mod PackClaims
 pub mod Finding
+pub mod Assigning
 pub mod Evaluating
 pub mod PacksGiven
 pub mod SolvedRows

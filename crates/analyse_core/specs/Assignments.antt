@@ -10,6 +10,8 @@ use Rattle.interval_domain.specs.Known.{Known}
 use Rattle.interval_domain.specs.Elements.{Element, ElementFits, height_of}
 use Rattle.interval_domain.specs.Rows.{cells_lattice}
 use Rattle.cert_text.specs.View.{Certificate}
+use Rattle.cert_text.specs.Claims.{place_at, written_element}
+use Rattle.graph_runs.specs.Sources.{IsSourceGraph}
 use Rattle.cell_steps.specs.OwnRanges.{owns}
 use Rattle.cell_laws.specs.Layer.{cell_flow}
 use Rattle.diff_bounds.specs.Matrix.{none}
@@ -19,7 +21,7 @@ use Rattle.pack_laws.specs.Layer.{sizes_of}
 use Rattle.analyse_core.specs.Choice.{packs_of}
 use Rattle.cert_check.specs.OpenPairs.{open_at, is_cleared_by}
 use Rattle.cert_check.specs.Assignments.{Assignment, cells_clear, cells_row, clears, matrices_row}
-use Rattle.cert_check.specs.Claims.{open_pairs}
+use Rattle.cert_check.specs.Claims.{assignment_of, cell_leaks, open_pairs}
 use Rattle.analyse_core.specs.Thresholds.{thresholds_of}
 use Rattle.analyse_core.specs.Packs.{packs_for, pack_lists, pack_lattice, pack_flow}
 
@@ -115,3 +117,13 @@ module _ (p : Program) (g : Graph) where
 
   abbrev pub most_steps : ℕ
   most_steps = layer_steps (height_of (thresholds_of p)) + pack_steps (packs_of p)
+
+-- ---- certificates
+
+-- What a certificate claims of cells is such an assignment, where it has no leak and where at each node to which an edge goes
+-- back all ends are thresholds as they are written.
+abbrev pub CertificatesAssign : Type 0
+CertificatesAssign =
+    (p : Program) (g : Graph) (c : Certificate) → ∥ IsSourceGraph p g ∥₁ → cell_leaks p g c ≡ []
+    → ((node : ℕ) → IsHead (cell_flow p g) node → IsListedElement (thresholds_of p) (written_element (length (owns p)) (place_at c node)))
+    → IsThresholdAssignment p g (assignment_of p g c)
