@@ -1,11 +1,10 @@
--- The plain evaluation of a graph without edges that go back has no leak, and no heads.
-use Rattle.std.proofs.Common.{◌≡◌, ℕ, zero, suc, ◌+◌, ◌-◌, ◌<◌, ◌≤◌, ◌==◌, List, [], ◌∷◌, ◌++◌, length, map, get_or, Bool, true, false, Some, None, ℤ, if◌then◌else◌, inl, inr, refl, sym, ap, ◌∙◌, subst, arith}
-use Rattle.std.specs.List.{AllByRecursion, range_with_len}
+-- The plain evaluation of a graph without edges that go back is kept by the edges, and has no heads.
+use Rattle.std.proofs.Common.{◌≡◌, ℕ, zero, suc, ◌+◌, ◌-◌, ◌<◌, ◌≤◌, ◌==◌, List, [], ◌∷◌, ◌++◌, length, get_or, Bool, true, false, Some, None, ℤ, if◌then◌else◌, inl, inr, refl, sym, ap, ◌∙◌, subst, arith}
+use Rattle.std.specs.List.{AllByRecursion}
 use Rattle.std.proofs.lemmas.Bool.{eq-eqb}
 use Rattle.std.proofs.lemmas.List.{length-append, get_or_append_left}
 use Rattle.cob_program.specs.Act.{Program}
 use Rattle.cob_graph.specs.declared.graph.Graph.{Graph}
-use Rattle.cob_graph.specs.Graphs.{cells_of}
 use Rattle.graph_runs.specs.Places.{edge_at}
 use Rattle.interval_domain.specs.declared.bounds.Interval.{Interval}
 use Rattle.dom_laws.specs.Lattice.{Lattice, IsElement}
@@ -17,17 +16,14 @@ use Rattle.interval_domain.proofs.Rows.{element_back}
 use Rattle.cell_steps.specs.OwnRanges.{owns}
 use Rattle.cell_laws.specs.Entry.{entry_cells}
 use Rattle.cell_laws.specs.Layer.{cell_flow, post_at, row_for}
-use Rattle.cert_text.specs.View.{Place, Certificate}
-use Rattle.cert_check.specs.Claims.{cell_leaks}
-use Rattle.cert_check.specs.Checking.{HasShape}
+use Rattle.cert_text.specs.View.{Place}
 use Rattle.cert_check.proofs.Lists.{equal_or_less}
 use Rattle.cert_check.proofs.Accepting.{claimed}
 use Rattle.cert_check.proofs.LayerLaws.{LayerLaws, layer_laws}
 use Rattle.analyse_core.specs.Thresholds.{thresholds_of}
 use Rattle.analyse_core.specs.Certificates.{place_for}
-use Rattle.analyse_core.specs.Plain.{known_of, along, joined_along, plain_to, plain_at, plain_certificate, GoesOn, PlainEvaluationAssigns}
+use Rattle.analyse_core.specs.Plain.{known_of, along, joined_along, plain_to, plain_at, GoesOn, PlainEvaluationAssigns}
 use Rattle.analyse_core.proofs.Claiming.{claimed_is}
-use Rattle.analyse_core.proofs.RowClaims.{certificate, shape, no_cell_leaks}
 
 module _ (p : Program) (g : Graph) (laws : LayerLaws p g) where
   abbrev ranges : List Interval
@@ -155,19 +151,9 @@ module _ (p : Program) (g : Graph) (laws : LayerLaws p g) where
   row_back : (node : ℕ) → element_of (rows node) ≡ plain_at p g node
   row_back node = element_back ranges (plain_at p g node) (plain_fits node)
 
-  abbrev with_places : List Place → Certificate
-  with_places places = record { cells = length (cells_of p); packs = []; nodes = places }
-
   -- what a certificate without packs claims at a node
   abbrev place_of : Element → Place
   place_of x = place_for [] x []
-
-  same_places : (x y : ℕ → Element) (first count : ℕ) → ((node : ℕ) → x node ≡ y node) →
-      map (λ node. place_of (x node)) (range_with_len first count) ≡ map (λ node. place_of (y node)) (range_with_len first count)
-  same_places x y first zero h = refl
-  same_places x y first (suc count) h =
-      ap (λ z. place_of z ∷ map (λ node. place_of (x node)) (range_with_len (first + 1) count)) (h first)
-      ∙ ap (λ ps. place_of (y first) ∷ ps) (same_places x y (first + 1) count h)
 
   row_is : (x : Element) → ElementFits ranges x → IsElement lattice (row_for p x)
   row_is x fits =
@@ -207,21 +193,13 @@ module _ (p : Program) (g : Graph) (laws : LayerLaws p g) where
               (before (edge_at g e).to to.first to.last e is refl (flows.source_node e is).first)));
         }
 
-    pub plain_is : plain_certificate p g ≡ certificate p g [] rows (λ node. [])
-    plain_is =
-        ap with_places (same_places (plain_at p g) (λ node. element_of (rows node)) 1 (length g.nodes) (λ node. sym (row_back node)))
-
     no_head : (node : ℕ) → IsHead (cell_flow p g) node → ⊥
     no_head node (e, is, back, at) = let less = on e is.first is.last in omega (arith, less, back)
 
 pub plain_assigns : PlainEvaluationAssigns
 plain_assigns p g source on =
     let laws = layer_laws p g source in
-    let kept = plain_inductive p g laws on in
-    let same = plain_is p g laws on in
     record {
-      shape = subst (HasShape p g) (sym same) (shape p g [] (rows p g laws) (λ node. []) source kept);
-      inductive =
-          subst (λ (c : Certificate). cell_leaks p g c ≡ []) (sym same) (no_cell_leaks p g [] (rows p g laws) (λ node. []) source kept);
+      kept = record { fits = λ node is. plain_fits p g laws node; inductive = plain_inductive p g laws on };
       heads = λ node is. absurd (no_head p g laws on node is);
     }

@@ -17,14 +17,17 @@ pub mod Noting
 pub mod Fixed
 pub mod Owned
 pub mod Allowing
+pub mod SameRows
 pub mod RowClaims
 pub mod PacksBeside
 pub mod PacksFixed
 pub mod PackClaims
 pub mod Finding
+pub mod Assigning
 pub mod Evaluating
 pub mod PacksGiven
 pub mod SolvedRows
+pub mod FoundRows
 mod SameCertificates
 mod SamePackLists
 pub mod ActCuts

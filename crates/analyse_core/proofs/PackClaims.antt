@@ -1,5 +1,5 @@
--- The certificate of rows that the edges keep: its bounds mean these rows of matrices, or the least one where no cells are
--- reached; and the edges keep them.
+-- The certificate of an assignment that is found: its bounds say the matrices, or the least ones where no cells are reached;
+-- and the edges keep them.
 use Rattle.std.proofs.Common.{◌≡◌, ℕ, ◌≤◌, List, [], ◌∷◌, length, map, Option, Some, None, ℤ, refl, sym, ap, ◌∙◌, subst, arith}
 use Rattle.std.specs.List.{AllByRecursion}
 use Rattle.std.proofs.Props.{props}
@@ -38,6 +38,7 @@ use Rattle.pack_laws.proofs.Packed.{HasDistinctHomes}
 use Rattle.analyse_core.specs.Choice.{packs_of}
 use Rattle.analyse_core.specs.PackThresholds.{thresholds_of_pack}
 use Rattle.cert_text.proofs.Meaning.{bounds_mean}
+use Rattle.cert_check.specs.Assignments.{Assignment, cells_row, matrices_row}
 use Rattle.cert_check.specs.Claims.{bounds_row, row_at}
 use Rattle.cert_check.proofs.BoundsKept.{sizes_are}
 use Rattle.cert_check.proofs.LayerLaws.{LayerLaws, layer_laws}
@@ -47,7 +48,7 @@ use Rattle.analyse_core.specs.Certificates.{claims_from, place_for}
 use Rattle.analyse_core.specs.Packs.{ArePacksReady, packs_for, pack_lists, pack_lattice, pack_flow}
 use Rattle.analyse_core.specs.Found.{AreFoundBounds, AreFoundCells}
 use Rattle.analyse_core.proofs.PacksBeside.{none_passes}
-use Rattle.analyse_core.proofs.RowClaims.{certificate, first_node, place_there, row_there}
+use Rattle.analyse_core.proofs.RowClaims.{cells_back, certificate, first_node, place_there, row_there}
 
 -- ---- a source's packs
 
@@ -86,8 +87,14 @@ none_below : (x : Element) → ElementBelow x None → x ≡ None
 none_below None h = refl
 none_below (Some cs) h = absurd h
 
-module _ (p : Program) (g : Graph) (source : ∥ IsSourceGraph p g ∥₁) (ready : ArePacksReady p) (rows bounds : ℕ → List ℤ)
-    (found : AreFoundCells p g rows) (beside : AreFoundBounds p g rows bounds) where
+module _ (p : Program) (g : Graph) (source : ∥ IsSourceGraph p g ∥₁) (ready : ArePacksReady p) (a : Assignment)
+    (found : AreFoundCells p g a) (beside : AreFoundBounds p g a) where
+  abbrev rows : ℕ → List ℤ
+  rows node = cells_row p a node
+
+  abbrev bounds : ℕ → List ℤ
+  bounds node = matrices_row a node
+
   abbrev lattice : Lattice
   lattice = pack_lattice p
 
@@ -95,7 +102,7 @@ module _ (p : Program) (g : Graph) (source : ∥ IsSourceGraph p g ∥₁) (read
   flow = pack_flow p g rows
 
   abbrev pub its_certificate : Certificate
-  its_certificate = certificate p g (packs_of p) rows bounds
+  its_certificate = certificate p g (packs_of p) a
 
   laws : LayerLaws p g
   laws = layer_laws p g source
@@ -104,13 +111,13 @@ module _ (p : Program) (g : Graph) (source : ∥ IsSourceGraph p g ∥₁) (read
   its_lattice = is_lattice p g source ready
 
   pub are_facts : AreFacts p g rows
-  are_facts node first last = (found.inductive.elements node (record { first = first; last = last })).formed
+  are_facts node first last = (found.kept.inductive.elements node (record { first = first; last = last })).formed
 
   its_flow : IsFlow lattice flow
   its_flow = flows p g source ready rows are_facts
 
   abbrev pub shown : ℕ → List ℤ
-  shown node = shown_for lattice (element_of (rows node)) (bounds node)
+  shown node = shown_for lattice (a.cells node) (bounds node)
 
   shown_is : (x : Element) (row : List ℤ) → IsElement lattice row → IsElement lattice (shown_for lattice x row)
   shown_is None row is = its_lattice.least_element
@@ -121,20 +128,23 @@ module _ (p : Program) (g : Graph) (source : ∥ IsSourceGraph p g ∥₁) (read
   less (Some cs) row is = its_lattice.reflexive row is
 
   pub shown_element : (node : ℕ) → IsNode flow node → IsElement lattice (shown node)
-  shown_element node is = shown_is (element_of (rows node)) (bounds node) (beside.inductive.elements node is)
+  shown_element node is = shown_is (a.cells node) (bounds node) (beside.kept.inductive.elements node is)
 
   pub shown_below : (node : ℕ) → IsNode flow node → lattice.Below (shown node) (bounds node)
-  shown_below node is = less (element_of (rows node)) (bounds node) (beside.inductive.elements node is)
+  shown_below node is = less (a.cells node) (bounds node) (beside.kept.inductive.elements node is)
 
   -- ---- the edges keep it
 
   begins_below : lattice.Below flow.entry (shown 1)
-  begins_below = by_element (element_of (rows 1)) found.inductive.entry
+  begins_below =
+      by_element (a.cells 1)
+      (subst (ElementBelow (element_of (cell_flow p g).entry)) (cells_back p g (packs_of p) a source found.kept 1 (first_node p g (packs_of p) a source found.kept))
+      found.kept.inductive.entry)
     where
       by_element : (x : Element) → ElementBelow (element_of (cell_flow p g).entry) x → lattice.Below flow.entry (shown_for lattice x (bounds 1))
       by_element None h =
           absurd (subst (λ (y : Element). ElementBelow y None) (element_back (owns p) (Some (entry_cells p)) laws.entry_fits) h)
-      by_element (Some cs) h = beside.inductive.entry
+      by_element (Some cs) h = beside.kept.inductive.entry
 
   module _ (e : ℕ) (is : IsEdge flow e) where
     from : IsNode flow (edge_at g e).from
@@ -150,11 +160,13 @@ module _ (p : Program) (g : Graph) (source : ∥ IsSourceGraph p g ∥₁) (read
     comes_is = its_flow.post_element e (shown (edge_at g e).from) is (shown_element (edge_at g e).from from)
 
     -- into a node at which no cells are reached nothing comes
-    none_comes : element_of (rows (edge_at g e).to) ≡ None → lattice.least ≡ comes
-    none_comes none =
+    none_comes : a.cells (edge_at g e).to ≡ None → lattice.least ≡ comes
+    none_comes none_known =
+        let back = cells_back p g (packs_of p) a source found.kept (edge_at g e).to (record { first = to.first; last = to.last }) in
+        let none : element_of (rows (edge_at g e).to) ≡ None = back ∙ none_known in
         let x = element_of (rows (edge_at g e).from) in
         let fits = laws.post_fits e x (are_facts (edge_at g e).from from.first from.last).fits in
-        let cells_come = found.inductive.edges e (record { first = is.first; last = is.last }) in
+        let cells_come = found.kept.inductive.edges e (record { first = is.first; last = is.last }) in
         let below : ElementBelow (post_at p g e x) (element_of (rows (edge_at g e).to)) =
         subst (λ (y : Element). ElementBelow y (element_of (rows (edge_at g e).to))) (element_back (owns p) (post_at p g e x) fits) cells_come in
         let stops = none_below (post_at p g e x) (subst (ElementBelow (post_at p g e x)) none below) in
@@ -163,18 +175,18 @@ module _ (p : Program) (g : Graph) (source : ∥ IsSourceGraph p g ∥₁) (read
         ∙ sym (ap row_of (none_passes p g (packs_for p) (edge_at g e) x ms stops))
 
     comes_below : lattice.Below comes (shown (edge_at g e).to)
-    comes_below = by_element (element_of (rows (edge_at g e).to)) refl
+    comes_below = by_element (a.cells (edge_at g e).to) refl
       where
-        by_element : (x : Element) → element_of (rows (edge_at g e).to) ≡ x → lattice.Below comes (shown_for lattice x (bounds (edge_at g e).to))
+        by_element : (x : Element) → a.cells (edge_at g e).to ≡ x → lattice.Below comes (shown_for lattice x (bounds (edge_at g e).to))
         by_element None none =
             subst (λ (row : List ℤ). lattice.Below row lattice.least) (none_comes none) (its_lattice.reflexive lattice.least its_lattice.least_element)
         by_element (Some cs) some =
-            let source_row = beside.inductive.elements (edge_at g e).from from in
+            let source_row = beside.kept.inductive.elements (edge_at g e).from from in
             its_lattice.transitive comes (flow.post e (bounds (edge_at g e).from)) (bounds (edge_at g e).to) comes_is
-            (its_flow.post_element e (bounds (edge_at g e).from) is source_row) (beside.inductive.elements (edge_at g e).to to)
+            (its_flow.post_element e (bounds (edge_at g e).from) is source_row) (beside.kept.inductive.elements (edge_at g e).to to)
             (its_flow.post_monotone e (shown (edge_at g e).from) (bounds (edge_at g e).from) is (shown_element (edge_at g e).from from) source_row
             (shown_below (edge_at g e).from from))
-            (beside.inductive.edges e is)
+            (beside.kept.inductive.edges e is)
 
   -- ---- what the certificate's bounds mean
 
@@ -190,15 +202,15 @@ module _ (p : Program) (g : Graph) (source : ∥ IsSourceGraph p g ∥₁) (read
   pub bounds_there : (node : ℕ) → IsNode flow node → bounds_row p g its_certificate node ≡ shown node
   bounds_there node is =
       ap (matrices.claimed_row pack_sizes)
-      (place_there p g (packs_of p) rows bounds source found.inductive node (record { first = is.first; last = is.last }))
-      ∙ by_element (element_of (rows node))
+      (place_there p g (packs_of p) a source found.kept node (record { first = is.first; last = is.last }))
+      ∙ by_element (a.cells node)
     where
       by_element : (x : Element) → matrices.claimed_row pack_sizes (place_for pack_sizes x (bounds node)) ≡ shown_for lattice x (bounds node)
       by_element None =
           rows_are_least pack_sizes (pack_lists p) many_lists ∙ ap (λ (ns : List ℕ). (packs_lattice ns (pack_lists p)).least) (sym same_sizes)
       by_element (Some cs) =
           bounds_mean pack_sizes (pack_lists p) (claims_from 1 cs) (bounds node) many_lists
-          (subst (λ (ns : List ℕ). IsElement (packs_lattice ns (pack_lists p)) (bounds node)) same_sizes (beside.inductive.elements node is))
+          (subst (λ (ns : List ℕ). IsElement (packs_lattice ns (pack_lists p)) (bounds node)) same_sizes (beside.kept.inductive.elements node is))
 
   pub bounds_inductive : IsInductive lattice (pack_flow p g (row_at p g its_certificate)) (bounds_row p g its_certificate)
   bounds_inductive = record {
@@ -206,7 +218,7 @@ module _ (p : Program) (g : Graph) (source : ∥ IsSourceGraph p g ∥₁) (read
         let there : IsNode flow node = record { first = is.first; last = is.last } in
         subst (IsElement lattice) (sym (bounds_there node there)) (shown_element node there);
     entry =
-        let first = first_node p g (packs_of p) rows bounds source found.inductive in
+        let first = first_node p g (packs_of p) a source found.kept in
         subst (lattice.Below flow.entry) (sym (bounds_there 1 (record { first = first.first; last = first.last }))) begins_below;
     edges = λ e is. comes_there e (record { first = is.first; last = is.last });
   }
@@ -216,7 +228,7 @@ module _ (p : Program) (g : Graph) (source : ∥ IsSourceGraph p g ∥₁) (read
           (bounds_row p g its_certificate (edge_at g e).to)
       comes_there e is =
           let at = from e is in
-          let facts = row_there p g (packs_of p) rows bounds source found.inductive (edge_at g e).from (record { first = at.first; last = at.last }) in
+          let facts = row_there p g (packs_of p) a source found.kept (edge_at g e).from (record { first = at.first; last = at.last }) in
           let its = bounds_there (edge_at g e).from at in
           let same : (pack_flow p g (row_at p g its_certificate)).post e (bounds_row p g its_certificate (edge_at g e).from) ≡ comes e is =
           λ i. row_of (packs_post p g (packs_for p) (edge_at g e) (element_of (facts i)) (matrices_in (sizes_of (packs_for p)) (its i))) in

@@ -1,8 +1,7 @@
--- Where the first layer shows that no run comes, none comes in the second; and what the first clears, both clear.
+-- Where the first layer shows that no run comes, none comes in the second.
 use Rattle.std.proofs.Common.{◌≡◌, ℕ, ◌==◌, Bool, true, false, ◌&&◌, not, if◌then◌else◌, List, [], ◌∷◌, ℤ, Option, Some, None, refl, sym, ap, ◌∙◌}
 use Rattle.std.specs.Option.{option_map_or}
 use Rattle.std.proofs.lemmas.Option.{none-some, same_Some}
-use Rattle.cob_tree.specs.declared.fault.Kind.{Kind}
 use Rattle.cob_program.specs.Values.{◌>>=◌}
 use Rattle.cob_program.specs.Act.{Act, Program}
 use Rattle.cob_runs.specs.declared.action.Action.{Action}
@@ -16,15 +15,12 @@ use Rattle.cell_steps.specs.Seen.{Seen, beginning}
 use Rattle.cell_steps.specs.Stores.{handled}
 use Rattle.cell_steps.specs.Steps.{step}
 use Rattle.cell_steps.specs.Edges.{steps, finished, post_cells}
-use Rattle.cell_laws.proofs.OperandsRise.{or_rises}
-use Rattle.cell_laws.specs.Layer.{left, edge_cells, edge_clears, leaves_clear, clears_at}
-use Rattle.cell_laws.proofs.Clears.{all_kept}
-use Rattle.diff_layer.proofs.ClearedByCells.{cleared_by_cells}
+use Rattle.cell_laws.specs.Layer.{left, edge_cells}
 use Rattle.diff_steps.specs.Packs.{Pack}
 use Rattle.diff_steps.specs.Moments.{Seen2, with_packs}
 use Rattle.diff_steps.specs.Steps.{all_closed, changed, step2}
 use Rattle.diff_steps.specs.Edges.{bottoms, or_bottoms, beginning2, steps2, finished2, post_packs}
-use Rattle.pack_laws.specs.Layer.{packs_post, edge_clears2, leaves_clear2, clears_at2}
+use Rattle.pack_laws.specs.Layer.{packs_post}
 
 -- ---- parts that are passed
 
@@ -88,17 +84,3 @@ none_passes p g packs x (Some cells) ms e = by_act (act_at p (left g x)) e
         option_map_or (λ a. post_packs p packs (left g x) a x.action (Some cells) ms) o ms ≡ bottoms packs
     by_act None f = absurd (none-some cells (sym f))
     by_act (Some a) f = nothing_posted p packs (left g x) a x.action cells ms f
-
--- ---- nodes
-
-module _ (p : Program) (g : Graph) (packs : List Pack) (fault : Kind) (cells : List Known) (ms : List (List ℤ)) where
-  leaving_clears : (node : ℕ) (x : Edge) → leaves_clear p g node fault cells x ≡ true → leaves_clear2 p g packs node fault cells ms x ≡ true
-  leaving_clears node x e =
-      or_rises (not (x.from == node)) (edge_clears p g fault cells x) (not (x.from == node)) (edge_clears2 p g packs fault cells ms x) (λ f. f)
-      (cleared_by_cells p packs fault g cells ms x) e
-
-pub both_clear_too : (p : Program) (g : Graph) (packs : List Pack) (node : ℕ) (element : Element) (ms : List (List ℤ)) (fault : Kind) →
-    clears_at p g node element fault ≡ true → clears_at2 p g packs node element ms fault ≡ true
-both_clear_too p g packs node None ms fault e = refl
-both_clear_too p g packs node (Some cells) ms fault e =
-    all_kept (leaves_clear p g node fault cells) (leaves_clear2 p g packs node fault cells ms) (leaving_clears p g packs fault cells ms node) g.edges e

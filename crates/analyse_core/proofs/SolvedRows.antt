@@ -19,12 +19,15 @@ use Rattle.diff_steps.specs.Packs.{Pack}
 use Rattle.diff_bounds.specs.PackRows.{lists_of, width_of}
 use Rattle.cert_text.specs.MatrixClaims.{cells_in, sizes_of}
 use Rattle.pack_laws.specs.Layer as layer
-use Rattle.pack_laws.specs.Layer.{diff_flow, diff_lattice}
+use Rattle.pack_laws.specs.Layer.{diff_flow, diff_lattice, diff_meaning}
 use Rattle.pack_laws.specs.Packs as of_code
 use Rattle.pack_laws.specs.Packs.{pack_in}
 use Rattle.analyse_core.specs.Choice.{packs_of}
 use Rattle.analyse_core.specs.PackThresholds.{thresholds_of_pack}
+use Rattle.cert_check.specs.Assignments.{clears}
+use Rattle.cert_check.specs.Clearing.{TestsTell}
 use Rattle.cert_check.proofs.BoundsKept.{sizes_are}
+use Rattle.cert_check.proofs.Layers.{packs_show}
 use Rattle.cert_check.proofs.PackNumbers.{packs_in_are}
 use Rattle.diff_layer.proofs.Rows.{few_words, width_is}
 use Rattle.widen_solver.specs.Solving.{step_bound}
@@ -33,7 +36,7 @@ use Rattle.interval_domain.specs.Rows.{cells_lattice}
 use Rattle.analyse_core.specs.Thresholds.{thresholds_of}
 use Rattle.analyse_core.specs.Packs.{ArePacksGiven, packs_for, pack_lattice, pack_lists}
 use Rattle.analyse_core.specs.Assignments.{layer_steps, pack_steps}
-use Rattle.analyse_core.specs.Found.{AreFoundBounds, AreFoundCells}
+use Rattle.analyse_core.specs.Solved.{AreSolvedBounds, AreSolvedCells, solved}
 use Rattle.analyse_core.proofs.PacksGiven.{given_count, given_few, given_listed, given_small}
 
 -- ---- heads are those of the graph
@@ -84,9 +87,9 @@ module _ (p : Program) (g : Graph) (packs : List declared.Pack) (lists : List (V
   lattice_same : lattice_there ≡ pack_lattice p
   lattice_same = λ i. diff_lattice (packs_same i) (given.lists_are i)
 
-  pub bounds_found : (bounds : ℕ → List ℤ) → IsInductive lattice_there flow_there bounds → IsDominated lattice_there flow_there bounds →
-      AreFoundBounds p g facts bounds
-  bounds_found bounds inductive dominated = record {
+  pub bounds_solved : (bounds : ℕ → List ℤ) → IsInductive lattice_there flow_there bounds → IsDominated lattice_there flow_there bounds →
+      AreSolvedBounds p g facts bounds
+  bounds_solved bounds inductive dominated = record {
     inductive =
         subst (λ (ps : List Pack). IsInductive (diff_lattice ps (pack_lists p)) (diff_flow p g ps facts) bounds) packs_same
         (subst (λ (ls : List (List ℤ)). IsInductive (diff_lattice packs_there ls) flow_there bounds) given.lists_are inductive);
@@ -94,6 +97,21 @@ module _ (p : Program) (g : Graph) (packs : List declared.Pack) (lists : List (V
         subst (λ (ps : List Pack). IsDominated (diff_lattice ps (pack_lists p)) (diff_flow p g ps facts) bounds) packs_same
         (subst (λ (ls : List (List ℤ)). IsDominated (diff_lattice packs_there ls) flow_there bounds) given.lists_are dominated);
   }
+
+  -- the rows are kept and show what they clear in the layer of the code too
+  pub bounds_there : (bounds : ℕ → List ℤ) → AreSolvedBounds p g facts bounds → IsInductive lattice_there flow_there bounds
+  bounds_there bounds found =
+      subst (λ (ls : List (List ℤ)). IsInductive (diff_lattice packs_there ls) flow_there bounds) (sym given.lists_are)
+      (subst (λ (ps : List Pack). IsInductive (diff_lattice ps (pack_lists p)) (diff_flow p g ps facts) bounds) (sym packs_same) found.inductive)
+
+  pub bounds_show : (bounds : ℕ → List ℤ) → 1 ≤ length packs →
+      TestsTell flow_there (diff_meaning p g packs_there facts) bounds (clears p g (packs_of p) (solved p facts bounds))
+  bounds_show bounds some =
+      let many = given_count p packs lists given in
+      subst (λ (ps : List Pack). TestsTell (diff_flow p g ps facts) (diff_meaning p g ps facts) bounds (clears p g (packs_of p) (solved p facts bounds)))
+      (sym packs_same)
+      (packs_show p g (packs_of p) (solved p facts bounds) facts bounds (λ node first last. refl) (λ node first last. refl)
+      (λ none. absurd (let no = ap length none in omega (arith, many, some, no))))
 
   sizes_same : layer.sizes_of packs_there ≡ sizes_of (cells_in packs)
   sizes_same = ap layer.sizes_of (packs_in_are p packs) ∙ sizes_are p g (record { cells = 0; packs = cells_in packs; nodes = [] })
@@ -128,12 +146,6 @@ module _ (p : Program) (g : Graph) (packs : List declared.Pack) (lists : List (V
       let room = mul-le-mul_left (nodes + 2) most_words in
       omega (arith, room, few)
 
-  pub width_found : (bounds : ℕ → List ℤ) → AreFoundBounds p g facts bounds → (node : ℕ) → 1 ≤ node → node ≤ length g.nodes →
-      length (bounds node) ≡ width_of (sizes_of (cells_in packs))
-  width_found bounds found node first last =
-      (found.inductive.elements node (record { first = first; last = last })).width ∙ sym (ap (λ (l : Lattice). l.width) lattice_same)
-      ∙ sym (words_fit (width_of (sizes_of (cells_in packs))) refl)
-
   pub steps_fit : (before after : ℕ) → 1 ≤ length packs → after ≤ before + step_bound lattice_there flow_there →
       after ≤ before + pack_steps p g (packs_of p)
   steps_fit before after some h =
@@ -145,12 +157,15 @@ module _ (p : Program) (g : Graph) (packs : List declared.Pack) (lists : List (V
 -- ---- the first layer of the code
 
 module _ (p : Program) (g : Graph) (lists : List (List ℤ)) (same : lists ≡ thresholds_of p) where
-  pub cells_found : (rows : ℕ → List ℤ) → IsInductive (cells_lattice (owns p) lists) (cell_flow p g) rows →
-      IsDominated (cells_lattice (owns p) lists) (cell_flow p g) rows → AreFoundCells p g rows
-  cells_found rows inductive dominated = record {
+  pub cells_solved : (rows : ℕ → List ℤ) → IsInductive (cells_lattice (owns p) lists) (cell_flow p g) rows →
+      IsDominated (cells_lattice (owns p) lists) (cell_flow p g) rows → AreSolvedCells p g rows
+  cells_solved rows inductive dominated = record {
     inductive = subst (λ (ls : List (List ℤ)). IsInductive (cells_lattice (owns p) ls) (cell_flow p g) rows) same inductive;
     dominated = subst (λ (ls : List (List ℤ)). IsDominated (cells_lattice (owns p) ls) (cell_flow p g) rows) same dominated;
   }
+
+  pub cells_there : (rows : ℕ → List ℤ) → AreSolvedCells p g rows → IsInductive (cells_lattice (owns p) lists) (cell_flow p g) rows
+  cells_there rows found = subst (λ (ls : List (List ℤ)). IsInductive (cells_lattice (owns p) ls) (cell_flow p g) rows) (sym same) found.inductive
 
   pub cell_steps_fit : (before after : ℕ) → after ≤ before + step_bound (cells_lattice (owns p) lists) (cell_flow p g) →
       after ≤ before + layer_steps p g (height_of (thresholds_of p))
@@ -164,8 +179,8 @@ lattice_for p ps = diff_lattice (map (pack_in (homes_of p)) ps) (map (thresholds
 abbrev flow_for : Program → Graph → (ℕ → List ℤ) → List (List ℕ) → Flow
 flow_for p g rows ps = diff_flow p g (map (pack_in (homes_of p)) ps) rows
 
-pub none_found : (p : Program) (g : Graph) (rows : ℕ → List ℤ) → packs_of p ≡ [] → AreFoundBounds p g rows (λ node. [])
-none_found p g rows none = record {
+pub none_solved : (p : Program) (g : Graph) (rows : ℕ → List ℤ) → packs_of p ≡ [] → AreSolvedBounds p g rows (λ node. [])
+none_solved p g rows none = record {
   inductive =
       subst (λ (ps : List (List ℕ)). IsInductive (lattice_for p ps) (flow_for p g rows ps) (λ node. [])) (sym none)
       (record { elements = λ node is. record { width = refl; formed = tt }; entry = tt; edges = λ e is. tt });

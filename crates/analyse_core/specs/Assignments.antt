@@ -1,26 +1,27 @@
--- Assignments of what is known of cells, and of differences, to the nodes of a program's graph, whose heads have thresholds
--- as ends and words.
+-- Assignments whose heads have thresholds as ends and words, and that nothing is missed which they show.
 use Rattle.std.specs.Prelude.{◌≡◌, ◌⊎◌, ◌+◌, ◌*◌, ◌/◌, ◌%◌, ◌<◌, ℕ, Bool, true, List, [], ◌∷◌, length, slice_index_or, None, Some, ℤ, pos}
 use Rattle.std.specs.List.{Contains}
 use Rattle.cob_tree.specs.declared.fault.Kind.{Kind}
 use Rattle.cob_program.specs.Act.{Program}
 use Rattle.cob_graph.specs.declared.graph.Graph.{Graph}
 use Rattle.interval_domain.specs.Thresholds.{IsListed}
-use Rattle.dom_laws.specs.Flow.{IsHead, IsInductive, head_count}
+use Rattle.dom_laws.specs.Flow.{IsHead, IsInductive, IsNode, head_count}
 use Rattle.interval_domain.specs.Known.{Known}
-use Rattle.interval_domain.specs.Elements.{Element, height_of}
+use Rattle.interval_domain.specs.Elements.{Element, ElementFits, height_of}
+use Rattle.interval_domain.specs.Rows.{cells_lattice}
 use Rattle.cert_text.specs.View.{Certificate}
 use Rattle.cert_text.specs.Claims.{place_at, written_element}
+use Rattle.graph_runs.specs.Sources.{IsSourceGraph}
 use Rattle.cell_steps.specs.OwnRanges.{owns}
 use Rattle.cell_laws.specs.Layer.{cell_flow}
 use Rattle.diff_bounds.specs.Matrix.{none}
 use Rattle.diff_bounds.specs.Widening as words
 use Rattle.diff_bounds.specs.PackRows.{matrices_in, packs_lattice}
-use Rattle.pack_laws.specs.Layer.{sizes_of, clears_at2}
+use Rattle.pack_laws.specs.Layer.{sizes_of}
 use Rattle.analyse_core.specs.Choice.{packs_of}
 use Rattle.cert_check.specs.OpenPairs.{open_at, is_cleared_by}
-use Rattle.cert_check.specs.Claims.{cell_leaks, cells_clear, claims_at, open_pairs, row_at}
-use Rattle.cert_check.specs.Checking.{HasShape}
+use Rattle.cert_check.specs.Assignments.{Assignment, cells_clear, cells_row, clears, matrices_row}
+use Rattle.cert_check.specs.Claims.{assignment_of, cell_leaks, open_pairs}
 use Rattle.analyse_core.specs.Thresholds.{thresholds_of}
 use Rattle.analyse_core.specs.Packs.{packs_for, pack_lists, pack_lattice, pack_flow}
 
@@ -61,48 +62,47 @@ IsListedRow sizes lists row = (row ≡ (packs_lattice sizes lists).least) ⊎ Ha
 -- ---- assignments
 
 module _ (p : Program) (g : Graph) where
-  -- what is claimed of a node, as it is written
-  abbrev pub written_at : Certificate → ℕ → Element
-  written_at x node = written_element (length (owns p)) (place_at x node)
+  -- what it says of cells lies in their own ranges, and the edges keep it
+  pub record KeepsCells (a : Assignment) : Type 0 where
+    pub fits : (node : ℕ) → IsNode (cell_flow p g) node → ElementFits (owns p) (a.cells node)
+    pub inductive : IsInductive (cells_lattice (owns p) (thresholds_of p)) (cell_flow p g) (cells_row p a)
 
-  -- What it claims of cells has no leak, and an edge goes back to no node but where all ends are thresholds.
-  pub record IsThresholdAssignment (x : Certificate) : Type 0 where
-    pub shape : HasShape p g x
-    pub inductive : cell_leaks p g x ≡ []
-    pub heads : (node : ℕ) → IsHead (cell_flow p g) node → IsListedElement (thresholds_of p) (written_at x node)
+  -- it has a matrix for each of the program's packs, and the edges keep them beside what it says of cells
+  pub record KeepsMatrices (a : Assignment) : Type 0 where
+    pub fits : (node : ℕ) → IsNode (cell_flow p g) node → matrices_in (sizes_of (packs_for p)) (matrices_row a node) ≡ a.matrices node
+    pub inductive : IsInductive (pack_lattice p) (pack_flow p g (cells_row p a)) (matrices_row a)
 
-  -- Rows of matrices for the program's packs that the edges keep beside what x claims of cells. An edge goes back to no
-  -- node but where all words are thresholds or none.
-  pub record IsPackAssignment (x : Certificate) (rows : ℕ → List ℤ) : Type 0 where
-    pub inductive : IsInductive (pack_lattice p) (pack_flow p g (row_at p g x)) rows
-    pub heads : (node : ℕ) → IsHead (cell_flow p g) node → IsListedRow (sizes_of (packs_for p)) (pack_lists p) (rows node)
+  -- The edges keep what it says of cells, and go back to no node but where all ends are thresholds.
+  pub record IsThresholdAssignment (a : Assignment) : Type 0 where
+    pub kept : KeepsCells a
+    pub heads : (node : ℕ) → IsHead (cell_flow p g) node → IsListedElement (thresholds_of p) (a.cells node)
+
+  -- The edges keep its matrices, and go back to no node but where all words are thresholds or none.
+  pub record IsPackAssignment (a : Assignment) : Type 0 where
+    pub kept : KeepsMatrices a
+    pub heads : (node : ℕ) → IsHead (cell_flow p g) node → IsListedRow (sizes_of (packs_for p)) (pack_lists p) (matrices_row a node)
 
   -- ---- what is cleared
 
-  -- what an assignment claims of cells shows at each node of the statement that there is no such fault
-  abbrev pub is_cleared_in : Certificate → ℕ → Kind → Bool
-  is_cleared_in x statement fault = is_cleared_by g (cells_clear p g x) statement fault
+  -- what an assignment says of cells shows at each node of the statement that there is no such fault
+  abbrev pub is_cleared_in : Assignment → ℕ → Kind → Bool
+  is_cleared_in a statement fault = is_cleared_by g (cells_clear p g a) statement fault
 
   -- What some such assignment clears at every node of a statement isn't open.
   abbrev pub MissesNothing : Certificate → Type 0
   MissesNothing c =
-      (x : Certificate) → IsThresholdAssignment x → (statement : ℕ) (fault : Kind) → is_cleared_in x statement fault ≡ true
+      (a : Assignment) → IsThresholdAssignment a → (statement : ℕ) (fault : Kind) → is_cleared_in a statement fault ≡ true
       → ¬ Contains (open_pairs p g c) (open_at statement fault)
 
-  -- what the claims of cells and the rows show together; without packs there is no second layer
-  abbrev pub both_clear : List (List ℕ) → Certificate → (ℕ → List ℤ) → ℕ → Kind → Bool
-  both_clear [] x rows node fault = cells_clear p g x node fault
-  both_clear (pack ∷ packs) x rows node fault =
-      clears_at2 p g (packs_for p) node (claims_at p g x node) (matrices_in (sizes_of (packs_for p)) (rows node)) fault
+  -- at each node of the statement some layer shows it
+  abbrev pub is_cleared_by_both : Assignment → ℕ → Kind → Bool
+  is_cleared_by_both a statement fault = is_cleared_by g (clears p g (packs_of p) a) statement fault
 
-  abbrev pub is_cleared_by_both : Certificate → (ℕ → List ℤ) → ℕ → Kind → Bool
-  is_cleared_by_both x rows statement fault = is_cleared_by g (both_clear (packs_of p) x rows) statement fault
-
-  -- What some such assignments of both layers together clear at every node of a statement isn't open.
+  -- What some such assignment of both layers clears at every node of a statement isn't open.
   abbrev pub MissesNothingTogether : Certificate → Type 0
   MissesNothingTogether c =
-      (x : Certificate) (rows : ℕ → List ℤ) → IsThresholdAssignment x → IsPackAssignment x rows → (statement : ℕ) (fault : Kind)
-      → is_cleared_by_both x rows statement fault ≡ true → ¬ Contains (open_pairs p g c) (open_at statement fault)
+      (a : Assignment) → IsThresholdAssignment a → IsPackAssignment a → (statement : ℕ) (fault : Kind)
+      → is_cleared_by_both a statement fault ≡ true → ¬ Contains (open_pairs p g c) (open_at statement fault)
 
   -- ---- steps
 
@@ -117,3 +117,13 @@ module _ (p : Program) (g : Graph) where
 
   abbrev pub most_steps : ℕ
   most_steps = layer_steps (height_of (thresholds_of p)) + pack_steps (packs_of p)
+
+-- ---- certificates
+
+-- What a certificate claims of cells is such an assignment, where it has no leak and where at each node to which an edge goes
+-- back all ends are thresholds as they are written.
+abbrev pub CertificatesAssign : Type 0
+CertificatesAssign =
+    (p : Program) (g : Graph) (c : Certificate) → ∥ IsSourceGraph p g ∥₁ → cell_leaks p g c ≡ []
+    → ((node : ℕ) → IsHead (cell_flow p g) node → IsListedElement (thresholds_of p) (written_element (length (owns p)) (place_at c node)))
+    → IsThresholdAssignment p g (assignment_of p g c)

@@ -9,6 +9,7 @@ pub mod Thresholds
 pub mod Certificates
 pub mod Packs
 pub mod Assignments
+pub mod Solved
 pub mod Found
 pub mod Plain
 pub use Rattle.analyse_core.specs.Choice

@@ -3,14 +3,12 @@
 use Rattle.std.specs.Prelude.{ℕ, zero, suc, ◌-◌, ◌≤◌, ◌<◌, ◌==◌, if◌then◌else◌, List, [], ◌∷◌, ◌++◌, length, get_or, None, Some}
 use Rattle.cob_program.specs.Act.{Program}
 use Rattle.cob_graph.specs.declared.graph.Graph.{Graph}
-use Rattle.cob_graph.specs.Graphs.{cells_of}
 use Rattle.graph_runs.specs.Places.{edge_at}
 use Rattle.interval_domain.specs.Elements.{Element, joined_element}
 use Rattle.cell_laws.specs.Entry.{entry_cells}
 use Rattle.cell_laws.specs.Layer.{post_at}
-use Rattle.cert_text.specs.View.{Certificate}
 use Rattle.graph_runs.specs.Sources.{IsSourceGraph}
-use Rattle.analyse_core.specs.Certificates.{certificate_for}
+use Rattle.cert_check.specs.Assignments.{Assignment}
 use Rattle.analyse_core.specs.Assignments.{IsThresholdAssignment}
 
 -- what is known at a node among the first ones
@@ -41,8 +39,9 @@ module _ (p : Program) (g : Graph) where
   abbrev pub plain_at : ℕ → Element
   plain_at node = known_of (plain_to (length g.nodes)) node
 
-  abbrev pub plain_certificate : Certificate
-  plain_certificate = certificate_for (length (cells_of p)) [] (length g.nodes) plain_at (λ node. [])
+  -- it says nothing of differences
+  abbrev pub plain_assignment : Assignment
+  plain_assignment = record { cells = plain_at; matrices = λ node. [] }
 
   -- each edge leads to a later node
   abbrev pub GoesOn : Type 0
@@ -50,4 +49,4 @@ module _ (p : Program) (g : Graph) where
 
 -- Without edges that go back, the plain evaluation is an assignment that the analysis doesn't miss.
 abbrev pub PlainEvaluationAssigns : Type 0
-PlainEvaluationAssigns = (p : Program) (g : Graph) → ∥ IsSourceGraph p g ∥₁ → GoesOn p g → IsThresholdAssignment p g (plain_certificate p g)
+PlainEvaluationAssigns = (p : Program) (g : Graph) → ∥ IsSourceGraph p g ∥₁ → GoesOn p g → IsThresholdAssignment p g (plain_assignment p g)

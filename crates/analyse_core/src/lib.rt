@@ -23,10 +23,10 @@ mod statements;
 mod sums;
 mod threshold_lists;
 
-pub use analysis::analyse;
+pub use analysis::{Found, analyse, find};
 pub use choice::packs;
 pub use choice_laws::reached_paragraphs_are_marked;
-pub use laws::plain_evaluation_assigns;
+pub use laws::{certificates_assign, plain_evaluation_assigns};
 pub use listing::thresholds;
 pub use mention::Mention;
 pub use threshold_lists::pack_thresholds;

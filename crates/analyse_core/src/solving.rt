@@ -3,8 +3,6 @@ ghost use Rattle.std.specs.Prelude.{◌≡◌, ◌≤◌, ◌+◌, [], length, I
 ghost use Rattle.cob_program.specs.ActView.{plain_program};
 ghost use Rattle.cob_graph.specs.Graphs.{cells_of};
 ghost use Rattle.cob_graph.specs.Limits.{most_cells, most_nodes};
-ghost use Rattle.cob_graph_build.specs.Limits.{IsWithinLimits};
-ghost use Rattle.graph_runs.specs.Sources.{IsSourceGraph};
 ghost use Rattle.interval_domain.specs.Elements.{height_of};
 ghost use Rattle.interval_domain.specs.Rows.{lists_of};
 ghost use Rattle.cell_steps.specs.OwnRanges.{owns};
@@ -13,12 +11,9 @@ ghost use Rattle.widen_solver.specs.Stored.{row_at};
 ghost use Rattle.analyse_core.specs.Thresholds.{thresholds_of};
 ghost use Rattle.analyse_core.specs.Packs.{ArePacksGiven};
 ghost use Rattle.analyse_core.specs.Assignments.{layer_steps, pack_steps};
-ghost use Rattle.analyse_core.specs.Found.{AreFoundBounds, AreFoundCells};
+ghost use Rattle.analyse_core.specs.Solved.{AreSolvedBounds, AreSolvedCells};
 
 use cell_layer::CellLayer;
-use cob_graph::Graph;
-use cob_program::Program;
-use diff_bounds::Pack;
 use diff_layer::DiffLayer;
 use dom_laws::{Domain, Rows, Steps, System};
 use std::alloc::{AllocError, Global};
@@ -54,7 +49,7 @@ pub fn solve_cells<L: Ledger>(
     requires cells { length (owns (plain_program layer.now.program.now)) ≤ most_cells }
     requires thresholds { lists_of layer.now.thresholds.now ≡ thresholds_of (plain_program layer.now.program.now) }
     ensures nodes { IfOk result (λ rows. length rows.rows ≡ length layer.now.graph.now.nodes) }
-    ensures found { IfOk result (λ rows. AreFoundCells (plain_program layer.now.program.now) layer.now.graph.now (row_at rows.rows)) }
+    ensures solved { IfOk result (λ rows. AreSolvedCells (plain_program layer.now.program.now) layer.now.graph.now (row_at rows.rows)) }
     ensures at_least { OnOk result (steps.old + length layer.now.graph.now.edges ≤ steps.new) }
     ensures at_most { let p = plain_program layer.now.program.now in
         steps.new ≤ steps.old + layer_steps p layer.now.graph.now (height_of (thresholds_of p)) }
@@ -64,8 +59,10 @@ pub fn solve_cells<L: Ledger>(
     Ok(rows)
 }
 
-// The rows of the second layer, solved.
-fn solve_bounds<R: Rows, L: Ledger>(
+/// Solves the second layer beside the first one's rows: a row for each node, with a matrix of differences for each
+/// pack, one behind the other (Miné 2001), that all edges keep, and below all such rows that widening leaves at the
+/// heads. `steps` counts the transfers. An error where memory ran out.
+pub fn solve_packs<R: Rows, L: Ledger>(
     alloc: Global,
     layer: &DiffLayer<R>,
     steps: &mut Steps<L>,
@@ -75,7 +72,7 @@ fn solve_bounds<R: Rows, L: Ledger>(
     requires nodes { length layer.now.graph.now.nodes ≤ most_nodes }
     requires cells { length (cells_of (plain_program layer.now.program.now)) ≤ most_cells }
     ensures nodes { IfOk result (λ bounds. length bounds.rows ≡ length layer.now.graph.now.nodes) }
-    ensures found { IfOk result (λ bounds. AreFoundBounds (plain_program layer.now.program.now) layer.now.graph.now
+    ensures solved { IfOk result (λ bounds. AreSolvedBounds (plain_program layer.now.program.now) layer.now.graph.now
         (R.row_at layer.now.facts.now) (row_at bounds.rows)) }
     ensures at_least { steps.old ≤ steps.new }
     ensures at_most { let p = plain_program layer.now.program.now in
@@ -84,32 +81,4 @@ fn solve_bounds<R: Rows, L: Ledger>(
     let mut bounds = Store::new(alloc, layer.nodes(), layer.words())?;
     solve(layer, &mut bounds, steps);
     Ok(bounds)
-}
-
-/// Solves the second layer beside the first one's rows: a row for each node, with a matrix of differences for each
-/// pack, one behind the other (Miné 2001), that all edges keep, and below all such rows that widening leaves at the
-/// heads. `steps` counts the transfers. An error where memory ran out.
-pub fn solve_packs<L: Ledger>(
-    alloc: Global,
-    program: &Program,
-    graph: &Graph,
-    packs: &[Pack],
-    thresholds: &[Vec<i128>],
-    rows: &Store,
-    steps: &mut Steps<L>,
-) -> Result<Store, AllocError>
-    requires source { ∥ IsSourceGraph (plain_program program.now) graph.now ∥₁ }
-    requires limits { IsWithinLimits graph.now }
-    requires packs { ArePacksGiven (plain_program program.now) packs.now thresholds.now }
-    requires some { 1 ≤ length packs.now }
-    requires count { length rows.now.rows ≡ length graph.now.nodes }
-    requires cells { AreFoundCells (plain_program program.now) graph.now (row_at rows.now.rows) }
-    ensures nodes { IfOk result (λ bounds. length bounds.rows ≡ length graph.now.nodes) }
-    ensures found { IfOk result (λ bounds. AreFoundBounds (plain_program program.now) graph.now (row_at rows.now.rows) (row_at bounds.rows)) }
-    ensures at_least { steps.old ≤ steps.new }
-    ensures at_most { let p = plain_program program.now in
-        steps.new ≤ steps.old + pack_steps p graph.now (packs_of p) }
-{
-    let layer = DiffLayer::new(alloc, program, graph, packs, thresholds, rows)?;
-    solve_bounds(alloc, &layer, steps)
 }

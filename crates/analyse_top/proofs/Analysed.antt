@@ -242,7 +242,7 @@ module _ (sound : CheckingIsSound) (one_reading : OneReading) (call : Call) (con
     nothing_open a found (inl cells) x there =
         found.misses_nothing cells.assignment cells.assigns x.statement x.kind (cells.clears x.statement x.kind) there
     nothing_open a found (inr both) x there =
-        found.misses_nothing_together both.assignment both.rows both.assigns both.pack_assigns x.statement x.kind
+        found.misses_nothing_together both.assignment both.assigns both.pack_assigns x.statement x.kind
         (both.clears x.statement x.kind) there
 
     none_open : (pairs : List Open) → ((x : Open) → Contains pairs x → ⊥) → pairs ≡ []

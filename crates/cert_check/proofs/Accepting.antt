@@ -23,10 +23,10 @@ use Rattle.cert_text.specs.Claims.{place_at}
 use Rattle.graph_runs.specs.Places.{IsOf}
 use Rattle.graph_runs.specs.Clearing.{IsClearAt}
 use Rattle.cell_steps.specs.OwnRanges.{owns}
-use Rattle.cell_laws.specs.Layer.{statement_at, clears_at, cell_flow, cell_meaning}
+use Rattle.cell_laws.specs.Layer.{statement_at}
 use Rattle.cell_ranges.proofs.Claims.{claims_fit}
 use Rattle.cert_check.specs.OpenPairs.{open_at, node_clears_by, is_cleared_by, open_by, opens_by, pairs_by}
-use Rattle.cert_check.specs.Claims.{claims_at, row_at, cells_clear}
+use Rattle.cert_check.specs.Claims.{claims_at, row_at}
 use Rattle.cert_check.specs.Clearing.{TestsTell}
 use Rattle.cert_check.proofs.Lists.{there_for, each_holds}
 
@@ -107,12 +107,3 @@ module _ (g : Graph) (clears : ℕ → Kind → Bool) where
       by_test false e =
           inl (there_for (opens_by g clears) 1 statements statement (open_at statement fault) l (omega (arith, h))
           (kind_there statement fault (open_there statement fault e)))
-
--- ---- rows that clear
-
-module _ (p : Program) (g : Graph) (c : Certificate) where
-  -- the claims of cells tell what their rows clear
-  pub cells_tell : TestsTell (cell_flow p g) (cell_meaning p g) (row_at p g c) (cells_clear p g c)
-  cells_tell node fault is =
-      let back = claimed_back p g c [] node in
-      (λ e. subst (λ x. clears_at p g node x fault ≡ true) back e, λ e. subst (λ x. clears_at p g node x fault ≡ true) (sym back) e)

@@ -15,14 +15,15 @@ use Rattle.graph_runs.specs.Sources.{IsSourceGraph}
 use Rattle.cell_steps.specs.OwnRanges.{owns}
 use Rattle.cell_laws.specs.Layer.{cell_flow, cell_meaning}
 use Rattle.cert_check.specs.declared.ends.CheckEnd.TheVariants as check
-use Rattle.cert_check.specs.OpenPairs.{pairs_by}
-use Rattle.cert_check.specs.Claims.{edge_gaps, row_at, claims_clear, clears_with}
+use Rattle.cert_check.specs.Assignments.{Assignment, clears}
+use Rattle.cert_check.specs.Assignments as assignment
+use Rattle.cert_check.specs.Claims.{assignment_of, edge_gaps, row_at}
 use Rattle.cert_check.specs.Clearing.{TestsTell}
 use Rattle.cert_check.specs.Checking.{HasShape, Accepts, Refuses}
-use Rattle.cert_check.proofs.Accepting.{cells_tell}
-use Rattle.cert_check.proofs.Asking.{claimed_element}
+use Rattle.cert_check.proofs.Asking.{claimed_element, claimed_means}
 use Rattle.cert_check.proofs.BoundsKept.{no_other_leaks}
 use Rattle.cert_check.proofs.LayerLaws.{layer_laws}
+use Rattle.cert_check.proofs.Layers.{cells_show}
 use Rattle.cert_check.proofs.Leaking.{leaks_first, no_leaks}
 
 module _ (p : Program) (g : Graph) (c : Certificate) (lists : List (List ℤ)) (ranges : List Interval) (same : ranges ≡ owns p) where
@@ -39,16 +40,13 @@ module _ (p : Program) (g : Graph) (c : Certificate) (lists : List (List ℤ)) (
 
     -- a certificate without packs
     module _ (plain : c.packs ≡ []) where
-      tell : TestsTell (cell_flow p g) (cell_meaning p g) claimed_rows (claims_clear p g c)
-      tell =
-          subst (λ (os : List Interval). TestsTell (cell_flow p g) (cell_meaning p g) (λ node. claimed_row os (place_at c node)) (claims_clear p g c)) (sym same)
-          (subst (λ (ps : List (List ℕ)). TestsTell (cell_flow p g) (cell_meaning p g) (row_at p g c) (clears_with p g c ps)) (sym plain) (cells_tell p g c))
-
       pub accepts : (pairs : List Open) → IsInductive (cells_lattice (owns p) lists) (cell_flow p g) (row_at p g c) →
-          ((clears : ℕ → Kind → Bool) → TestsTell (cell_flow p g) (cell_meaning p g) claimed_rows clears → pairs ≡ pairs_by g clears p.statements) →
-          Accepts p g c pairs
+          ((packs : List (List ℕ)) (a : Assignment) → TestsTell (cell_flow p g) (cell_meaning p g) claimed_rows (clears p g packs a)
+          → pairs ≡ assignment.open_pairs p g packs a) → Accepts p g c pairs
       accepts pairs inductive are = record {
         shape = shape;
         inductive = no_other_leaks p g c plain (no_leaks p g c lists (layer_laws p g source) inductive);
-        pairs_are = are (claims_clear p g c) tell;
+        pairs_are =
+            are c.packs (assignment_of p g c)
+            (cells_show p g c.packs (assignment_of p g c) claimed_rows (λ node first last. claimed_means p g c ranges same node) plain);
       }

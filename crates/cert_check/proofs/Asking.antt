@@ -41,6 +41,9 @@ module _ (p : Program) (g : Graph) (c : Certificate) (ranges : List Interval) (s
       IsInductive l f (row_at p g c)
   inductive_there l f h = subst (λ os. IsInductive l f (λ node. claimed_row os (place_at c node))) same h
 
+  pub inductive_back : (l : Lattice) (f : Flow) → IsInductive l f (row_at p g c) → IsInductive l f (λ node. claimed_row ranges (place_at c node))
+  inductive_back l f h = subst (λ os. IsInductive l f (λ node. claimed_row os (place_at c node))) (sym same) h
+
   pub leak_there : (l : Lattice) (f : Flow) (e : ℕ) → IsFirstLeak l f (λ node. claimed_row ranges (place_at c node)) e →
       IsFirstLeak l f (row_at p g c) e
   leak_there l f e h = subst (λ os. IsFirstLeak l f (λ node. claimed_row os (place_at c node)) e) same h

@@ -29,8 +29,9 @@ use Rattle.pack_laws.specs.Packs.{pack_in, packs_of}
 use Rattle.cert_check.specs.declared.ends.CheckEnd.TheVariants as check
 use Rattle.cert_check.specs.declared.ends.Leak.{Leak}
 use Rattle.cert_check.specs.Along.{arrives, led_to}
-use Rattle.cert_check.specs.OpenPairs.{pairs_by}
-use Rattle.cert_check.specs.Claims.{cell_leaks, pack_leaks, row_at, packs_at, bounds_row, pack_gaps, claims_clear}
+use Rattle.cert_check.specs.Assignments.{Assignment, clears}
+use Rattle.cert_check.specs.Assignments as assignment
+use Rattle.cert_check.specs.Claims.{assignment_of, cell_leaks, pack_leaks, row_at, packs_at, bounds_row, pack_gaps, claims_clear}
 use Rattle.cert_check.specs.Clearing.{TestsTell}
 use Rattle.cert_check.specs.Given.{IsGiven, BoundsAreKept, BoundsLeakFirst}
 use Rattle.cert_check.specs.Checking.{HasShape, Accepts, Refuses}
@@ -134,6 +135,9 @@ module _ (p : Program) (g : Graph) (c : Certificate) (ranges : List Interval) (g
     pub leak_moved : (e : ℕ) → IsFirstLeak (diff_lattice (packs_of p packs) lists) (diff_flow p g (packs_of p packs) facts) rows e → BoundsLeakFirst p g c lists e
     leak_moved e h = moved (λ ps fs rs. IsFirstLeak (diff_lattice ps lists) (diff_flow p g ps fs) rs e) h
 
+    pub kept_moved_back : BoundsAreKept p g c lists → IsInductive (diff_lattice (packs_of p packs) lists) (diff_flow p g (packs_of p packs) facts) rows
+    kept_moved_back h = moved_back (λ ps fs rs. IsInductive (diff_lattice ps lists) (diff_flow p g ps fs) rs) h
+
     pub kept_moved : IsInductive (diff_lattice (packs_of p packs) lists) (diff_flow p g (packs_of p packs) facts) rows → BoundsAreKept p g c lists
     kept_moved h = moved (λ ps fs rs. IsInductive (diff_lattice ps lists) (diff_flow p g ps fs) rs) h
 
@@ -175,14 +179,15 @@ module _ (p : Program) (g : Graph) (c : Certificate) (ranges : List Interval) (g
       refuses_packs e gap leak first = (shape, pack_leaks_first p g c given.source shape given.allowed lists listed_there none e gap leak first)
 
       pub accepts_packs : (pairs : List Open) → c.packs ≢ [] → BoundsAreKept p g c lists →
-          ((clears : ℕ → Kind → Bool) → TestsTell (diff_flow p g (packs_of p packs) facts) (diff_meaning p g (packs_of p packs) facts) rows clears →
-          pairs ≡ pairs_by g clears p.statements) → Accepts p g c pairs
+          ((given_packs : List (List ℕ)) (a : Assignment)
+          → TestsTell (diff_flow p g (packs_of p packs) facts) (diff_meaning p g (packs_of p packs) facts) rows (clears p g given_packs a)
+          → pairs ≡ assignment.open_pairs p g given_packs a) → Accepts p g c pairs
       accepts_packs pairs some kept are = record {
         shape = shape;
         inductive =
             ap (λ (xs : List Leak). xs ++ pack_leaks p g c) none
             ∙ no_pack_leaks p g c given.source shape given.allowed lists listed_there kept;
         pairs_are =
-            are (claims_clear p g c)
-            (moved_back (λ ps fs rs. TestsTell (diff_flow p g ps fs) (diff_meaning p g ps fs) rs (claims_clear p g c)) (packs_tell p g c c.packs some));
+            are c.packs (assignment_of p g c)
+            (moved_back (λ ps fs rs. TestsTell (diff_flow p g ps fs) (diff_meaning p g ps fs) rs (claims_clear p g c)) (packs_tell p g c some));
       }

@@ -32,7 +32,7 @@ use Rattle.cert_text.proofs.Standing.{rows_are_elements}
 use Rattle.cert_text.proofs.MatrixTelling.{gaps_tell}
 use Rattle.cert_text.proofs.Allowing.{claims_fit_there}
 use Rattle.diff_steps.specs.Packs.{Pack, size_of}
-use Rattle.pack_laws.specs.Layer.{AreFacts, ArePacks, sizes_of, diff_lattice, diff_flow, diff_meaning, clears_at2, packs_post}
+use Rattle.pack_laws.specs.Layer.{AreFacts, ArePacks, sizes_of, diff_lattice, diff_flow, diff_meaning, packs_post}
 use Rattle.pack_laws.specs.Packs.{home_at, pack_in}
 use Rattle.pack_laws.proofs.Packed.{HasDistinctHomes}
 use Rattle.pack_laws.proofs.Distinct.{homes_of_sources_are_distinct}
@@ -42,9 +42,11 @@ use Rattle.dom_laws.specs.Leaks.{Keeps, IsFirstLeak}
 use Rattle.cert_check.specs.declared.ends.Leak.{Leak}
 use Rattle.cert_check.specs.Along.{led_to, arrives}
 use Rattle.cert_check.specs.Checking.{HasShape}
-use Rattle.cert_check.specs.Claims.{leak, leaks, cell_leaks, pack_leaks, claims_at, row_at, packs_at, pack_sizes, bounds_at, bounds_row, leads_to, packs_along, pack_gaps, claims_clear, clears_with}
+use Rattle.cert_check.specs.Assignments.{leak, leads_to, matrices_along}
+use Rattle.cert_check.specs.Claims.{assignment_of, leaks, cell_leaks, pack_leaks, row_at, packs_at, pack_sizes, bounds_at, bounds_row, pack_gaps, claims_clear}
 use Rattle.cert_check.specs.Clearing.{TestsTell}
 use Rattle.cert_check.proofs.Accepting.{claimed, claimed_back}
+use Rattle.cert_check.proofs.Layers.{packs_show}
 use Rattle.cert_check.proofs.FirstLeaks.{all_empty, none_leak, keeps_all, leaks_here, has_a_gap}
 use Rattle.cert_check.proofs.PackNumbers.{packs_are_of, packs_are_few}
 
@@ -92,21 +94,16 @@ module _ (p : Program) (g : Graph) (c : Certificate) where
   no_other_leaks plain none =
       ap (λ (xs : List Leak). xs ++ pack_leaks p g c) none
       ∙ all_empty (λ e. map (leak 2 e) (pack_gaps p g c e)) 0 (suc (length g.edges))
-      (λ e low high. ap (λ (ps : List (List ℕ)). map (leak 2 e) (of_matrices.gaps (matrices.sizes_of ps) (row_of (packs_along p g c e)) (bounds_row p g c (leads_to p g c e)))) plain)
+      (λ e low high. ap (λ (ps : List (List ℕ)). map (leak 2 e) (of_matrices.gaps (matrices.sizes_of ps) (row_of (matrices_along p g c.packs (assignment_of p g c) e)) (bounds_row p g c (leads_to g e)))) plain)
 
   -- ---- what rows clear
 
-  pub packs_tell : (packs : List (List ℕ)) → packs ≢ [] →
-      TestsTell (diff_flow p g (packs_at p g c) (row_at p g c)) (diff_meaning p g (packs_at p g c) (row_at p g c)) (bounds_row p g c)
-      (clears_with p g c packs)
-  packs_tell [] some node fault is = absurd (some refl)
-  packs_tell (ns ∷ packs) some node fault is =
-      let cells = claimed_back p g c [] node in
-      let ms = matrices_are node in
-      let moved : clears_at2 p g (packs_at p g c) node (element_of (row_at p g c node)) (matrices_in (sizes_of (packs_at p g c)) (bounds_row p g c node)) fault
-      ≡ clears_at2 p g (packs_at p g c) node (claims_at p g c node) (bounds_at p g c node) fault =
-      λ i. clears_at2 p g (packs_at p g c) node (cells i) (ms i) fault in
-      (λ e. sym moved ∙ e, λ e. moved ∙ e)
+  -- the claims tell what their rows clear
+  pub packs_tell : c.packs ≢ [] → TestsTell (diff_flow p g (packs_at p g c) (row_at p g c)) (diff_meaning p g (packs_at p g c) (row_at p g c))
+      (bounds_row p g c) (claims_clear p g c)
+  packs_tell some =
+      packs_show p g c.packs (assignment_of p g c) (row_at p g c) (bounds_row p g c) (λ node first last. claimed_back p g c [] node)
+      (λ node first last. matrices_are node) some
 
   -- ---- a source's packs
 
@@ -144,7 +141,7 @@ module _ (p : Program) (g : Graph) (c : Certificate) where
 
     -- ---- what comes along edges
 
-    arrived : (e : ℕ) → arrives flow (bounds_row p g c) e ≡ row_of (packs_along p g c e)
+    arrived : (e : ℕ) → arrives flow (bounds_row p g c) e ≡ row_of (matrices_along p g c.packs (assignment_of p g c) e)
     arrived zero = refl
     arrived (suc e) =
         let x = edge_at g (suc e) in
@@ -160,15 +157,15 @@ module _ (p : Program) (g : Graph) (c : Certificate) where
 
     -- what comes along the edge lies below what is claimed where it leads
     abbrev LiesBelow : ℕ → Type 0
-    LiesBelow e = lattice.Below (arrives flow (bounds_row p g c) e) (bounds_row p g c (leads_to p g c e))
+    LiesBelow e = lattice.Below (arrives flow (bounds_row p g c) e) (bounds_row p g c (leads_to g e))
 
     gaps_there : (e : ℕ) → e ≤ length g.edges → (pack_gaps p g c e ≡ []) ↔ LiesBelow e
     gaps_there e last =
         let reached = arrives flow (bounds_row p g c) e in
-        let most = bounds_row p g c (leads_to p g c e) in
+        let most = bounds_row p g c (leads_to g e) in
         let tell : (of_matrices.gaps (sizes_of packs) reached most ≡ []) ↔ LiesBelow e =
         gaps_tell (sizes_of packs) lists reached most (are_packs.listed ∙ sym (length-map packs size_of)) (arrived_element e last)
-        (bounds_element (leads_to p g c e)) in
+        (bounds_element (leads_to g e)) in
         let same : of_matrices.gaps (sizes_of packs) reached most ≡ pack_gaps p g c e =
         λ i. of_matrices.gaps (sizes_are i) (arrived e i) most in
         (λ h. tell.0 (same ∙ h), λ below. sym same ∙ tell.1 below)
@@ -180,21 +177,21 @@ module _ (p : Program) (g : Graph) (c : Certificate) where
     -- ---- leaks
 
     pub no_pack_leaks : IsInductive lattice flow (bounds_row p g c) → pack_leaks p g c ≡ []
-    no_pack_leaks is = none_leak p g c 2 (pack_gaps p g c) lattice flow (bounds_row p g c) refl tells is
+    no_pack_leaks is = none_leak g 2 (pack_gaps p g c) lattice flow (bounds_row p g c) refl tells is
 
     pub bounds_kept : pack_leaks p g c ≡ [] → IsInductive lattice flow (bounds_row p g c)
-    bounds_kept none = keeps_all p g c 2 (pack_gaps p g c) lattice flow (bounds_row p g c) refl tells (λ node is. bounds_element node) none
+    bounds_kept none = keeps_all g 2 (pack_gaps p g c) lattice flow (bounds_row p g c) refl tells (λ node is. bounds_element node) none
 
     pub pack_leaks_first : cell_leaks p g c ≡ [] → (e : ℕ) (gap : Gap) → IsFirstLeak lattice flow (bounds_row p g c) e →
         slice_get (pack_gaps p g c e) 0 ≡ Some gap → slice_get (leaks p g c) 0 ≡ Some (leak 2 e gap)
     pack_leaks_first none e gap is first =
         ap (λ (xs : List Leak). slice_get (xs ++ pack_leaks p g c) 0) none
-        ∙ leaks_here p g c 2 (pack_gaps p g c) lattice flow (bounds_row p g c) refl tells e gap is first
+        ∙ leaks_here g 2 (pack_gaps p g c) lattice flow (bounds_row p g c) refl tells e gap is first
 
     -- the first gap at the node that an edge leads to
     module _ (e : ℕ) (sizes : List ℕ) (row claimed_there : List ℤ) (sizes_same : sizes ≡ pack_sizes p g c)
         (row_is : row ≡ arrives flow (bounds_row p g c) e) (claimed_is : claimed_there ≡ bounds_row p g c (led_to flow e)) where
-      leads_is : (k : ℕ) → led_to flow k ≡ leads_to p g c k
+      leads_is : (k : ℕ) → led_to flow k ≡ leads_to g k
       leads_is zero = refl
       leads_is (suc k) = refl
 
@@ -208,4 +205,4 @@ module _ (p : Program) (g : Graph) (c : Certificate) where
       pub there_is_a_pack_gap : (first : Option Gap) → first ≡ slice_get (of_matrices.gaps sizes row claimed_there) 0 → first ≡ None →
           IsFirstLeak lattice flow (bounds_row p g c) e → ⊥
       there_is_a_pack_gap first h none leak_ =
-          has_a_gap p g c 2 (pack_gaps p g c) lattice flow (bounds_row p g c) refl tells e leak_ (pack_gap_is first h ∙ none)
+          has_a_gap g 2 (pack_gaps p g c) lattice flow (bounds_row p g c) refl tells e leak_ (pack_gap_is first h ∙ none)

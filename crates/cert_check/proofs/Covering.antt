@@ -34,13 +34,14 @@ use Rattle.cell_laws.specs.Entry.{entry_cells}
 use Rattle.cell_laws.specs.Layer.{post_at, cell_flow, cell_meaning}
 use Rattle.pack_laws.specs.Layer.{diff_lattice, diff_flow, diff_meaning}
 use Rattle.cert_check.specs.OpenPairs.{open_at, is_cleared_by}
-use Rattle.cert_check.specs.Claims.{leaks, cell_leaks, pack_leaks, row_at, packs_at, bounds_row, clears_with, is_cleared, open_pairs, claims_clear}
+use Rattle.cert_check.specs.Claims.{assignment_of, leaks, cell_leaks, pack_leaks, row_at, packs_at, bounds_row, open_pairs, claims_clear}
 use Rattle.cert_check.specs.Clearing.{TestsTell}
 use Rattle.cert_check.specs.declared.ends.CheckEnd.{CheckEnd}
 use Rattle.cert_check.specs.Checking.{HasShape, Accepts, Checks, CoversRuns}
 use Rattle.cert_check.proofs.Lists.{both_empty}
-use Rattle.cert_check.proofs.Accepting.{cells_tell, cleared_at, open_or_cleared}
+use Rattle.cert_check.proofs.Accepting.{claimed_back, cleared_at, open_or_cleared}
 use Rattle.cert_check.proofs.LayerLaws.{LayerLaws}
+use Rattle.cert_check.proofs.Layers.{cells_show}
 use Rattle.cert_check.proofs.Leaking.{kept_where_no_leaks}
 use Rattle.cert_check.proofs.BoundsKept.{packs_tell, flows, means, bounds_kept}
 
@@ -93,7 +94,7 @@ module _ (p : Program) (g : Graph) (c : Certificate) (source : ∥ IsSourceGraph
         (s.numbers met.meets.statement met.meets.act does.act)
 
     not_by_cells : TestsTell (cell_flow p g) (cell_meaning p g) (row_at p g c) (claims_clear p g c) →
-        is_cleared p g c statement fault ≡ true → ⊥
+        is_cleared_by g (claims_clear p g c) statement fault ≡ true → ⊥
     not_by_cells tell e =
         cleared_is_not_met p g (cells_lattice (owns p) []) (cell_flow p g) (cell_meaning p g) (row_at p g c)
         (record { of_source = source; flow = refl; runs = includes_itself (graph_runs p g) }) (laws.flows []) (laws.means []) inductive
@@ -102,7 +103,7 @@ module _ (p : Program) (g : Graph) (c : Certificate) (source : ∥ IsSourceGraph
         choices n meets
 
     not_by_packs : TestsTell (diff_flow p g (packs_at p g c) (row_at p g c)) (diff_meaning p g (packs_at p g c) (row_at p g c)) (bounds_row p g c)
-        (claims_clear p g c) → is_cleared p g c statement fault ≡ true → ⊥
+        (claims_clear p g c) → is_cleared_by g (claims_clear p g c) statement fault ≡ true → ⊥
     not_by_packs tell e =
         let flow = diff_flow p g (packs_at p g c) (row_at p g c) in
         let meaning = diff_meaning p g (packs_at p g c) (row_at p g c) in
@@ -112,15 +113,14 @@ module _ (p : Program) (g : Graph) (c : Certificate) (source : ∥ IsSourceGraph
         (bounds_kept p g c source shape allowed lists listed parts.1) packs_granted fault statement
         (cleared_at g (claims_clear p g c) flow meaning (bounds_row p g c) refl tell statement fault e) contents first choices n meets
 
-    not_cleared : is_cleared p g c statement fault ≡ true → ⊥
+    not_cleared : is_cleared_by g (claims_clear p g c) statement fault ≡ true → ⊥
     not_cleared e = by_packs c.packs refl
       where
         by_packs : (packs : List (List ℕ)) → c.packs ≡ packs → ⊥
         by_packs [] is =
-            not_by_cells
-            (subst (λ (ps : List (List ℕ)). TestsTell (cell_flow p g) (cell_meaning p g) (row_at p g c) (clears_with p g c ps)) (sym is) (cells_tell p g c)) e
+            not_by_cells (cells_show p g c.packs (assignment_of p g c) (row_at p g c) (λ node first last. claimed_back p g c [] node) is) e
         by_packs (ns ∷ packs) is =
-            not_by_packs (packs_tell p g c c.packs (λ none. absurd (let apart = sym is ∙ none in cc apart))) e
+            not_by_packs (packs_tell p g c (λ none. absurd (let apart = sym is ∙ none in cc apart))) e
 
     pub there : Contains (open_pairs p g c) (open_at statement fault)
     there =

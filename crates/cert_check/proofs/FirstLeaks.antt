@@ -1,15 +1,13 @@
 -- The places at which rows aren't inductive, as the gaps of edges tell them.
 use Rattle.std.proofs.Common.{◌≡◌, ◌↔◌, ℕ, zero, suc, ◌+◌, ◌≤◌, ◌<◌, List, [], ◌∷◌, ◌++◌, map, length, slice_get, Some, None, ℤ, refl, sym, ap, ◌∙◌, subst, inl, inr, arith}
 use Rattle.std.specs.List.{flat_map, range_with_len}
-use Rattle.cob_program.specs.Act.{Program}
 use Rattle.cob_graph.specs.declared.graph.Graph.{Graph}
-use Rattle.cert_text.specs.View.{Certificate}
 use Rattle.dom_laws.specs.Lattice.{Lattice}
 use Rattle.dom_laws.specs.Flow.{Flow, IsEdge, IsInductive}
 use Rattle.cert_text.specs.declared.gap.Gap.{Gap}
 use Rattle.dom_laws.specs.Leaks.{HasElements, Keeps, IsFirstLeak}
 use Rattle.cert_check.specs.declared.ends.Leak.{Leak}
-use Rattle.cert_check.specs.Claims.{leak, leaks_of}
+use Rattle.cert_check.specs.Assignments.{leak, leaks_of}
 use Rattle.cert_check.proofs.Lists.{each_empty, equal_or_less, map_empty}
 
 pub first_behind : {A : Type 0} (xs ys : List A) (x : A) → slice_get xs 0 ≡ Some x → slice_get (xs ++ ys) 0 ≡ Some x
@@ -44,7 +42,7 @@ none_first [] h = refl
 none_first (x ∷ gs) h = absurd (cc h)
 
 -- An edge has no gaps exactly where it keeps the rows.
-module _ (p : Program) (g : Graph) (c : Certificate) (layer : ℕ) (gaps_of : ℕ → List Gap) (l : Lattice) (f : Flow) (rows : ℕ → List ℤ)
+module _ (g : Graph) (layer : ℕ) (gaps_of : ℕ → List Gap) (l : Lattice) (f : Flow) (rows : ℕ → List ℤ)
     (edges_are : f.edges ≡ length g.edges) (tells : (e : ℕ) → e ≤ length g.edges → (gaps_of e ≡ []) ↔ Keeps l f rows e) where
   abbrev leaks_along : ℕ → List Leak
   leaks_along e = map (leak layer e) (gaps_of e)
@@ -53,23 +51,23 @@ module _ (p : Program) (g : Graph) (c : Certificate) (layer : ℕ) (gaps_of : �
   kept_all is zero last = is.entry
   kept_all is (suc e) last = is.edges (suc e) (record { first = omega arith; last = omega (arith, last, edges_are) })
 
-  pub none_leak : IsInductive l f rows → leaks_of p g c layer gaps_of ≡ []
+  pub none_leak : IsInductive l f rows → leaks_of g layer gaps_of ≡ []
   none_leak is =
       all_empty leaks_along 0 (suc (length g.edges))
       (λ k low high. ap (map (leak layer k)) ((tells k (omega (arith, high))).1 (kept_all is k (omega (arith, high)))))
 
-  no_gaps : leaks_of p g c layer gaps_of ≡ [] → (e : ℕ) → e ≤ length g.edges → gaps_of e ≡ []
+  no_gaps : leaks_of g layer gaps_of ≡ [] → (e : ℕ) → e ≤ length g.edges → gaps_of e ≡ []
   no_gaps none e last =
       map_empty (leak layer e) (gaps_of e) (each_empty leaks_along 0 (suc (length g.edges)) e none (omega arith) (omega (arith, last)))
 
-  keeps_each : leaks_of p g c layer gaps_of ≡ [] → (e : ℕ) → IsEdge f e → l.Below (f.post e (rows (f.source e))) (rows (f.target e))
+  keeps_each : leaks_of g layer gaps_of ≡ [] → (e : ℕ) → IsEdge f e → l.Below (f.post e (rows (f.source e))) (rows (f.target e))
   keeps_each none zero is = let first = is.first in absurd (omega (arith, first))
   keeps_each none (suc e) is =
       let last = is.last in
       let within : suc e ≤ length g.edges = omega (arith, last, edges_are) in
       (tells (suc e) within).0 (no_gaps none (suc e) within)
 
-  pub keeps_all : HasElements l f rows → leaks_of p g c layer gaps_of ≡ [] → IsInductive l f rows
+  pub keeps_all : HasElements l f rows → leaks_of g layer gaps_of ≡ [] → IsInductive l f rows
   keeps_all elements none = record {
     elements = elements;
     entry = (tells 0 (omega arith)).0 (no_gaps none 0 (omega arith));
@@ -77,7 +75,7 @@ module _ (p : Program) (g : Graph) (c : Certificate) (layer : ℕ) (gaps_of : �
   }
 
   pub leaks_here : (e : ℕ) (gap : Gap) → IsFirstLeak l f rows e → slice_get (gaps_of e) 0 ≡ Some gap →
-      slice_get (leaks_of p g c layer gaps_of) 0 ≡ Some (leak layer e gap)
+      slice_get (leaks_of g layer gaps_of) 0 ≡ Some (leak layer e gap)
   leaks_here e gap is first =
       let last = is.within in
       first_there leaks_along 0 (suc (length g.edges)) e (leak layer e gap) (omega arith) (omega (arith, last, edges_are))

@@ -1,6 +1,7 @@
 pub mod Lists
 pub mod FirstLeaks
 pub mod PackNumbers
+pub mod Layers
 pub mod RowsBehind
 pub mod BoundsKept
 pub mod Beside

@@ -17,7 +17,8 @@ use Rattle.cert_check.specs.declared.ends.CheckEnd.{CheckEnd}
 use Rattle.cert_check.specs.declared.ends.CheckEnd.TheVariants as check
 use Rattle.cert_check.specs.declared.ends.Shape.{Shape}
 use Rattle.cert_check.specs.declared.ends.Shape.TheVariants as shape
-use Rattle.cert_check.specs.Claims.{leak, leaks, open_pairs}
+use Rattle.cert_check.specs.Assignments.{leak}
+use Rattle.cert_check.specs.Claims.{leaks, open_pairs}
 use Rattle.cert_check.specs.OpenPairs.{open_at}
 
 -- the certificate is of as many cells as the program, and of as many nodes as its graph

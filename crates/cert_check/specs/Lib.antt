@@ -2,6 +2,7 @@ pub mod Ranges
 pub mod Rows
 pub mod Along
 pub mod OpenPairs
+pub mod Assignments
 pub mod Claims
 pub mod Clearing
 pub mod Counts

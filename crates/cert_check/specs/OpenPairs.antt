@@ -1,6 +1,6 @@
 -- The pairs of statements and faults that are left open, by what each node of a graph clears.
 use Rattle.std.specs.Prelude.{◌==◌, ◌||◌, not, ℕ, List, [], ◌∷◌, length, Bool, if◌then◌else◌}
-use Rattle.std.specs.List.{flat_map, list_all, range_with_len}
+use Rattle.std.specs.List.{flat_map, list_all, list_any, range_with_len}
 use Rattle.cob_tree.specs.declared.fault.Kind.{Kind}
 use Rattle.cob_tree.specs.declared.fault.Open.{Open}
 use Rattle.cob_tree.specs.Kinds.{all_kinds}
@@ -12,6 +12,10 @@ open_at statement fault = record { statement = statement; kind = fault }
 
 abbrev pub if_open : Bool → ℕ → Kind → List Open
 if_open is_cleared statement fault = if is_cleared then [] else open_at statement fault ∷ []
+
+-- some layer shows that the node meets no such fault
+abbrev pub some_layer_clears : List (ℕ → Kind → Bool) → ℕ → Kind → Bool
+some_layer_clears layers node fault = list_any (λ layer. layer node fault) layers
 
 module _ (g : Graph) (clears : ℕ → Kind → Bool) where
   abbrev pub node_clears_by : ℕ → Kind → ℕ → Bool

@@ -99,7 +99,7 @@ fn left_open(alloc: Global, layer: &CellLayer, rows: &ClaimedRows) -> Result<Vec
         (lists_of layer.now.thresholds.now) }
     ensures { Checks (plain_program layer.now.program.now) layer.now.graph.now (view rows.now.cert.now) result }
 {
-    let pairs = open_pairs(alloc, layer, rows, layer.graph, layer.program.statements)?;
+    let pairs = open_pairs(alloc, layer, rows, layer.program, layer.graph)?;
     Ok(pairs)
 }
 

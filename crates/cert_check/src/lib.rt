@@ -19,3 +19,4 @@ pub use certificate::check;
 pub use dom_laws::pass;
 pub use ends::{CheckEnd, Shape};
 pub use laws::accepted_claims_cover_runs;
+pub use nodes::open_pairs;

@@ -1,15 +1,18 @@
 //! The faults that some node of a statement doesn't clear.
-ghost use Rattle.std.specs.Prelude.{◌≡◌, ◌≤◌, ◌<◌, ℕ, Bool, length, IfOk};
+ghost use Rattle.std.specs.Prelude.{◌≡◌, ◌≤◌, ◌<◌, ℕ, List, Bool, length, IfOk};
 ghost use Rattle.cob_tree.specs.declared.fault.Kind.{Kind};
-ghost use Rattle.dom_laws.specs.Flow.{IsNode};
+ghost use Rattle.cob_program.specs.ActView.{plain_program};
+ghost use Rattle.dom_laws.specs.Flow.{IsInductive, IsNode};
 ghost use Rattle.dom_laws.specs.Leaks.{HasElements};
 ghost use Rattle.cell_laws.specs.Layer.{statement_at};
 ghost use Rattle.cert_check.specs.OpenPairs.{pairs_by};
+ghost use Rattle.cert_check.specs.Assignments.{Assignment, clears, open_pairs};
 ghost use Rattle.cob_tree.specs.Kinds.{kinds_of};
 ghost use Rattle.cert_check.specs.Clearing.{AreClearedTo, TestsTell};
 
 use crate::cleared::{note, push_left_open};
 use cob_graph::Graph;
+use cob_program::Program;
 use cob_tree::{Kind, Kinds, Open, all_kinds};
 use dom_laws::{Layer, Rows};
 use std::alloc::{AllocError, Global};
@@ -87,8 +90,8 @@ fn cleared<L: Layer, R: Rows>(
     Ok(noted)
 }
 
-/// The faults that some node of one of so many statements doesn't clear by its row, by statement, then by kind.
-pub(crate) fn open_pairs<L: Layer, R: Rows>(
+// The faults that some node of one of so many statements doesn't clear by its row, by statement, then by kind.
+fn pairs_by<L: Layer, R: Rows>(
     alloc: Global,
     layer: &L,
     rows: &R,
@@ -108,4 +111,24 @@ pub(crate) fn open_pairs<L: Layer, R: Rows>(
         push_left_open(&mut pairs, k + 1, noted[k as usize])?;
     }
     Ok(pairs)
+}
+
+/// The pairs that rows leave open which all edges of a layer keep: the faults that some node of a statement doesn't clear
+/// by its row, by statement, then by kind. Nothing is asked of the edges again. The rows show what an assignment clears
+/// at a node.
+pub fn open_pairs<L: Layer, R: Rows>(
+    alloc: Global,
+    layer: &L,
+    rows: &R,
+    program: &Program,
+    graph: &Graph,
+) -> Result<Vec<Open>, AllocError>
+    requires nodes { (L.flow layer.now).nodes ≡ length graph.now.nodes }
+    requires count { (L.flow layer.now).nodes ≤ R.count rows.now }
+    requires inductive { IsInductive (L.lattice layer.now) (L.flow layer.now) (R.row_at rows.now) }
+    ensures { IfOk result (λ pairs. (packs : List (List ℕ)) (a : Assignment)
+        → TestsTell (L.flow layer.now) (L.meaning layer.now) (R.row_at rows.now) (clears (plain_program program.now) graph.now packs a)
+        → pairs.items ≡ open_pairs (plain_program program.now) graph.now packs a) }
+{
+    pairs_by(alloc, layer, rows, graph, program.statements)
 }

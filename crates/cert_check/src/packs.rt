@@ -102,7 +102,7 @@ fn left_open(
         (view layer.now.facts.now.cert.now) (lists_of layer.now.thresholds.now) }
     ensures { Checks (plain_program layer.now.program.now) layer.now.graph.now (view layer.now.facts.now.cert.now) result }
 {
-    let pairs = open_pairs(alloc, layer, rows, layer.graph, layer.program.statements)?;
+    let pairs = open_pairs(alloc, layer, rows, layer.program, layer.graph)?;
     Ok(pairs)
 }
 

@@ -17,7 +17,8 @@ use Rattle.cert_text.specs.declared.gap.Gap.{Gap}
 use Rattle.commands.specs.Checker.Leak.{Leak}
 use Rattle.commands.specs.Checker.Shape.{Shape}
 use Rattle.commands.specs.Checker.Shape.TheVariants as shape
-use Rattle.commands.specs.Checker.Claims.{leak, leaks}
+use Rattle.commands.specs.Checker.Assignments.{leak}
+use Rattle.commands.specs.Checker.Claims.{leaks}
 use Rattle.commands.specs.Checker.Checking.{HasShape, Misfits, Accepts}
 use Rattle.commands.specs.declared.alarms.Alarm.{Alarm}
 use Rattle.commands.specs.Alarms.{alarms_of}

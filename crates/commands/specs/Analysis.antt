@@ -1,5 +1,5 @@
 -- What `analyse` finds of a source: a certificate that holds, and misses nothing that its thresholds can show.
-use Rattle.std.specs.Prelude.{◌≡◌, ◌⊎◌, ℕ, true, List, Option, Some, IfSome, ℤ}
+use Rattle.std.specs.Prelude.{◌≡◌, ◌⊎◌, ℕ, true, List, Option, Some, IfSome}
 use Rattle.std.specs.FinMap.{get}
 use Rattle.batch_io.specs.FilesState.{Contents}
 use Rattle.cob_tree.specs.declared.fault.Kind.{Kind}
@@ -9,6 +9,7 @@ use Rattle.cob_graph.specs.declared.graph.Graph.{Graph}
 use Rattle.cert_text.specs.View.{Certificate}
 use Rattle.cert_text.specs.Allowed.{IsAllowed}
 use Rattle.cert_text.specs.Text.{spelling}
+use Rattle.commands.specs.Checker.Assignments.{Assignment}
 use Rattle.commands.specs.Checker.Claims.{open_pairs}
 use Rattle.commands.specs.Checker.Checking.{Accepts}
 use Rattle.commands.specs.Alarms.{alarms_of}
@@ -41,7 +42,7 @@ report_of a = Report (alarms_of a.program (pairs_of a))
 -- ---- what is promised of it
 
 -- What is found is a certificate with the program's packs that holds. No pair is open that some inductive assignment
--- with thresholds at the heads of its loops clears, nor one that such assignments of both layers clear together.
+-- with thresholds at the heads of its loops clears, nor one that such an assignment of both layers clears.
 pub record IsFound (a : Analysis) : Type 0 where
   pub allowed : IsAllowed a.claims
   pub packs : a.claims.packs ≡ packs_of a.program
@@ -58,17 +59,16 @@ pub record IsAnalysisOf (known : Option Contents) (source : List ℕ) (a : Analy
 
 -- Some assignment with thresholds at the heads of loops clears each fault of each statement.
 pub record IsCleanByCells (p : Program) (g : Graph) : Type 0 where
-  pub assignment : Certificate
+  pub assignment : Assignment
   pub assigns : IsThresholdAssignment p g assignment
   pub clears : (statement : ℕ) (fault : Kind) → is_cleared_in p g assignment statement fault ≡ true
 
--- Assignments of both layers with thresholds at the heads of loops clear each fault together.
+-- Some assignment of both layers with thresholds at the heads of loops clears each fault.
 pub record IsCleanByBoth (p : Program) (g : Graph) : Type 0 where
-  pub assignment : Certificate
-  pub rows : ℕ → List ℤ
+  pub assignment : Assignment
   pub assigns : IsThresholdAssignment p g assignment
-  pub pack_assigns : IsPackAssignment p g assignment rows
-  pub clears : (statement : ℕ) (fault : Kind) → is_cleared_by_both p g assignment rows statement fault ≡ true
+  pub pack_assigns : IsPackAssignment p g assignment
+  pub clears : (statement : ℕ) (fault : Kind) → is_cleared_by_both p g assignment statement fault ≡ true
 
 abbrev pub CanBeClean : Program → Graph → Type 0
 CanBeClean p g = IsCleanByCells p g ⊎ IsCleanByBoth p g

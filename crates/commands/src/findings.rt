@@ -7,20 +7,21 @@ ghost use Rattle.commands.specs.Call.{call};
 ghost use Rattle.commands.specs.Steps.{IsOfSource, Reads, refused_by_fault};
 ghost use Rattle.commands.specs.Answer.{AnswersSource, is_usage};
 ghost use Rattle.commands.specs.View.{plain_answer};
-ghost use Rattle.commands.specs.Analysis.{Analysis, IsFound, analysis};
+ghost use Rattle.commands.specs.Analysis.{Analysis, IsFound, analysis, pairs_of};
 ghost use Rattle.commands.specs.Endings.{EndsWithAnalysis};
 ghost use Rattle.commands.specs.AnalysisSteps.{IsFinding, IsFindingFor, IsFindingOf};
 
+use crate::alarms::alarms_of;
 use crate::answer::{Answer, Stop};
-use crate::certificate::{CERTIFICATE_LIMIT, check_certificate};
+use crate::certificate::CERTIFICATE_LIMIT;
 use crate::show::{
     CERTIFICATE_REFUSED, OUT_OF_MEMORY, WRITE_FAULT, show_line, show_text, status_of,
 };
 use crate::source::{Laid, read_source};
 use crate::text::answer_text;
-use analyse_core::analyse as analyse_program;
+use analyse_core::{Found, find};
 use batch_io::{Files, MakeEnd, Sink, put_file};
-use cert_text::{Cert, print};
+use cert_text::print;
 use dom_laws::Steps;
 use source_facts::sources_have_source_graphs;
 use std::alloc::Global;
@@ -36,15 +37,15 @@ pub struct Findings {
 }
 
 // The texts of what was found.
-fn texts_of(alloc: Global, laid: &Laid, cert: &Cert) -> Result<Findings, Stop>
-    requires source { IsOfSource laid.now }
-    requires found { IsFound (analysis (plain_program laid.now.program) laid.now.graph (view cert.now)) }
+fn texts_of(alloc: Global, laid: &Laid, found: &Found) -> Result<Findings, Stop>
+    requires found { IsFound (analysis (plain_program laid.now.program) laid.now.graph (view found.now.cert)) }
+    requires pairs { found.now.pairs.items ≡ pairs_of (analysis (plain_program laid.now.program) laid.now.graph (view found.now.cert)) }
     ensures { MatchResult result
-        (IsFinding [] (analysis (plain_program laid.now.program) laid.now.graph (view cert.now)))
+        (IsFinding [] (analysis (plain_program laid.now.program) laid.now.graph (view found.now.cert)))
         (λ stop. stop ≡ Stop.Memory) }
 {
-    let report = check_certificate(alloc, laid, cert)?;
-    let certificate = print(alloc, cert)?;
+    let report = Answer::Report(alarms_of(alloc, &laid.program, &found.pairs)?);
+    let certificate = print(alloc, &found.cert)?;
     let text = answer_text(alloc, &report)?;
     Ok(Findings {
         certificate,
@@ -63,8 +64,8 @@ fn found_counted<L: Ledger>(alloc: Global, laid: &Laid, blank: Blank) -> Result<
 {
     sources_have_source_graphs();
     let mut steps = Steps::<L>::open(blank);
-    let cert = analyse_program(alloc, &laid.program, &laid.graph, &mut steps)?;
-    texts_of(alloc, laid, &cert)
+    let found = find(alloc, &laid.program, &laid.graph, &mut steps)?;
+    texts_of(alloc, laid, &found)
 }
 
 /// What is found for a source that was read: the text of a certificate that holds, and the report of what it leaves

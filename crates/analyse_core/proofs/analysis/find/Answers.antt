@@ -1,67 +1,63 @@
-use Rattle.std.proofs.Common.{◌≤◌, ◌+◌, List, map, ℤ, ◌∙◌, ap, sym, subst, length}
-use Rattle.std.specs.List.{AllByRecursion}
-use Rattle.std.proofs.lemmas.List.{length-map}
+use Rattle.std.proofs.Common.{◌≡◌, ◌≤◌, length, subst}
+use Rattle.std.proofs.lemmas.Result.{IfOk-weaker}
 use Rattle.cob_program.specs.ActView.{plain_program}
-use Rattle.cob_graph.specs.Graphs.{cells_of}
-use Rattle.interval_domain.specs.Elements.{AreThresholds}
-use Rattle.interval_domain.specs.Rows.{lists_of}
-use Rattle.cell_steps.specs.OwnRanges.{owns}
-use Rattle.analyse_core.specs.Choice.{numbers_of}
-use Rattle.analyse_core.specs.PackThresholds.{HasFewCells, HasFewDecimals, thresholds_of_pack}
-use Rattle.analyse_core.specs.Literals.{program_literals}
-use Rattle.analyse_core.specs.Thresholds.{thresholds_of}
-use Rattle.analyse_core.specs.Packs.{ArePacksGiven}
-use Rattle.analyse_core.specs.Assignments.{most_steps}
-use Rattle.analyse_core.proofs.CellLists.{each_short, lists_short}
-use Rattle.analyse_core.proofs.Owned.{thresholds_are}
-use Rattle.analyse_core.proofs.PacksGiven.{cell_lists_are_small, cells_have_few_decimals, few_cells, packs_given}
-use Rattle.analyse_core.proofs.SamePackLists.{same_pack_lists}
+use Rattle.cert_text.specs.View.{view}
+use Rattle.cert_text.specs.Allowed.{IsAllowed}
+use Rattle.cert_check.specs.Claims.{open_pairs}
+use Rattle.cert_check.specs.Checking.{Accepts}
+use Rattle.analyse_core.specs.Choice.{packs_of}
+use Rattle.analyse_core.specs.Assignments.{MissesNothing, MissesNothingTogether}
+use Rattle.analyse_core.specs.Found.{IsFound}
+use Rattle.analyse_core.proofs.CellSizes.{cells_are}
+use Rattle.analyse_core.proofs.Finding.{is_accepted, is_allowed, has_packs, has_pairs, misses_nothing, misses_nothing_together}
 use Rattle.analyse_core.proofs.analysis.find.Goals as goal
+use Rattle.cob_graph.specs.Limits.{most_cells}
 
-pub pack_thresholds-requires-clause-decimals : goal.pack_thresholds-requires-clause-decimals
-pack_thresholds-requires-clause-decimals g c =
-    subst (AllByRecursion HasFewDecimals) (sym c.get.ensures)
-    (cells_have_few_decimals (plain_program c.args.program.now) c.args.graph.now c.requires.source)
-
-pub pack_thresholds-requires-clause-lists : goal.pack_thresholds-requires-clause-lists
-pack_thresholds-requires-clause-lists g c =
-    cell_lists_are_small (plain_program c.args.program.now) c.args.graph.now c.requires.source (lists_of c.as_slice.result.now)
-    (ap lists_of c.as_slice.ensures.value ∙ c.in_ok-cell_lists.ensures.value)
-
-pub pack_thresholds-requires-clause-packs : goal.pack_thresholds-requires-clause-packs
-pack_thresholds-requires-clause-packs g c =
-    subst (λ ps. AllByRecursion HasFewCells (map (λ pack. pack.cells.items) ps)) (sym c.as_slice-2.ensures.value)
-    (few_cells (length c.args.graph.now.cells) (map (λ pack. pack.cells.items) c.in_ok-packs.packs.items) c.requires.limits.cells
-    (subst (λ n. n ≤ 32) (sym (length-map c.in_ok-packs.packs.items (λ pack. pack.cells.items))) c.in_ok-packs.ensures.few)
-    c.in_ok-packs.ensures.fit)
-
-pub new-requires-clause-ends : goal.new-requires-clause-ends
-new-requires-clause-ends g c =
-    let p = plain_program c.args.program.now in
-    subst (λ (ts : List (List ℤ)). AreThresholds (owns p) ts) (sym (ap lists_of c.as_slice-3.ensures.value ∙ c.in_ok-cell_lists.ensures.value))
-    (thresholds_are p c.args.graph.now c.requires.source)
-
-pub new-requires-clause-lists : goal.new-requires-clause-lists
-new-requires-clause-lists g c = λ k d l.
-    let p = plain_program c.args.program.now in
-    each_short c.as_slice-3.result.now (thresholds_of p) k d (ap lists_of c.as_slice-3.ensures.value ∙ c.in_ok-cell_lists.ensures.value)
-    (lists_short (program_literals p) (cells_of p)) l
-
-pub found-requires-clause-packs : goal.found-requires-clause-packs
-found-requires-clause-packs g c =
+pub returns-clause-allowed : goal.returns-clause-allowed
+returns-clause-allowed g c =
     let p = plain_program c.args.program.now in
     let graph = c.args.graph.now in
-    let cell_lists = c.as_slice.result.now in
-    let given = c.in_ok-packs.ensures in
-    let lists = c.in_ok-lists.ensures in
-    subst (λ q. ArePacksGiven (plain_program q) c.in_ok-packs.packs.items c.as_slice-4.result.now) (sym c.in_ok-layer.ensures.program)
-    (subst (ArePacksGiven p c.in_ok-packs.packs.items) (sym c.as_slice-4.ensures.value)
-    (packs_given p graph c.requires.source c.in_ok-packs.packs.items (lists_of cell_lists) c.in_ok-lists.lists.items given.value given.few given.fit
-    (ap lists_of c.as_slice.ensures.value ∙ c.in_ok-cell_lists.ensures.value) (lists.value ∙ same_pack_lists (lists_of cell_lists) _ _ _ _ c.get.ensures c.as_slice-2.ensures.value) lists.short lists.ends))
+    let source = c.requires.source in
+    let few = subst (λ cs. length cs ≤ most_cells) (cells_are p graph source) c.requires.limits.cells in
+    IfOk-weaker c.found_for.result (λ found. IsFound p graph (view found.cert) found.pairs.items) (λ found. IsAllowed (view found.cert))
+    (λ found is. is_allowed p graph (view found.cert) found.pairs.items source is few c.requires.limits.nodes) c.found_for.ensures.found
 
-pub returns-clause-at_most : goal.returns-clause-at_most
-returns-clause-at_most g c =
-    let is = c.in_ok-layer.ensures in
-    subst (λ p. c.found.new.steps ≤ c.args.steps.now + most_steps (plain_program p) c.args.graph.now) is.program
-    (subst (λ h. c.found.new.steps ≤ c.args.steps.now + most_steps (plain_program c.in_ok-layer.layer.program.now) h) is.graph
-    c.found.ensures.at_most)
+pub returns-clause-packs : goal.returns-clause-packs
+returns-clause-packs g c =
+    let p = plain_program c.args.program.now in
+    let graph = c.args.graph.now in
+    IfOk-weaker c.found_for.result (λ found. IsFound p graph (view found.cert) found.pairs.items) (λ found. (view found.cert).packs ≡ packs_of p)
+    (λ found is. has_packs p graph (view found.cert) found.pairs.items c.requires.source is) c.found_for.ensures.found
+
+pub returns-clause-accepted : goal.returns-clause-accepted
+returns-clause-accepted g c =
+    let p = plain_program c.args.program.now in
+    let graph = c.args.graph.now in
+    let source = c.requires.source in
+    let few = subst (λ cs. length cs ≤ most_cells) (cells_are p graph source) c.requires.limits.cells in
+    IfOk-weaker c.found_for.result (λ found. IsFound p graph (view found.cert) found.pairs.items) (λ found. Accepts p graph (view found.cert) (open_pairs p graph (view found.cert)))
+    (λ found is.
+    is_accepted p graph (view found.cert) found.pairs.items source is (is_allowed p graph (view found.cert) found.pairs.items source is few c.requires.limits.nodes))
+    c.found_for.ensures.found
+
+pub returns-clause-complete : goal.returns-clause-complete
+returns-clause-complete g c =
+    let p = plain_program c.args.program.now in
+    let graph = c.args.graph.now in
+    IfOk-weaker c.found_for.result (λ found. IsFound p graph (view found.cert) found.pairs.items) (λ found. MissesNothing p graph (view found.cert))
+    (λ found is. misses_nothing p graph (view found.cert) found.pairs.items c.requires.source is) c.found_for.ensures.found
+
+pub returns-clause-together : goal.returns-clause-together
+returns-clause-together g c =
+    let p = plain_program c.args.program.now in
+    let graph = c.args.graph.now in
+    IfOk-weaker c.found_for.result (λ found. IsFound p graph (view found.cert) found.pairs.items) (λ found. MissesNothingTogether p graph (view found.cert))
+    (λ found is. misses_nothing_together p graph (view found.cert) found.pairs.items c.requires.source is) c.found_for.ensures.found
+
+pub returns-clause-pairs : goal.returns-clause-pairs
+returns-clause-pairs g c =
+    let p = plain_program c.args.program.now in
+    let graph = c.args.graph.now in
+    IfOk-weaker c.found_for.result (λ found. IsFound p graph (view found.cert) found.pairs.items)
+    (λ found. found.pairs.items ≡ open_pairs p graph (view found.cert))
+    (λ found is. has_pairs p graph (view found.cert) found.pairs.items c.requires.source is) c.found_for.ensures.found

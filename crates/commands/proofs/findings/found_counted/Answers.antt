@@ -4,20 +4,20 @@ use Rattle.commands.proofs.Limits.{within_limits}
 use Rattle.commands.proofs.Telling.{weaker_finding}
 use Rattle.commands.proofs.findings.found_counted.Goals as goal
 
-pub analyse-requires-clause-source : goal.analyse-requires-clause-source
-analyse-requires-clause-source g c =
+pub find-requires-clause-source : goal.find-requires-clause-source
+find-requires-clause-source g c =
     let is = c.requires.source.1 in
     ∣ c.sources_have_source_graphs.ensures c.requires.source.0 (plain_program c.args.laid.now.program)
     c.args.laid.now.graph is.is_source is.is_graph ∣₁
 
-pub analyse-requires-clause-limits : goal.analyse-requires-clause-limits
-analyse-requires-clause-limits g c =
+pub find-requires-clause-limits : goal.find-requires-clause-limits
+find-requires-clause-limits g c =
     let is = c.requires.source.1 in
     within_limits (plain_program c.args.laid.now.program) is.within c.args.laid.now.graph is.is_graph
 
 pub texts_of-requires-clause-found : goal.texts_of-requires-clause-found
 texts_of-requires-clause-found g c =
-    let is = c.in_ok-cert.ensures in
+    let is = c.in_ok-found.ensures in
     record {
       allowed = is.allowed;
       packs = is.packs;
@@ -27,4 +27,4 @@ texts_of-requires-clause-found g c =
     }
 
 pub returns : goal.returns
-returns g c = weaker_finding c.args.laid.now (view c.in_ok-cert.cert) c.texts_of.result c.texts_of.ensures
+returns g c = weaker_finding c.args.laid.now (view c.in_ok-found.found.cert) c.texts_of.result c.texts_of.ensures

@@ -3,7 +3,7 @@ use Rattle.std.specs.List.{flat_map, range_with_len}
 use Rattle.cob_tree.specs.declared.fault.Kind.{Kind}
 use Rattle.cert_check.specs.OpenPairs.{opens_by}
 use Rattle.cert_check.specs.Clearing.{TestsTell}
-use Rattle.cert_check.proofs.nodes.open_pairs.Given as goal
+use Rattle.cert_check.proofs.nodes.pairs_by.Given as goal
 
 abbrev pub invariant-loop-k : goal.invariant-loop-k
 invariant-loop-k g l =
