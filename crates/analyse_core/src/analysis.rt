@@ -109,7 +109,7 @@ fn found_by<B: Rows>(
 }
 
 // Solves the layers and makes their certificate. Without packs there is no second layer.
-fn found<L: Ledger>(
+fn solve_layers<L: Ledger>(
     alloc: Global,
     layer: &CellLayer,
     packs: Vec<Pack>,
@@ -165,7 +165,7 @@ fn found_for<L: Ledger>(
         packs.as_slice(),
     )?;
     let layer = CellLayer::new(alloc, program, graph, cell_lists.as_slice())?;
-    found(alloc, &layer, packs, lists.as_slice(), steps)
+    solve_layers(alloc, &layer, packs, lists.as_slice(), steps)
 }
 
 /// Analyses a program: the certificate of what the first layer knows of its cells at each node of its graph, and, where

@@ -47,8 +47,8 @@ new-requires-clause-lists g c = λ k d l.
     each_short c.as_slice-3.result.now (thresholds_of p) k d (ap lists_of c.as_slice-3.ensures.value ∙ c.in_ok-cell_lists.ensures.value)
     (lists_short (program_literals p) (cells_of p)) l
 
-pub found-requires-clause-packs : goal.found-requires-clause-packs
-found-requires-clause-packs g c =
+pub solve_layers-requires-clause-packs : goal.solve_layers-requires-clause-packs
+solve_layers-requires-clause-packs g c =
     let p = plain_program c.args.program.now in
     let graph = c.args.graph.now in
     let cell_lists = c.as_slice.result.now in
@@ -62,6 +62,6 @@ found-requires-clause-packs g c =
 pub returns-clause-at_most : goal.returns-clause-at_most
 returns-clause-at_most g c =
     let is = c.in_ok-layer.ensures in
-    subst (λ p. c.found.new.steps ≤ c.args.steps.now + most_steps (plain_program p) c.args.graph.now) is.program
-    (subst (λ h. c.found.new.steps ≤ c.args.steps.now + most_steps (plain_program c.in_ok-layer.layer.program.now) h) is.graph
-    c.found.ensures.at_most)
+    subst (λ p. c.solve_layers.new.steps ≤ c.args.steps.now + most_steps (plain_program p) c.args.graph.now) is.program
+    (subst (λ h. c.solve_layers.new.steps ≤ c.args.steps.now + most_steps (plain_program c.in_ok-layer.layer.program.now) h) is.graph
+    c.solve_layers.ensures.at_most)

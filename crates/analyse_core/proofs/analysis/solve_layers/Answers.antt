@@ -11,7 +11,7 @@ use Rattle.analyse_core.proofs.CellSizes.{cells_are}
 use Rattle.analyse_core.proofs.Owned.{owns_count}
 use Rattle.analyse_core.proofs.PacksGiven.{none_there, some_there}
 use Rattle.analyse_core.proofs.SolvedRows.{cells_there, none_solved}
-use Rattle.analyse_core.proofs.analysis.found.Goals as goal
+use Rattle.analyse_core.proofs.analysis.solve_layers.Goals as goal
 
 pub solve_cells-requires-clause-cells : goal.solve_cells-requires-clause-cells
 solve_cells-requires-clause-cells g c =
