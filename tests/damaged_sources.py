@@ -24,6 +24,7 @@ from cobsound_prepare.untaken import untaken
 FEW = 300
 READ_EACH = 8  # so many are also read for what isn't taken
 CHUNK = 500
+MOST_TOLD = 20
 
 WHOLE = [source_of(row).encode() for _, row in rows()]
 WHOLE += [source.encode() for source, _ in FORMS.values()]
@@ -98,11 +99,13 @@ def checks():
 def main():
     count = int(sys.argv[1]) if len(sys.argv) > 1 else FEW
     chunks = [range(first, min(first + CHUNK, count)) for first in range(0, count, CHUNK)]
+    found = 0
     with ProcessPoolExecutor(os.cpu_count()) as pool:
-        found = list(itertools.chain.from_iterable(pool.map(faults, chunks)))
-    for told in found[:20]:
-        print(told)
-    print(f"{count} damaged sources, {len(found)} faults")
+        for told in itertools.chain.from_iterable(pool.map(faults, chunks)):
+            found += 1
+            if found <= MOST_TOLD:
+                print(told, flush=True)
+    print(f"{count} damaged sources, {found} faults")
     return 1 if found else 0
 
 
