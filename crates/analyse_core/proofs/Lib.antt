@@ -7,6 +7,7 @@ pub mod Fitting
 pub mod PackUnits
 pub mod Examples
 pub mod Pushing
+pub mod Adding
 pub mod MentionCuts
 pub mod Claiming
 pub mod Rising
