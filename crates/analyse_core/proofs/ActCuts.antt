@@ -1,5 +1,5 @@
 -- The literals of a statement and of its lists, by its kind.
-use Rattle.std.proofs.Common.{◌≡◌, List, ◌++◌, map, sym, ap, append_assoc, ◌∙◌, Vec}
+use Rattle.std.proofs.Common.{◌≡◌, List, ◌++◌, map, sym, ap, ◌∙◌, Vec}
 use Rattle.std.specs.declared.alloc.Global.{Global}
 use Rattle.cob_tree.specs.declared.token.Num.{Num}
 use Rattle.cob_program.specs.declared.act.Stmt as declared_stmt
@@ -19,16 +19,6 @@ use Rattle.analyse_core.specs.Literals.{act_literals, body_literals, logic_liter
 
 abbrev pub block_literals : Vec declared_stmt.Stmt Global → List Num
 block_literals v = stmts_literals (plain_stmts v.items)
-
--- what calls add, one behind the other
-pub both_added : (old mid new first second all : List Num) → mid ≡ old ++ first → all ≡ first ++ second → new ≡ mid ++ second → new ≡ old ++ all
-both_added old mid new first second all grown cut more =
-    more ∙ ap (λ xs. xs ++ second) grown ∙ append_assoc old first second ∙ ap (λ xs. old ++ xs) (sym cut)
-
-pub three_added : (old one two new first second third all : List Num) → one ≡ old ++ first → two ≡ one ++ second → all ≡ first ++ (second ++ third) →
-    new ≡ two ++ third → new ≡ old ++ all
-three_added old one two new first second third all grown next cut more =
-    both_added old one new first (second ++ third) all grown cut (more ∙ ap (λ xs. xs ++ third) next ∙ append_assoc one second third)
 
 module _ (a : declared_act.Act) where
   pub if_cut : (test : declared_logic.Logic) (yes_ no_ : Vec declared_stmt.Stmt Global) → a ≡ variant.If test yes_ no_ →

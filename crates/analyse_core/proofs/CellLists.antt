@@ -13,7 +13,8 @@ use Rattle.interval_domain.specs.Known.{HasEnds}
 use Rattle.interval_domain.specs.Elements.{AreThresholds}
 use Rattle.interval_domain.specs.Rows.{lists_of}
 use Rattle.cell_steps.specs.OwnRanges.{own_range, picture_range}
-use Rattle.analyse_core.specs.Thresholds.{lies_in, can_take, inserted, noted, all_noted, firsts, beside_literal, noted_beside, cell_thresholds, thresholds_for, Rises}
+use Rattle.analyse_core.specs.Rising.{inserted, Rises}
+use Rattle.analyse_core.specs.Thresholds.{lies_in, can_take, noted, all_noted, firsts, beside_literal, noted_beside, cell_thresholds, thresholds_for}
 use Rattle.analyse_core.proofs.Rising.{Has, LiesIn, all_inserted, inserted_length, inserted_rises, inserted_has, inserted_keeps, has_ends}
 
 -- ---- lists of a cell

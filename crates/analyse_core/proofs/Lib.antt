@@ -4,13 +4,14 @@ pub mod Reached
 pub mod MentionNoting
 pub mod Chosen
 pub mod Fitting
-pub mod PackRising
 pub mod PackUnits
 pub mod Examples
 pub mod Pushing
+pub mod Adding
 pub mod MentionCuts
 pub mod Claiming
 pub mod Rising
+pub mod PackRising
 pub mod CellLists
 pub mod CellSizes
 pub mod Noting

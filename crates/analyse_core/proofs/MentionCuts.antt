@@ -1,5 +1,5 @@
 -- What a statement and its lists mention, by its kind.
-use Rattle.std.proofs.Common.{◌≡◌, ℕ, List, ◌++◌, map, sym, ap, append_assoc, ◌∙◌, Option, None, Some, Vec}
+use Rattle.std.proofs.Common.{◌≡◌, ℕ, List, ◌++◌, map, sym, ap, ◌∙◌, Option, None, Some, Vec}
 use Rattle.std.specs.declared.alloc.Global.{Global}
 use Rattle.cob_program.specs.declared.act.Stmt as declared_stmt
 use Rattle.cob_program.specs.declared.act.When as declared_when
@@ -20,12 +20,6 @@ use Rattle.analyse_core.specs.Mentions.{if_item, inner_mentions, own_mentions, s
 
 abbrev pub block_mentions : Vec declared_stmt.Stmt Global → List Mention
 block_mentions v = stmts_mentions (plain_stmts v.items)
-
--- what two calls add, one behind the other
-pub both_added : (old mid new first second all : List Mention) → mid ≡ old ++ first → all ≡ first ++ second → new ≡ mid ++ second →
-    new ≡ old ++ all
-both_added old mid new first second all grown cut more =
-    more ∙ ap (λ xs. xs ++ second) grown ∙ append_assoc old first second ∙ ap (λ xs. old ++ xs) (sym cut)
 
 module _ (a : declared_act.Act) where
   pub if_cut : (test : declared_logic.Logic) (yes_ no_ : Vec declared_stmt.Stmt Global) → a ≡ variant.If test yes_ no_ →

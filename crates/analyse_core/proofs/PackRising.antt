@@ -1,4 +1,4 @@
--- Lists that rise: a number is put in, and what a sort leaves without repetitions.
+-- Lists that rise: what a sort leaves without repetitions.
 use Rattle.std.proofs.Common.{◌≡◌, ℕ, zero, suc, ◌+◌, ◌<◌, ◌≤◌, List, [], ◌∷◌, length, get_or, true, false, ℤ, pos, ◌≤ℤ◌, ◌<ℤ◌, ◌⊎◌, inl, inr, ⊎_elim, int_lt, Less, refl, sym, ap, ◌∙◌, subst, arith}
 use Rattle.std.specs.Prelude.{Contains}
 use Rattle.std.specs.List.{fold, AllByRecursion, dedup}
@@ -10,47 +10,17 @@ use Rattle.std.proofs.lemmas.List.Kept.{Contains-dedup, Contains-from_dedup, IsS
 use Rattle.std.proofs.lemmas.List.Sorted.{Contains-permutation, IsPermutation-sym}
 use Rattle.std.proofs.lemmas.Map.Keys.{sorted_head, sorted_tail}
 use Rattle.analyse_core.specs.Rising.{inserted, sorted, RisesFrom, Rises}
-
-pub below_is : (t z : ℤ) → t <ℤ z → int_lt t z ≡ true
-below_is t z h = grind (arith, ints)
-
-pub not_below : (t z : ℤ) → z ≤ℤ t → int_lt t z ≡ false
-not_below t z h = grind (arith, ints)
+use Rattle.analyse_core.proofs.Rising.{Has, all_inserted, below_is, inserted_has, inserted_keeps, inserted_length, inserted_rises, not_below}
 
 -- ---- what holds of each number
 
 module _ (P : ℤ → Type 0) where
-  pub all_inserted : (z : ℤ) (ts : List ℤ) → P z → AllByRecursion P ts → AllByRecursion P (inserted z ts)
-  all_inserted z [] p h = (p, tt)
-  all_inserted z (t ∷ ts) p h =
-      by_lt_z t z
-      (λ (lt : t <ℤ z). rw (below_is t z lt) (h.0, all_inserted z ts p h.1))
-      (λ (le : z ≤ℤ t).
-      by_lt_z z t
-      (λ (gt : z <ℤ t). rw (not_below t z le, below_is z t gt) (p, h))
-      (λ (ge : t ≤ℤ z). rw (not_below t z le, not_below z t ge) h))
-
-  pub all_at : (ts : List ℤ) (k : ℕ) → AllByRecursion P ts → k < length ts → P (get_or ts k (pos 0))
-  all_at [] k h l = absurd (omega (arith, l))
-  all_at (t ∷ ts) zero h l = h.0
-  all_at (t ∷ ts) (suc k) h l = all_at ts k h.1 (omega (arith, l))
-
   all_put : (ts zs : List ℤ) → AllByRecursion P ts → AllByRecursion P zs → AllByRecursion P (fold (λ us z. inserted z us) ts zs)
   all_put ts [] h k = h
-  all_put ts (z ∷ zs) h k = all_put (inserted z ts) zs (all_inserted z ts k.0 h) k.1
+  all_put ts (z ∷ zs) h k = all_put (inserted z ts) zs (all_inserted P z ts k.0 h) k.1
 
   pub all_sorted : (zs : List ℤ) → AllByRecursion P zs → AllByRecursion P (sorted zs)
   all_sorted zs h = all_put [] zs tt h
-
-pub inserted_length : (z : ℤ) (ts : List ℤ) → length (inserted z ts) ≤ suc (length ts)
-inserted_length z [] = omega arith
-inserted_length z (t ∷ ts) =
-    by_lt_z t z
-    (λ (lt : t <ℤ z). rw (below_is t z lt) (let more = inserted_length z ts in omega (arith, more)))
-    (λ (le : z ≤ℤ t).
-    by_lt_z z t
-    (λ (gt : z <ℤ t). rw (not_below t z le, below_is z t gt) (omega arith))
-    (λ (ge : t ≤ℤ z). rw (not_below t z le, not_below z t ge) (omega arith)))
 
 put_length : (ts zs : List ℤ) → length (fold (λ us z. inserted z us) ts zs) ≤ length ts + length zs
 put_length ts [] = omega arith
@@ -64,26 +34,6 @@ sorted_length zs = let most = put_length [] zs in omega (arith, most)
 
 -- ---- it rises still
 
-rises_behind : (s z : ℤ) (ts : List ℤ) → s <ℤ z → RisesFrom s ts → RisesFrom s (inserted z ts)
-rises_behind s z [] l h = (l, tt)
-rises_behind s z (t ∷ ts) l h =
-    by_lt_z t z
-    (λ (lt : t <ℤ z). rw (below_is t z lt) (h.0, rises_behind t z ts lt h.1))
-    (λ (le : z ≤ℤ t).
-    by_lt_z z t
-    (λ (gt : z <ℤ t). rw (not_below t z le, below_is z t gt) (l, (gt, h.1)))
-    (λ (ge : t ≤ℤ z). rw (not_below t z le, not_below z t ge) h))
-
-pub inserted_rises : (z : ℤ) (ts : List ℤ) → Rises ts → Rises (inserted z ts)
-inserted_rises z [] h = tt
-inserted_rises z (t ∷ ts) h =
-    by_lt_z t z
-    (λ (lt : t <ℤ z). rw (below_is t z lt) (rises_behind t z ts lt h))
-    (λ (le : z ≤ℤ t).
-    by_lt_z z t
-    (λ (gt : z <ℤ t). rw (not_below t z le, below_is z t gt) (gt, h))
-    (λ (ge : t ≤ℤ z). rw (not_below t z le, not_below z t ge) h))
-
 put_rises : (ts zs : List ℤ) → Rises ts → Rises (fold (λ us z. inserted z us) ts zs)
 put_rises ts [] h = h
 put_rises ts (z ∷ zs) h = put_rises (inserted z ts) zs (inserted_rises z ts h)
@@ -92,34 +42,6 @@ pub sorted_rises : (zs : List ℤ) → Rises (sorted zs)
 sorted_rises zs = put_rises [] zs tt
 
 -- ---- what it holds
-
-abbrev pub Has : List ℤ → ℤ → Type 0
-Has [] u = ⊥
-Has (t ∷ ts) u = (t ≡ u) ⊎ Has ts u
-
-pub inserted_has : (z : ℤ) (ts : List ℤ) → Has (inserted z ts) z
-inserted_has z [] = inl refl
-inserted_has z (t ∷ ts) =
-    by_lt_z t z
-    (λ (lt : t <ℤ z). rw (below_is t z lt) (inr (inserted_has z ts)))
-    (λ (le : z ≤ℤ t).
-    by_lt_z z t
-    (λ (gt : z <ℤ t). rw (not_below t z le, below_is z t gt) (inl refl))
-    (λ (ge : t ≤ℤ z). rw (not_below t z le, not_below z t ge) (inl (omega (arith, ints, le, ge)))))
-
-has_behind : (t z u : ℤ) (ts : List ℤ) → (Has ts u → Has (inserted z ts) u) → (t ≡ u) ⊎ Has ts u → (t ≡ u) ⊎ Has (inserted z ts) u
-has_behind t z u ts h (inl e) = inl e
-has_behind t z u ts h (inr more) = inr (h more)
-
-pub inserted_keeps : (z u : ℤ) (ts : List ℤ) → Has ts u → Has (inserted z ts) u
-inserted_keeps z u [] h = absurd h
-inserted_keeps z u (t ∷ ts) h =
-    by_lt_z t z
-    (λ (lt : t <ℤ z). rw (below_is t z lt) (has_behind t z u ts (inserted_keeps z u ts) h))
-    (λ (le : z ≤ℤ t).
-    by_lt_z z t
-    (λ (gt : z <ℤ t). rw (not_below t z le, below_is z t gt) (inr h))
-    (λ (ge : t ≤ℤ z). rw (not_below t z le, not_below z t ge) h))
 
 -- a list with one number inserted holds nothing else
 one_behind : (t z u : ℤ) (ts : List ℤ) → (Has (inserted z ts) u → (z ≡ u) ⊎ Has ts u) → (t ≡ u) ⊎ Has (inserted z ts) u → (z ≡ u) ⊎ ((t ≡ u) ⊎ Has ts u)

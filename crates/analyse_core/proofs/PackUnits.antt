@@ -15,7 +15,8 @@ use Rattle.diff_bounds.specs.Widening.{AreThresholds}
 use Rattle.analyse_core.specs.Choice.{numbers_of}
 use Rattle.analyse_core.specs.Rising.{sorted, Rises}
 use Rattle.analyse_core.specs.PackThresholds.{scale_at, finest, cell_units, own_thresholds, list_thresholds, cells_thresholds, thresholds_of_pack, IsCellList, HasFewDecimals, HasFewCells, IsWord}
-use Rattle.analyse_core.proofs.PackRising.{all_at, all_sorted, sorted_length, sorted_rises}
+use Rattle.analyse_core.proofs.PackRising.{all_sorted, sorted_length, sorted_rises}
+use Rattle.analyse_core.proofs.Rising.{all_at}
 
 -- ---- units
 

@@ -5,12 +5,13 @@ use Rattle.std.proofs.lemmas.Int.{ints, by_lt_z}
 use Rattle.interval_domain.specs.declared.bounds.Interval.{Interval}
 use Rattle.interval_domain.specs.Thresholds.{IsListed}
 use Rattle.interval_domain.specs.Known.{HasEnds}
-use Rattle.analyse_core.specs.Thresholds.{inserted, rank_in, holds_at, RisesFrom, Rises}
+use Rattle.analyse_core.specs.Rising.{inserted, RisesFrom, Rises}
+use Rattle.analyse_core.specs.Thresholds.{rank_in, holds_at}
 
-below_is : (t z : ℤ) → t <ℤ z → int_lt t z ≡ true
+pub below_is : (t z : ℤ) → t <ℤ z → int_lt t z ≡ true
 below_is t z h = grind (arith, ints)
 
-not_below : (t z : ℤ) → z ≤ℤ t → int_lt t z ≡ false
+pub not_below : (t z : ℤ) → z ≤ℤ t → int_lt t z ≡ false
 not_below t z h = grind (arith, ints)
 
 at_most_is : (t z : ℤ) → t ≤ℤ z → int_le t z ≡ true

@@ -1,5 +1,5 @@
 -- The thresholds of cells: the two ends of a cell's own range, 0, and what stands beside the program's literals.
-use Rattle.std.specs.Prelude.{◌≤◌, ◌<◌, ℕ, suc, ◌^◌, ◌&&◌, nat_lt, nat_le, if◌then◌else◌, Bool, false, List, [], ◌∷◌, length, map, slice_get, Option, None, Some, ℤ, pos, neg_ℤ, ◌+ℤ◌, ◌-ℤ◌, ◌*ℤ◌, int_le, int_lt, ◌<ℤ◌, unsigned_abs}
+use Rattle.std.specs.Prelude.{◌≤◌, ◌<◌, ℕ, suc, ◌^◌, ◌&&◌, nat_lt, nat_le, if◌then◌else◌, Bool, false, List, [], ◌∷◌, length, map, slice_get, Option, None, Some, ℤ, pos, neg_ℤ, ◌+ℤ◌, ◌-ℤ◌, ◌*ℤ◌, int_le, int_lt, unsigned_abs}
 use Rattle.std.specs.Int.{int_div_euclid}
 use Rattle.std.specs.List.{fold}
 use Rattle.dec_num.specs.declared.types.Scaled.{Scaled}
@@ -11,6 +11,7 @@ use Rattle.cob_graph.specs.Graphs.{cells_of}
 use Rattle.interval_domain.specs.declared.bounds.Interval.{Interval}
 use Rattle.cell_steps.specs.OwnRanges.{own_range}
 use Rattle.analyse_core.specs.Literals.{program_literals}
+use Rattle.analyse_core.specs.Rising.{inserted}
 
 -- ---- a literal in a cell's units
 
@@ -49,11 +50,6 @@ most = 128
 
 abbrev pub lies_in : Interval → ℤ → Bool
 lies_in own z = int_le own.low z && int_le z own.high
-
--- a number put into a list that rises, unless the list holds it
-abbrev pub inserted : ℤ → List ℤ → List ℤ
-inserted z [] = z ∷ []
-inserted z (t ∷ ts) = if int_lt t z then t ∷ inserted z ts else if int_lt z t then z ∷ t ∷ ts else t ∷ ts
 
 -- how many stand before the first that isn't below z
 abbrev pub rank_in : ℤ → List ℤ → ℕ
@@ -109,13 +105,3 @@ pub record IsSmallCell (c : Cell) : Type 0 where
 pub record IsSmallNumber (v : Scaled) : Type 0 where
   pub units : unsigned_abs v.units < 10 ^ 18
   pub decimals : v.scale ≤ 18
-
--- ---- lists that rise
-
-abbrev pub RisesFrom : ℤ → List ℤ → Type 0
-RisesFrom z [] = Unit {0}
-RisesFrom z (t ∷ ts) = (z <ℤ t) × RisesFrom t ts
-
-abbrev pub Rises : List ℤ → Type 0
-Rises [] = Unit {0}
-Rises (t ∷ ts) = RisesFrom t ts

@@ -8,10 +8,10 @@ ghost use Rattle.interval_domain.specs.Rows.{lists_of};
 ghost use Rattle.cell_steps.specs.OwnRanges.{own_range};
 ghost use Rattle.graph_runs.specs.Sources.{IsSourceGraph};
 ghost use Rattle.analyse_core.specs.Literals.{numbers_of};
+ghost use Rattle.analyse_core.specs.Rising.{Rises, inserted};
 ghost use Rattle.analyse_core.specs.Thresholds.{
   IsSmallCell,
   IsSmallNumber,
-  Rises,
   all_noted,
   beside,
   beside_number,
@@ -19,7 +19,6 @@ ghost use Rattle.analyse_core.specs.Thresholds.{
   firsts,
   floor,
   holds_at,
-  inserted,
   is_short,
   lies_in,
   noted,

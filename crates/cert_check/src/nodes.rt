@@ -113,9 +113,8 @@ fn pairs_by<L: Layer, R: Rows>(
     Ok(pairs)
 }
 
-/// The pairs that rows leave open which all edges of a layer keep: the faults that some node of a statement doesn't clear
-/// by its row, by statement, then by kind. Nothing is asked of the edges again. The rows show what an assignment clears
-/// at a node.
+/// The faults that some node of a statement doesn't clear by its row, by statement, then by kind, for rows that all edges
+/// of a layer keep: no edge is gone over again. They are the open pairs of each assignment that says what the rows show.
 pub fn open_pairs<L: Layer, R: Rows>(
     alloc: Global,
     layer: &L,

@@ -7,7 +7,8 @@ use Rattle.interval_domain.specs.Rows.{lists_of}
 use Rattle.cert_check.specs.Ranges.{IsShort}
 use Rattle.cert_check.proofs.Sources.{graph_cells_short}
 use Rattle.analyse_core.specs.Literals.{numbers_of, program_literals}
-use Rattle.analyse_core.specs.Thresholds.{Rises, IsSmallCell, thresholds_for}
+use Rattle.analyse_core.specs.Rising.{Rises}
+use Rattle.analyse_core.specs.Thresholds.{IsSmallCell, thresholds_for}
 use Rattle.analyse_core.proofs.CellLists.{lists_rise}
 use Rattle.analyse_core.proofs.CellSizes.{graph_cells_small, cells_are}
 use Rattle.analyse_core.proofs.listing.thresholds.Goals as goal

@@ -5,7 +5,8 @@ use Rattle.cob_program.specs.LogicView.{plain_logic}
 use Rattle.cob_program.specs.ActView.{plain_act, plain_stmts, plain_when, plain_whens}
 use Rattle.cob_program.proofs.Loops.{item_step, added, nothing_left}
 use Rattle.analyse_core.specs.Mentions.{inner_mentions, stmts_mentions, tests_mentions, when_mentions, whens_mentions}
-use Rattle.analyse_core.proofs.MentionCuts.{both_added, if_cut, evaluate_cut, arith_cut, read_cut, when_cut}
+use Rattle.analyse_core.proofs.Adding.{both_added}
+use Rattle.analyse_core.proofs.MentionCuts.{if_cut, evaluate_cut, arith_cut, read_cut, when_cut}
 use Rattle.analyse_core.proofs.mentioned_statements.+statements.Goals as goal
 
 pub add_list-loop-statement-preserved : goal.add_list-loop-statement-preserved

@@ -2,7 +2,8 @@ use Rattle.std.proofs.Common.{◌++◌, ap, sym, ◌∙◌}
 use Rattle.std.proofs.lemmas.Result.{on_ok_weaker}
 use Rattle.cob_program.specs.ActView.{plain_act}
 use Rattle.analyse_core.specs.Mentions.{if_item, own_mentions, targets_mentions}
-use Rattle.analyse_core.proofs.MentionCuts.{both_added, own_cut}
+use Rattle.analyse_core.proofs.Adding.{both_added}
+use Rattle.analyse_core.proofs.MentionCuts.{own_cut}
 use Rattle.analyse_core.proofs.mentioned_statements.add_own.Goals as goal
 
 pub returns-in_ok-add_targets-in-Arith : goal.returns-in_ok-add_targets-in-Arith

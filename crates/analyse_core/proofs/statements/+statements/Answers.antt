@@ -5,7 +5,8 @@ use Rattle.cob_program.specs.LogicView.{plain_logic}
 use Rattle.cob_program.specs.ActView.{plain_act, plain_stmts, plain_when, plain_whens}
 use Rattle.cob_program.proofs.Loops.{item_step, added, nothing_left}
 use Rattle.analyse_core.specs.Literals.{act_literals, logic_literals, numbers_of, stmts_literals, tests_literals, when_literals, whens_literals}
-use Rattle.analyse_core.proofs.ActCuts.{both_added, three_added, if_cut, evaluate_cut, perform_cut, when_cut}
+use Rattle.analyse_core.proofs.Adding.{both_added, three_added}
+use Rattle.analyse_core.proofs.ActCuts.{if_cut, evaluate_cut, perform_cut, when_cut}
 use Rattle.analyse_core.proofs.statements.+statements.Goals as goal
 
 pub add_list-loop-statement-preserved : goal.add_list-loop-statement-preserved
