@@ -22,6 +22,7 @@ mod stores;
 mod sums;
 mod taking;
 mod tests_of;
+mod work;
 
 pub use amounts::{amount_of, is_remainder, may_divide_by_zero};
 pub use counters::cell_of_count;
@@ -31,3 +32,4 @@ pub use part::{Amount, Divisor, EdgePart};
 pub use parts::{part_at, part_count};
 pub use stores::{amount_from, may_keep, may_vanish, receiver_at, store_range};
 pub use taking::{edge_amount, operands};
+pub use work::EdgeWork;
