@@ -1,6 +1,7 @@
-//! The parts of what an edge of the control graph does, one by one, borrowed from the program; and what a walk along the
-//! edge works out of them: the operands, the amounts that its receivers are to get, and what a store may do (Cousot and
-//! Cousot 1977); and the cell of each item and of each counter of a PERFORM with TIMES. No call takes memory.
+//! The parts of what an edge of the control graph does, in their order, borrowed from the program; and what a walk along
+//! the edge works out of them: the operands, the amounts that its receivers are to get, and what a store may do (Cousot
+//! and Cousot 1977); and the cell of each item and of each counter of a PERFORM with TIMES. No call takes memory but
+//! those that list parts or tests.
 #![tactic(auto)]
 
 mod amounts;

@@ -11,10 +11,10 @@ use cob_program::Test;
 use std::alloc::AllocError;
 use std::ops::ControlFlow;
 
-// Whether more is taken: not where there is no memory for it, or what is sought is found.
+/// Whether more is taken: not where there is no memory for it, or what is sought is found.
 pub type Going = ControlFlow<(), ()>;
 
-// A search for a place: how many stand before it that weren't handed over yet, and what stands there.
+/// A search for a place: how many stand before it that weren't handed over yet, and what stands there.
 #[derive(Clone, Copy)]
 pub struct Search<X> {
     pub left: u32,
@@ -60,21 +60,21 @@ fn hand<X: Copy>(taker: &mut Taker<X>, x: X) -> Going
     }
 }
 
-// Hands a part over.
+/// Hands a part over.
 pub fn push_part<'a>(parts: &mut PartTaker<'a>, part: EdgePart<'a>) -> Going
     ensures { Takes plain_part parts.old (plain_part part.entry ∷ []) (goes_on result) parts.new }
 {
     hand(parts, part)
 }
 
-// Hands no part over.
+/// Hands no part over.
 pub fn no_parts<'a>(parts: &mut PartTaker<'a>) -> Going
     ensures { Takes plain_part parts.old [] (goes_on result) parts.new }
 {
     ControlFlow::Continue(())
 }
 
-// Hands two parts over.
+/// Hands two parts over.
 pub fn push_two<'a>(parts: &mut PartTaker<'a>, first: EdgePart<'a>, second: EdgePart<'a>) -> Going
     ensures { Takes plain_part parts.old (plain_part first.entry ∷ plain_part second.entry ∷ [])
         (goes_on result) parts.new }
@@ -83,21 +83,21 @@ pub fn push_two<'a>(parts: &mut PartTaker<'a>, first: EdgePart<'a>, second: Edge
     push_part(parts, second)
 }
 
-// Hands a test over.
+/// Hands a test over.
 pub fn push_test<'a>(tests: &mut TestTaker<'a>, test: &'a Test) -> Going
     ensures { Takes plain_reference tests.old (plain_test test.now ∷ []) (goes_on result) tests.new }
 {
     hand(tests, test)
 }
 
-// Hands no test over.
+/// Hands no test over.
 pub fn no_tests<'a>(tests: &mut TestTaker<'a>) -> Going
     ensures { Takes plain_reference tests.old [] (goes_on result) tests.new }
 {
     ControlFlow::Continue(())
 }
 
-// The list; a search has none.
+/// The list; a search has none.
 pub fn into_list<X: Copy>(taker: Taker<X>) -> Result<Vec<X>, AllocError>
     ensures { IfOk result (λ list. list.items ≡ items_in taker) }
 {
@@ -107,7 +107,7 @@ pub fn into_list<X: Copy>(taker: Taker<X>) -> Result<Vec<X>, AllocError>
     }
 }
 
-// What a search found.
+/// What a search found.
 pub fn found<X: Copy>(taker: &Taker<X>) -> Option<X>
     ensures { result ≡ found_in taker.now }
 {
@@ -117,7 +117,7 @@ pub fn found<X: Copy>(taker: &Taker<X>) -> Option<X>
     }
 }
 
-// How many are still to be passed by a search.
+/// How many are still to be passed by a search.
 pub fn left<X: Copy>(taker: &Taker<X>) -> u32
     ensures { result ≡ left_in taker.now }
 {

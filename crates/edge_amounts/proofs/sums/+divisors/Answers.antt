@@ -1,4 +1,4 @@
-use Rattle.std.proofs.Common.{◌+◌, ap, map, arith}
+use Rattle.std.proofs.Common.{ap, map, arith}
 use Rattle.std.proofs.lemmas.List.{drop_all}
 use Rattle.cob_program.specs.Sum.{parts_of, factors_of}
 use Rattle.cob_program.specs.SumView as sum

@@ -1,4 +1,4 @@
-use Rattle.std.proofs.Common.{inl, inr, rules}
+use Rattle.std.proofs.Common.{inl, inr}
 use Rattle.edge_amounts.proofs.statement_tests.StatementTests.test_of.Goals as goal
 
 pub returns-in-True : goal.returns-in-True
