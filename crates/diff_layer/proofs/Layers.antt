@@ -2,14 +2,12 @@
 use Rattle.std.proofs.Common.{◌≡◌, ◌≤◌, ℕ, suc, ◌+◌, ◌*◌, ◌-◌, ◌<◌, List, [], ◌∷◌, length, ℤ, Vec, Option, Some, None, refl, sym, ap, subst, ◌∙◌, arith}
 use Rattle.std.specs.Prelude.{slice_get, Contains}
 use Rattle.std.specs.declared.alloc.Global.{Global}
-use Rattle.std.specs.Borrow.{Bor}
 use Rattle.std.specs.List.{AllByRecursion, AllByRecursion-prop}
 use Rattle.std.proofs.Props.{props}
 use Rattle.std.proofs.Math.Logic.{∥∥₁_elim}
 use Rattle.std.proofs.lemmas.List.{length-map, get_or_default}
 use Rattle.std.proofs.lemmas.List.Elements.{All-from_recursion, All-contains}
 use Rattle.cob_data.specs.declared.layout.Layout.{Layout}
-use Rattle.cob_program.specs.declared.act.Stmt as declared_stmt
 use Rattle.cob_program.specs.Act.{Program}
 use Rattle.cob_graph.specs.declared.graph.Edge.{Edge}
 use Rattle.cob_graph.specs.declared.graph.Graph.{Graph}
@@ -21,6 +19,7 @@ use Rattle.cob_graph.specs.declared.homes.Home.{Home}
 use Rattle.cob_graph.specs.Homes.{homes_of}
 use Rattle.cob_graph.specs.Limits.{most_cells}
 use Rattle.cell_steps.specs.OwnRanges.{home_range, owns}
+use Rattle.cell_layer.specs.declared.works.EdgeWorks.{EdgeWorks}
 use Rattle.cell_layer.specs.Held.{IsHeld}
 use Rattle.cell_layer.proofs.Making.{sound_items}
 use Rattle.diff_bounds.specs.declared.Pack as declared
@@ -56,7 +55,7 @@ module _ (p : Program) (short : AllByRecursion (IsShortHome p.layout) (homes_of 
       HaveUnits p.layout plans → ArePlansOf p plans
   plans_are [] cells few units = tt
   plans_are (plan ∷ plans) cells few units =
-      (record { few = few.0; short = pack_short (plain_plan plan) cells.0; unit = units.0; pack = cells.0 }, plans_are plans cells.1 few.1 units.1)
+      (record { few = few.0; short = pack_short (plain_plan plan) cells.0; unit = units.0 }, plans_are plans cells.1 few.1 units.1)
 
 units_prop : (l : Layout) (plans : List PackPlan) → IsProp (HaveUnits l plans)
 units_prop l plans = AllByRecursion-prop (HasUnit l) (λ plan. hlevel props) plans
@@ -79,18 +78,18 @@ module _ (p : Program) (g : Graph) (x : Edge) (fact from out : List ℤ) where
 
 -- ---- a layer
 
-module _ (p : Program) (g : Graph) (ss : List (Bor declared_stmt.Stmt)) (held : ∥ IsHeld p g ss ∥₁) (packs : List declared.Pack)
+module _ (p : Program) (g : Graph) (works : EdgeWorks) (held : ∥ IsHeld p g works ∥₁) (packs : List declared.Pack)
     (cells : ∥ ArePacksOfCells (length g.cells) packs ∥₁) (thresholds : List (Vec ℤ Global)) (listed : length thresholds ≡ length packs) where
   abbrev pub lists : List (List ℤ)
   lists = lists_of thresholds
 
   its : ArePacks p (packs_of p packs) lists
-  its = its_packs p g ss held packs cells thresholds listed
+  its = its_packs p g works held packs cells thresholds listed
 
   module _ (plans : List PackPlan) (planned : plain_plans plans ≡ packs_of p packs) where
     pub are_plans : ∥ HaveUnits p.layout plans ∥₁ → ArePlansOf p plans
     are_plans units =
-        plans_are p (homes_are_short p (sound_items p g (source_of p g ss held))) plans (subst (ArePacksOf p) (sym planned) its.cells)
+        plans_are p (homes_are_short p (sound_items p g (source_of p g works held))) plans (subst (ArePacksOf p) (sym planned) its.cells)
         (subst (AllByRecursion (λ pack. size_of pack ≤ 8)) (sym planned) its.few) (∥∥₁_elim units (units_prop p.layout plans) (λ a. a))
 
     pub as_many : length plans ≡ length packs
@@ -144,11 +143,9 @@ module _ (p : Program) (g : Graph) (ss : List (Bor declared_stmt.Stmt)) (held : 
   pub few_facts : length g.cells ≤ most_cells → (row : List ℤ) → IsRow (owns p) row → length row ≤ 1025
   few_facts few row is =
       let wide = facts.width_is (owns p) row is in
-      let many : length (owns p) ≡ length g.cells = length-map (homes_of p) (home_range p.layout) ∙ sym (cells_for_homes p g ss held) in
+      let many : length (owns p) ≡ length g.cells = length-map (homes_of p) (home_range p.layout) ∙ sym (cells_for_homes p g works held) in
       omega (arith, wide, many, few)
 
--- an edge of the graph
-pub among : (g : Graph) (e : ℕ) (x : Edge) → 1 ≤ e → e ≤ length g.edges → x ≡ edge_at g e → Contains g.edges x
-among g e x first last at =
-    let inside : e - 1 < length g.edges = omega (arith, first, last) in
-    (e - 1, inside, get_or_default g.edges (e - 1) x no_edge inside ∙ sym at)
+-- the edge with a number that counts from 0
+pub numbered : (g : Graph) (e : ℕ) → slice_index_or g.edges (e - 1) no_edge ≡ edge_at g e
+numbered g e = refl

@@ -2,12 +2,10 @@
 use Rattle.std.proofs.Common.{◌≡◌, ◌≤◌, ℕ, List, [], ◌∷◌, length, ℤ, Vec, Some, None, sym, ap, ◌∙◌}
 use Rattle.std.specs.Coded.{×_prop, Unit-prop}
 use Rattle.std.specs.declared.alloc.Global.{Global}
-use Rattle.std.specs.Borrow.{Bor}
 use Rattle.std.specs.List.{AllByRecursion, AllByRecursion-prop}
 use Rattle.std.proofs.Props.{props}
 use Rattle.std.proofs.Math.Logic.{∥∥₁_elim, ∥∥₁_prop}
 use Rattle.std.proofs.lemmas.List.{length-map}
-use Rattle.cob_program.specs.declared.act.Stmt as declared_stmt
 use Rattle.cob_program.specs.Act.{Program}
 use Rattle.cob_graph.specs.declared.graph.Graph.{Graph}
 use Rattle.interval_domain.specs.declared.bounds.Interval.{Interval}
@@ -22,6 +20,7 @@ use Rattle.cob_graph.specs.declared.homes.Home.{Home}
 use Rattle.cob_graph.specs.Homes.{homes_of}
 use Rattle.cell_steps.specs.OwnRanges.{owns}
 use Rattle.cell_layer.proofs.FirstCells.{homes_many}
+use Rattle.cell_layer.specs.declared.works.EdgeWorks.{EdgeWorks}
 use Rattle.cell_layer.specs.Held.{IsHeld}
 use Rattle.diff_bounds.specs.declared.Pack as declared
 use Rattle.diff_bounds.specs.Widening.{AreThresholds}
@@ -83,7 +82,7 @@ ordered_by packs lists ends = packs_are_a_lattice (sizes_of packs) lists (thresh
 
 -- ---- packs
 
-module _ (p : Program) (g : Graph) (statements : List (Bor declared_stmt.Stmt)) (held : ∥ IsHeld p g statements ∥₁) where
+module _ (p : Program) (g : Graph) (works : EdgeWorks) (held : ∥ IsHeld p g works ∥₁) where
   pub source_of : ∥ IsSourceGraph p g ∥₁
   source_of = ∥∥₁_elim held ∥∥₁_prop (λ h. ∣ h.source ∣₁)
 

@@ -11,6 +11,7 @@ pub mod Working
 pub mod Gone
 pub mod Plans
 pub mod Writing
+pub mod Works
 pub mod Changes
 pub mod Parts
 pub mod Ends

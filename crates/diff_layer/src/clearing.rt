@@ -1,11 +1,12 @@
 //! The faults that what is known of cells and of differences before a part shows not to be met there.
-ghost use Rattle.std.specs.Prelude.{◌≡◌, ◌≤◌, ◌<◌, true, length, List, neg_ℤ, int_le, IfSome};
+ghost use Rattle.std.specs.Prelude.{◌≡◌, ◌≤◌, true, length, List, neg_ℤ, int_le, IfSome};
 ghost use Rattle.std.specs.List.{AllByRecursion};
 ghost use Rattle.dec_num.specs.declared.types.Mode.TheVariants.{Trunc};
-ghost use Rattle.cob_program.specs.ActView.{plain_act, plain_stmt, plain_program};
+ghost use Rattle.cob_tree.specs.Kinds.{kinds_of};
+ghost use Rattle.cob_program.specs.ActView.{plain_act, plain_program};
 ghost use Rattle.cob_program.specs.Bounds.{is_small, is_small_atom};
 ghost use Rattle.cob_calc.specs.Contents.{bound_at};
-ghost use Rattle.edge_amounts.specs.PartView.{edge_parts, plain_part, plain_amount, plain_divisor};
+ghost use Rattle.edge_amounts.specs.PartView.{plain_part, plain_amount, plain_divisor};
 ghost use Rattle.diff_bounds.specs.Matrix.{IsMatrix};
 ghost use Rattle.cell_laws.specs.Sizes.{IsSmallPart, IsSmallStore};
 ghost use Rattle.sum_ranges.specs.Sizes.{IsSmallRange};
@@ -20,17 +21,19 @@ ghost use Rattle.cell_steps.specs.OwnRanges.{owns};
 ghost use Rattle.cell_steps.specs.Stores.{range_at};
 ghost use Rattle.cell_layer.specs.Kept.{seen};
 ghost use Rattle.cell_layer.specs.ProgramRows.{IsRowOf};
-ghost use Rattle.cell_layer.specs.NumberedStatements.{act_in};
-ghost use Rattle.cell_layer.specs.Walks.{CanStep};
+ghost use Rattle.cell_layer.specs.Walks.{clears_small, CanStep};
 ghost use Rattle.cell_layer.specs.Edges.{CanWalk};
-ghost use Rattle.diff_steps.specs.Clearing.{some_pack};
+ghost use Rattle.diff_steps.specs.Clearing.{some_pack, clears_part2};
 ghost use Rattle.diff_steps.specs.Moments.{Bytes};
 ghost use Rattle.diff_steps.specs.Packs.{size_of};
 ghost use Rattle.diff_layer.specs.PackWriting.{amount_items, are_written};
+ghost use Rattle.diff_layer.specs.Closed.{IsClosedRow};
 ghost use Rattle.diff_layer.specs.Clears.{divisor_apart, both_shown, range_shown, amount_shown, store_shown, count_shown, taken_shown, store_cleared, set_cleared, down_cleared, part_cleared, IsSetCount};
 ghost use Rattle.diff_layer.specs.Parts.{CanChange, IsOfEdge, IsStoreOf, IsWrittenTo};
 ghost use Rattle.diff_layer.specs.Plans.{plain_plan, plain_plans, IsPlanOf, ArePlansOf, matrices_for, IsRowFor};
-ghost use Rattle.diff_layer.specs.Walks.{seen2, clears2_at, statement_clears2};
+ghost use Rattle.diff_layer.specs.Walks.{seen2, closed_clears, statement_clears2};
+ghost use Rattle.cell_layer.specs.Works.{program_of, statement_of, act_of};
+ghost use Rattle.diff_layer.specs.Works.{parts_of_edge};
 ghost use Rattle.diff_layer.specs.Writing.{edge_items};
 
 use crate::bounds::is_apart;
@@ -40,13 +43,13 @@ use crate::operands::has_operands;
 use crate::plans::{PackPlan, view_of, words_for};
 use crate::sides::divisor_form;
 use crate::walking::step;
-use cell_layer::{Kept, KnownItems, clears_part, count_units, item_range, with_operands};
-use cob_program::{Act, Program, Stmt};
+use cell_layer::{Kept, KnownItems, cleared_by_part, count_units, item_range, with_operands};
+use cob_program::{Act, Program};
 use cob_runs::{Action, Cell};
-use cob_tree::Kind;
+use cob_tree::{Kind, Kinds};
 use dec_num::Mode;
 use edge_amounts::{
-    Amount, Divisor, EdgePart, amount_from, is_remainder, part_at, part_count, receiver_at,
+    Amount, Divisor, EdgePart, EdgeWork, amount_from, is_remainder, receiver_at,
 };
 use interval_domain::Interval;
 use sum_ranges::Ranged;
@@ -543,100 +546,155 @@ fn is_shown(
     }
 }
 
-// whether the fault of the part with a number is not met
+// whether the fault of a part is not met
 fn clears(
-    program: &Program,
     cells: &[Cell],
-    statement: &Stmt,
-    action: Action,
-    number: u32,
+    work: &EdgeWork,
+    part: EdgePart,
     plans: &[PackPlan],
     row: &[i128],
     kept: &Kept,
     written: bool,
     out: &[i128],
+    by_cells: Kinds,
     fault: Kind,
 ) -> bool
-    requires row { IsRowOf (plain_program program.now) cells.now row.now }
-    requires small { AllByRecursion (IsSmallPart (plain_program program.now) (act_in (plain_stmt statement.now)) action)
-        (edge_parts (plain_program program.now) (plain_stmt statement.now) action) }
-    requires of_edge { AllByRecursion (IsOfEdge (plain_program program.now) (act_in (plain_stmt statement.now)) action)
-        (edge_parts (plain_program program.now) (plain_stmt statement.now) action) }
-    requires can { CanStep (plain_program program.now) (act_in (plain_stmt statement.now)) action (seen row.now kept.now) }
-    requires within { number < length (edge_parts (plain_program program.now) (plain_stmt statement.now) action) }
-    requires plans { ArePlansOf (plain_program program.now) plans.now }
+    requires row { IsRowOf (program_of work.now) cells.now row.now }
+    requires small { IsSmallPart (program_of work.now) (act_of work.now) work.now.action (plain_part part) }
+    requires of_edge { IsOfEdge (program_of work.now) (act_of work.now) work.now.action (plain_part part) }
+    requires can { CanStep (program_of work.now) (act_of work.now) work.now.action (seen row.now kept.now) }
+    requires plans { ArePlansOf (program_of work.now) plans.now }
     requires matrices { IsRowFor plans.now out.now }
-    ensures { (wrote : List Bytes) → written ≡ are_written program.now.layout wrote (edge_items (act_in (plain_stmt statement.now)) action)
-        → result ≡ clears2_at (plain_program program.now) (plain_plans plans.now) (plain_stmt statement.now) action number
+    requires cells { by_cells ≡ kinds_of (clears_small (program_of work.now) (act_of work.now) work.now.action (plain_part part) (seen row.now kept.now)) }
+    ensures { (wrote : List Bytes) → written ≡ are_written (program_of work.now).layout wrote (edge_items (act_of work.now) work.now.action)
+        → result ≡ clears_part2 (program_of work.now) (plain_plans plans.now) (act_of work.now) work.now.action (plain_part part.entry)
         (seen row.now kept.now) (seen2 wrote (matrices_for plans.now out.now)) fault }
 {
-    if clears_part(program, cells, statement, action, number, row, kept, fault) {
-        return true;
-    }
-    match part_at(program, statement, action, number) {
-        None => true,
-        Some(part) => is_shown(
-            program,
+    by_cells.has(fault)
+        || is_shown(
+            work.program,
             cells,
             row,
-            &statement.act,
-            action,
+            &work.statement.act,
+            work.action,
             part,
             plans,
             out,
             kept,
             written,
             fault,
+        )
+}
+
+// the kinds of faults of a part that aren't met
+fn cleared(
+    cells: &[Cell],
+    work: &EdgeWork,
+    part: &EdgePart,
+    plans: &[PackPlan],
+    row: &[i128],
+    kept: &Kept,
+    written: bool,
+    out: &[i128],
+) -> Kinds
+    requires row { IsRowOf (program_of work.now) cells.now row.now }
+    requires small { IsSmallPart (program_of work.now) (act_of work.now) work.now.action (plain_part part.now) }
+    requires of_edge { IsOfEdge (program_of work.now) (act_of work.now) work.now.action (plain_part part.now) }
+    requires can { CanStep (program_of work.now) (act_of work.now) work.now.action (seen row.now kept.now) }
+    requires plans { ArePlansOf (program_of work.now) plans.now }
+    requires matrices { IsRowFor plans.now out.now }
+    ensures { (wrote : List Bytes) → written ≡ are_written (program_of work.now).layout wrote (edge_items (act_of work.now) work.now.action)
+        → result ≡ kinds_of (clears_part2 (program_of work.now) (plain_plans plans.now) (act_of work.now) work.now.action (plain_part part.now)
+        (seen row.now kept.now) (seen2 wrote (matrices_for plans.now out.now))) }
+{
+    let first = cleared_by_part(cells, work, *part, row, kept);
+    Kinds {
+        size: clears(
+            cells, work, *part, plans, row, kept, written, out, first, Kind::Size,
+        ),
+        truncation: clears(
+            cells,
+            work,
+            *part,
+            plans,
+            row,
+            kept,
+            written,
+            out,
+            first,
+            Kind::Truncation,
+        ),
+        zero: clears(
+            cells, work, *part, plans, row, kept, written, out, first, Kind::Zero,
+        ),
+        class: clears(
+            cells, work, *part, plans, row, kept, written, out, first, Kind::Class,
         ),
     }
 }
 
-/// Whether both layers show that no part of an edge of a statement meets such a fault. What it makes of the words on the
-/// way isn't told.
-pub fn packs_clear(
-    program: &Program,
+// the kinds that all parts of an edge clear, where the matrices are closed
+fn cleared_closed(
     cells: &[Cell],
-    statement: &Stmt,
-    action: Action,
+    work: &EdgeWork,
     plans: &[PackPlan],
     row: &mut [i128],
+    before: &mut [i128],
     out: &mut [i128],
-    fault: Kind,
-) -> bool
-    requires can { CanWalk (plain_program program.now) cells.now (plain_stmt statement.now) action row.old }
-    requires of_edge { AllByRecursion (IsOfEdge (plain_program program.now) (act_in (plain_stmt statement.now)) action)
-        (edge_parts (plain_program program.now) (plain_stmt statement.now) action) }
-    requires words { length row.old ≤ 1025 }
-    requires plans { ArePlansOf (plain_program program.now) plans.now }
-    requires matrices { IsRowFor plans.now out.old }
-    ensures { result ≡ statement_clears2 (plain_program program.now) (plain_plans plans.now) (plain_stmt statement.now) action
-        (cells_of row.old) (matrices_for plans.now out.old) fault }
+) -> Kinds
+    requires can { CanWalk (program_of work.now) cells.now (statement_of work.now) work.now.action row.old }
+    requires of_edge { AllByRecursion (IsOfEdge (program_of work.now) (act_of work.now) work.now.action) (parts_of_edge work.now) }
+    requires room { length before.old ≡ length row.old }
+    requires plans { ArePlansOf (program_of work.now) plans.now }
+    requires matrices { IsClosedRow (program_of work.now) (cells_of row.old) plans.now out.old }
+    ensures { result ≡ kinds_of (λ fault. closed_clears (program_of work.now) (plain_plans plans.now) (statement_of work.now) work.now.action
+        (cells_of row.old) fault (matrices_for plans.now out.old)) }
 {
-    if !close_all(program, cells, plans, row, out) {
-        return true;
-    }
     let mut kept = Kept::new();
     let mut written = false;
-    for number in 0..part_count(program, statement, action) {
-        if !clears(
-            program, cells, statement, action, number, plans, row, &kept, written, out, fault,
-        ) {
-            return false;
-        }
+    let mut all = Kinds::all();
+    let parts = work.parts.as_slice();
+    for part in parts {
+        all = all.both(cleared(
+            cells, work, part, plans, row, &kept, written, out,
+        ));
         if !step(
-            program,
             cells,
-            statement,
-            action,
-            number,
+            work,
+            part,
             plans,
             row,
+            before,
             &mut kept,
             &mut written,
             out,
         ) {
-            return true;
+            return all;
         }
     }
-    true
+    all
+}
+
+/// The kinds of faults that both layers show no part of an edge to meet, beside room for a row. What it makes of the words
+/// on the way isn't told.
+pub fn packs_cleared(
+    cells: &[Cell],
+    work: &EdgeWork,
+    plans: &[PackPlan],
+    row: &mut [i128],
+    before: &mut [i128],
+    out: &mut [i128],
+) -> Kinds
+    requires can { CanWalk (program_of work.now) cells.now (statement_of work.now) work.now.action row.old }
+    requires of_edge { AllByRecursion (IsOfEdge (program_of work.now) (act_of work.now) work.now.action) (parts_of_edge work.now) }
+    requires room { length before.old ≡ length row.old }
+    requires plans { ArePlansOf (program_of work.now) plans.now }
+    requires matrices { IsRowFor plans.now out.old }
+    ensures { result ≡ kinds_of (statement_clears2 (program_of work.now) (plain_plans plans.now) (statement_of work.now) work.now.action
+        (cells_of row.old) (matrices_for plans.now out.old)) }
+{
+    if !close_all(work.program, cells, plans, row, out) {
+        return Kinds::all();
+    }
+    cleared_closed(cells, work, plans, row, before, out)
 }

@@ -43,14 +43,12 @@ impl<'a, R: Rows> System for DiffLayer<'a, R> {
     fn post<L: Ledger>(&self, edge: u32, from: &[i128], out: &mut [i128], steps: &mut Steps<L>) {
         steps.tick();
         out.copy_from_slice(from);
-        let edge = edge_with(self.graph.edges.get(), edge);
+        let source = edge_with(self.graph.edges.get(), edge).from;
         let passes = passes_edge(
-            self.program,
-            self.graph,
-            self.statements.as_slice(),
+            &self.works,
             self.plans.as_slice(),
-            edge,
-            self.facts.row(edge.from),
+            edge as usize - 1,
+            self.facts.row(source),
             out,
         );
         if !passes {
@@ -58,6 +56,6 @@ impl<'a, R: Rows> System for DiffLayer<'a, R> {
         }
     }
 
-    ghost flows = { λ s. flows_by (plain_program s.program.now) s.graph.now s.statements.items s.held s.packs.now s.cells
+    ghost flows = { λ s. flows_by (plain_program s.program.now) s.graph.now s.works s.held s.packs.now s.cells
         s.thresholds.now s.listed (R.row_at s.facts.now) s.known };
 }

@@ -50,7 +50,7 @@ mod taken;
 mod walking;
 mod writing;
 
-pub use clearing::packs_clear;
+pub use clearing::packs_cleared;
 pub use closing::close_all;
 pub use layer::DiffLayer;
 pub use plans::PackPlan;
