@@ -30,11 +30,11 @@ use Rattle.cell_laws.proofs.Small.{edges_are_small_of_sources}
 use Rattle.cell_layer.specs.NumberedStatements.{number_in, act_in}
 use Rattle.cell_layer.specs.Statements.{IsNumbered}
 use Rattle.cell_layer.specs.Edges.{statement_post, statement_clears}
-use Rattle.cell_layer.specs.Held.{HasFewAt, IsLeft}
+use Rattle.cell_layer.specs.Works.{IsLeft}
 
 -- ---- in lists
 
-found_at : (P : Stmt → Type 0) (ss : List (Bor declared_stmt.Stmt)) (k : ℕ) (s : Bor declared_stmt.Stmt) → AllByRecursion P (plain_references ss) →
+pub found_at : (P : Stmt → Type 0) (ss : List (Bor declared_stmt.Stmt)) (k : ℕ) (s : Bor declared_stmt.Stmt) → AllByRecursion P (plain_references ss) →
     k < length ss → slice_index_or ss k s ≡ s → P (plain_stmt s.now)
 found_at P [] k s all within is = absurd (omega (arith, within))
 found_at P (t ∷ ss) zero s all within is = subst (λ (u : Bor declared_stmt.Stmt). P (plain_stmt u.now)) is all.0
@@ -103,50 +103,9 @@ module _ (p : Program) (g : Graph) (x : Edge) where
   clears_by_none cells fault is =
       ap (λ (o : Option Act). option_map_or (λ a. clears_edge p (left g x) a x.action cells fault) o true) is.act
 
-  -- ---- how many parts
-
-  pub few_at : (y : Stmt) → HasFewAt p g x → IsLeft p g x (Some y) → length (edge_parts p y x.action) < 2 ^ 32 - 1
-  few_at (MkStmt n line a) few is = subst (λ m. length (edge_parts p (MkStmt m line a) x.action) < 2 ^ 32 - 1) (sym is.number) (few a is.act)
-
-  few_by : (y : Stmt) → length (edge_parts p y x.action) < 2 ^ 32 - 1 → IsLeft p g x (Some y) → HasFewAt p g x
-  few_by (MkStmt n line b) few is a at =
-      let same : b ≡ a = same_Some b a (sym is.act ∙ at) in
-      subst (λ (c : Act). length (edge_parts p (MkStmt (left g x) line c) x.action) < 2 ^ 32 - 1) same
-      (subst (λ m. length (edge_parts p (MkStmt m line b) x.action) < 2 ^ 32 - 1) is.number few)
-
-  few_by_none : IsLeft p g x None → HasFewAt p g x
-  few_by_none is a at = absurd (none-some a (sym is.act ∙ at))
-
   -- ---- how small they are
 
   pub small_at : IsSourceGraph p g → (y : Stmt) → IsLeft p g x (Some y) → AllByRecursion (IsSmallPart p (act_in y) x.action) (edge_parts p y x.action)
   small_at source (MkStmt n line a) is =
       subst (λ m. AllByRecursion (IsSmallPart p a x.action) (edge_parts p (MkStmt m line a) x.action)) (sym is.number)
       (edges_are_small_of_sources p g source (left g x) a x.action is.act)
-
-module _ (p : Program) (g : Graph) (x : Edge) (ss : List (Bor declared_stmt.Stmt)) (source : ∥ IsSourceGraph p g ∥₁)
-    (listed : plain_references ss ≡ program_statements p) where
-  pub few_some : (s : Bor declared_stmt.Stmt) → IsNumbered ss (left g x) s → length (edge_parts p (plain_stmt s.now) x.action) < 2 ^ 32 - 1 →
-      HasFewAt p g x
-  few_some s numbered few =
-      ∥∥₁_elim source (hlevel props) (λ h. few_by p g x (plain_stmt s.now) few (is_left_some p g x ss h.whole listed s numbered))
-
-  pub some_few : (s : Bor declared_stmt.Stmt) → IsNumbered ss (left g x) s → HasFewAt p g x →
-      length (edge_parts p (plain_stmt s.now) x.action) < 2 ^ 32 - 1
-  some_few s numbered few =
-      ∥∥₁_elim source (hlevel props) (λ h. few_at p g x (plain_stmt s.now) few (is_left_some p g x ss h.whole listed s numbered))
-
-  pub few_none : All (λ s. ¬ number_in (plain_stmt s.now) ≡ left g x) ss → HasFewAt p g x
-  few_none none = ∥∥₁_elim source (hlevel props) (λ h. few_by_none p g x (is_left_none p g x ss h.whole listed none))
-
--- ---- edge by edge
-
-module _ (p : Program) (g : Graph) (xs : List Edge) (same : xs ≡ g.edges) (k : ℕ) where
-  pub few_more : (d : Edge) → k < length xs → All (HasFewAt p g) (take k g.edges) → HasFewAt p g (slice_index_or xs k d) →
-      All (HasFewAt p g) (take (k + 1) g.edges)
-  few_more d within all here =
-      subst (λ ys. All (HasFewAt p g) (take (k + 1) ys)) same
-      (All-more (HasFewAt p g) xs k d within (subst (λ ys. All (HasFewAt p g) (take k ys)) (sym same) all) here)
-
-  pub few_all : length xs ≤ k → All (HasFewAt p g) (take k g.edges) → All (HasFewAt p g) g.edges
-  few_all past all = subst (All (HasFewAt p g)) (take_all k g.edges (omega (arith, past, ap length same))) all

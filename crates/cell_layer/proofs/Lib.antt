@@ -25,3 +25,6 @@ pub mod Making
 pub mod Leaving
 pub mod OwnEdges
 pub mod Filled
+pub mod KindSets
+pub mod Sharing
+pub mod Holding

@@ -1,16 +1,14 @@
 -- What a program's graph gives a layer that is made over it.
 use Rattle.std.proofs.Common.{◌≡◌, ◌≤◌, ◌<◌, ◌*◌, ◌-◌, ℕ, suc, List, [], ◌∷◌, length, ℤ, Vec, Some, refl, sym, ap, subst, ◌∙◌, arith}
 use Rattle.std.specs.Prelude.{slice_index_or}
-use Rattle.std.specs.Borrow.{Bor}
 use Rattle.std.specs.declared.alloc.Global.{Global}
 use Rattle.std.specs.List.{All}
 use Rattle.std.proofs.Props.{props}
 use Rattle.std.proofs.Math.Logic.{∥∥₁_elim, ∥∥₁_prop}
 use Rattle.std.proofs.lemmas.List.{length-map}
 use Rattle.std.proofs.lemmas.List.Elements.{All-from_get_or}
-use Rattle.cob_program.specs.declared.act.Stmt as declared_stmt
+use Rattle.cob_program.specs.ActView.{plain_program}
 use Rattle.cob_program.specs.Act.{Program}
-use Rattle.cob_program.specs.Statements.{program_statements, plain_references}
 use Rattle.cob_graph.specs.declared.graph.Graph.{Graph}
 use Rattle.cob_graph.specs.Graphs.{cells_of}
 use Rattle.cob_store.specs.WellFormed.{HasWellFormedItems}
@@ -27,7 +25,8 @@ use Rattle.cob_graph.specs.Limits.{most_cells, most_nodes}
 use Rattle.cell_steps.specs.OwnRanges.{home_range, owns}
 use Rattle.cell_laws.specs.Entry.{entry_cells}
 use Rattle.cell_laws.specs.Layer.{row_for}
-use Rattle.cell_layer.specs.Held.{HasFewParts, IsHeld}
+use Rattle.cell_layer.specs.declared.works.EdgeWorks.{EdgeWorks}
+use Rattle.cell_layer.specs.Held.{IsHeld}
 use Rattle.cell_layer.proofs.FirstCells.{homes_many}
 use Rattle.cell_layer.proofs.AtMostOne.{items_prop}
 
@@ -92,5 +91,6 @@ module _ (p : Program) (g : Graph) (source : ∥ IsSourceGraph p g ∥₁) where
   pub cells_are : g.cells ≡ cells_of p
   cells_are = ∥∥₁_elim source (hlevel props) (λ s. s.graph.cells)
 
-  pub held_by : (ss : List (Bor declared_stmt.Stmt)) → plain_references ss ≡ program_statements p → HasFewParts p g → ∥ IsHeld p g ss ∥₁
-  held_by ss listed few = ∥∥₁_elim source ∥∥₁_prop (λ s. ∣ record { source = s; listed = listed; few = few } ∣₁)
+  pub held_by : (works : EdgeWorks) → plain_program works.program.now ≡ p → works.graph.now ≡ g → ∥ IsHeld p g works ∥₁
+  held_by works same_program same_graph =
+      ∥∥₁_elim source ∥∥₁_prop (λ s. ∣ record { source = s; program = same_program; graph = same_graph } ∣₁)

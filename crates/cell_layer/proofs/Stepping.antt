@@ -56,12 +56,16 @@ held_at P [] k y all at = absurd cc
 held_at P (z ∷ xs) zero y all at = subst P (same_Some _ _ at) all.0
 held_at P (z ∷ xs) (suc k) y all at = held_at P xs k y all.1 at
 
+-- what a statement does
+pub act_same : (s : declared_stmt.Stmt) → act_in (plain_stmt s) ≡ plain_act (out-Stmt s).act
+act_same s = ap act_in (fold_out-Stmt _ _ _ _ _ _ _ _ s)
+
 module _ (p : Program) (x : Action) where
   -- of an edge of a statement, seen through what the statement does
   pub small_part : (s : declared_stmt.Stmt) (k : ℕ) (y : Part) → AllByRecursion (IsSmallPart p (act_in (plain_stmt s)) x) (edge_parts p (plain_stmt s) x) →
       slice_get (edge_parts p (plain_stmt s) x) k ≡ Some y → IsSmallPart p (plain_act (out-Stmt s).act) x y
   small_part s k y all at =
-      subst (λ (a : Act). IsSmallPart p a x y) (ap act_in (fold_out-Stmt _ _ _ _ _ _ _ _ s))
+      subst (λ (a : Act). IsSmallPart p a x y) (act_same s)
       (held_at (IsSmallPart p (act_in (plain_stmt s)) x) (edge_parts p (plain_stmt s) x) k y all at)
 
 -- ---- what is stored
@@ -202,7 +206,7 @@ module _ (p : Program) (a : Act) (x : Action) where
   count_if None = tt
   count_if (Some c) = count_fits rising c.top.units
 
-  goes_on : (y : Part) (s : Seen) → Can s → IfSome (step_small p a x y s) (CanStep p a x)
+  pub goes_on : (y : Part) (s : Seen) → Can s → IfSome (step_small p a x y s) (CanStep p a x)
   goes_on (read place) s can = read_can place s can
   goes_on unread s can = tt
   goes_on (divide d) s can = divide_can d s can
@@ -228,3 +232,10 @@ module _ (p : Program) (y : Stmt) (x : Action) where
   pub walks_on : (k : ℕ) (s t : Seen) → CanStep p (act_in y) x s → step_at p y x k s ≡ Some t → CanStep p (act_in y) x t
   walks_on k s t can e =
       subst (λ (o : Option Seen). IfSome o (CanStep p (act_in y) x)) e (among (slice_get (edge_parts p y x) k) s can)
+
+-- behind a part of a work that is passed
+pub walked_part : (p : Program) (x : Action) (s : declared_stmt.Stmt) (y : Part) (u t : Seen) → CanStep p (act_in (plain_stmt s)) x u →
+    step_small p (plain_act (out-Stmt s).act) x y u ≡ Some t → CanStep p (act_in (plain_stmt s)) x t
+walked_part p x s y u t can e =
+    subst (λ (o : Option Seen). IfSome o (CanStep p (act_in (plain_stmt s)) x)) (ap (λ a. step_small p a x y u) (act_same s) ∙ e)
+    (goes_on p (act_in (plain_stmt s)) x y u can)

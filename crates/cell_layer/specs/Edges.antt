@@ -1,5 +1,5 @@
 -- What edges make of rows, and what they clear, from the statements that they leave.
-use Rattle.std.specs.Prelude.{◌≡◌, ◌<◌, ◌-◌, ◌^◌, Bool, true, List, length, ℤ}
+use Rattle.std.specs.Prelude.{◌≡◌, Bool, true, List, ℤ}
 use Rattle.std.specs.List.{AllByRecursion}
 use Rattle.cob_tree.specs.declared.fault.Kind.{Kind}
 use Rattle.cob_program.specs.Act.{Stmt, Program}
@@ -29,6 +29,5 @@ module _ (p : Program) (y : Stmt) (x : Action) where
 pub record CanWalk (p : Program) (cells : List Cell) (y : Stmt) (x : Action) (row : List ℤ) : Type 0 where
   pub row_of : IsRowOf p cells row
   pub fits : CellsFit (owns p) (cells_of row)
-  pub few : length (edge_parts p y x) < 2 ^ 32 - 1
   pub small_cells : has_small_cells p ≡ true
   pub small : AllByRecursion (IsSmallPart p (act_in y) x) (edge_parts p y x)

@@ -1,7 +1,6 @@
 -- What a row and what is kept beside it say.
 use Rattle.std.specs.Prelude.{ℕ, Bool, true, false, List, Option, ℤ, slice_get}
 use Rattle.std.specs.Option.{option_map_or}
-use Rattle.cob_tree.specs.declared.fault.Kind.{Kind}
 use Rattle.cob_program.specs.Values.{◌>>=◌}
 use Rattle.cob_program.specs.Act.{Stmt, Program}
 use Rattle.cob_runs.specs.declared.action.Action.{Action}
@@ -11,7 +10,7 @@ use Rattle.interval_domain.specs.Rows.{cells_of}
 use Rattle.cell_steps.specs.Seen.{Seen}
 use Rattle.cell_layer.specs.declared.kept.Kept.{Kept}
 use Rattle.cell_layer.specs.NumberedStatements.{act_in}
-use Rattle.cell_layer.specs.Walks.{step_small, clears_small}
+use Rattle.cell_layer.specs.Walks.{step_small}
 use Rattle.cell_layer.specs.Latest.{Latest, latest_behind}
 
 abbrev pub seen : List ℤ → Kept → Seen
@@ -30,11 +29,6 @@ module _ (p : Program) (y : Stmt) (x : Action) where
   abbrev pub latest_at : ℕ → Seen → Latest → Latest
   latest_at k s before =
       option_map_or (λ part. latest_behind p (act_in y) x part s before) (slice_get (edge_parts p y x) k) before
-
-  -- where there is no such part nothing is asked
-  abbrev pub clears_at_part : ℕ → Seen → Kind → Bool
-  clears_at_part k s fault =
-      option_map_or (λ part. clears_small p (act_in y) x part s fault) (slice_get (edge_parts p y x) k) true
 
 -- ---- a store
 

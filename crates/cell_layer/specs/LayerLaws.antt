@@ -3,8 +3,6 @@ use Rattle.std.proofs.Common.{List, [], ◌∷◌, ℤ}
 use Rattle.std.specs.Coded.{×_prop, Unit-prop}
 use Rattle.std.proofs.Props.{props}
 use Rattle.std.proofs.Math.Logic.{∥∥₁_elim, ∥∥₁_prop}
-use Rattle.std.specs.Borrow.{Bor}
-use Rattle.cob_program.specs.declared.act.Stmt as declared_stmt
 use Rattle.cob_program.specs.Act.{Program}
 use Rattle.cob_graph.specs.declared.graph.Graph.{Graph}
 use Rattle.interval_domain.specs.declared.bounds.Interval.{Interval}
@@ -20,6 +18,7 @@ use Rattle.cell_steps.specs.OwnRanges.{owns}
 use Rattle.cell_laws.specs.Layer.{cell_flow, cell_meaning}
 use Rattle.cell_laws.proofs.Flow.{cells_flow}
 use Rattle.cell_laws.proofs.Meaning.{cells_mean}
+use Rattle.cell_layer.specs.declared.works.EdgeWorks.{EdgeWorks}
 use Rattle.cell_layer.specs.Held.{IsHeld}
 
 -- ---- thresholds
@@ -41,11 +40,11 @@ ordered_by owns_ lists ends = cells_are_a_lattice owns_ lists (ends_of owns_ lis
 
 -- ---- flow and meaning
 
-module _ (p : Program) (g : Graph) (statements : List (Bor declared_stmt.Stmt)) where
-  source_of : ∥ IsHeld p g statements ∥₁ → ∥ IsSourceGraph p g ∥₁
+module _ (p : Program) (g : Graph) (works : EdgeWorks) where
+  source_of : ∥ IsHeld p g works ∥₁ → ∥ IsSourceGraph p g ∥₁
   source_of held = ∥∥₁_elim held ∥∥₁_prop (λ h. ∣ h.source ∣₁)
 
-  pub flows_by : (lists : List (List ℤ)) → ∥ IsHeld p g statements ∥₁ → IsFlow (cells_lattice (owns p) lists) (cell_flow p g)
+  pub flows_by : (lists : List (List ℤ)) → ∥ IsHeld p g works ∥₁ → IsFlow (cells_lattice (owns p) lists) (cell_flow p g)
   flows_by lists held = cells_flow p g lists (source_of held)
 
 pub means_by : (p : Program) (g : Graph) (lists : List (List ℤ)) → IsMeaning (cells_lattice (owns p) lists) (cell_flow p g) (cell_meaning p g)

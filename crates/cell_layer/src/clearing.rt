@@ -2,20 +2,20 @@
 ghost use Rattle.std.specs.Prelude.{◌≡◌, ◌≤◌, ◌<◌, ◌==◌, ℕ, length, slice_index_or};
 ghost use Rattle.std.specs.List.{list_all};
 ghost use Rattle.std.specs.List.Sorted.{IsNonDecreasingBy};
+ghost use Rattle.cob_tree.specs.Kinds.{kinds_of};
 ghost use Rattle.cob_program.specs.ActView.{plain_program};
 ghost use Rattle.graph_runs.specs.Places.{no_edge};
 ghost use Rattle.interval_domain.specs.Elements.{CellsFit};
 ghost use Rattle.interval_domain.specs.Rows.{IsReached, cells_of, lists_of};
 ghost use Rattle.cell_steps.specs.OwnRanges.{owns};
 ghost use Rattle.cell_laws.specs.Layer.{leaves_clear, cell_meaning};
-ghost use Rattle.cell_layer.specs.Held.{IsHeld};
 ghost use Rattle.cell_layer.specs.LayerLaws.{means_by};
 
-use crate::edges::clears_edge;
+use crate::edges::edge_cleared;
 use crate::layer::CellLayer;
-use cob_graph::{Edge, Graph};
-use cob_program::{Program, Stmt};
-use cob_tree::Kind;
+use crate::works::EdgeWorks;
+use cob_graph::Edge;
+use cob_tree::{Kind, Kinds};
 use dom_laws::Layer;
 use interval_domain::is_reached;
 
@@ -43,34 +43,24 @@ pub fn leaves(edge: Edge, node: u32) -> bool
     edge.from == node
 }
 
-// whether each edge that leaves a node clears the fault
-fn clears_node(
-    program: &Program,
-    graph: &Graph,
-    statements: &[&Stmt],
-    node: u32,
-    row: &[i128],
-    fault: Kind,
-) -> bool
-    requires held { ∥ IsHeld (plain_program program.now) graph.now statements.now ∥₁ }
+// the kinds of faults that each edge clears that leaves the node; what the lent row holds is lost
+fn node_cleared(works: &EdgeWorks, node: u32, row: &[i128], lent: &mut [i128]) -> Kinds
     requires reached { IsReached row.now }
-    requires fits { CellsFit (owns (plain_program program.now)) (cells_of row.now) }
-    requires few { length row.now ≤ 1025 }
-    ensures { result ≡ list_all (leaves_clear (plain_program program.now) graph.now node fault (cells_of row.now))
-        graph.now.edges }
+    requires fits { CellsFit (owns (plain_program works.now.program.now)) (cells_of row.now) }
+    requires lent { length lent.old ≡ length row.now }
+    ensures { result ≡ kinds_of (λ kind. list_all (leaves_clear (plain_program works.now.program.now) works.now.graph.now node kind
+        (cells_of row.now)) works.now.graph.now.edges) }
 {
-    let edges = graph.edges.get();
+    let edges = works.graph.edges.get();
     let first = edges_before(edges, node);
+    let mut cleared = Kinds::all();
     for at in first..edges.len() {
-        let edge = edge_at(edges, at);
-        if !leaves(edge, node) {
-            return true;
+        if !leaves(edge_at(edges, at), node) {
+            return cleared;
         }
-        if !clears_edge(program, graph, statements, edge, row, fault) {
-            return false;
-        }
+        cleared = cleared.both(edge_cleared(works, at, row, lent));
     }
-    true
+    cleared
 }
 
 impl<'a> Layer for CellLayer<'a> {
@@ -80,14 +70,8 @@ impl<'a> Layer for CellLayer<'a> {
         if !is_reached(row) {
             return true;
         }
-        clears_node(
-            self.program,
-            self.graph,
-            self.statements.as_slice(),
-            node,
-            row,
-            kind,
-        )
+        let mut words = [0; 1025];
+        node_cleared(&self.works, node, row, &mut words[..row.len()]).has(kind)
     }
 
     ghost means = { λ s. means_by (plain_program s.program.now) s.graph.now (lists_of s.thresholds.now) };

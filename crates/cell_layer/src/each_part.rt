@@ -151,7 +151,7 @@ fn walk_set_count(
 // ---- all parts
 
 /// Makes of a row what a part makes of it; answers false where no run passes the part.
-pub(crate) fn walk_part(
+pub(crate) fn pass_part(
     program: &Program,
     cells: &[Cell],
     row: &mut [i128],

@@ -1,20 +1,22 @@
-//! The walk, by the numbers of parts.
+//! The walk, by parts and by their numbers.
 ghost use Rattle.std.specs.Prelude.{◌≡◌, ◌<◌, ◌-◌, ◌^◌, min, true, false, length, Some, None};
 ghost use Rattle.std.specs.List.{AllByRecursion};
 ghost use Rattle.cob_program.specs.ActView.{plain_stmt, plain_program};
-ghost use Rattle.edge_amounts.specs.PartView.{edge_parts};
+ghost use Rattle.edge_amounts.specs.PartView.{plain_part, edge_parts};
 ghost use Rattle.cell_laws.specs.Sizes.{IsSmallPart};
 ghost use Rattle.cell_layer.specs.SmallCells.{has_small_cells};
 ghost use Rattle.cell_layer.specs.ProgramRows.{IsRowOf};
 ghost use Rattle.cell_layer.specs.Kept.{seen, step_at, latest_of, latest_at};
+ghost use Rattle.cell_layer.specs.Latest.{latest_behind};
 ghost use Rattle.cell_layer.specs.NumberedStatements.{act_in};
-ghost use Rattle.cell_layer.specs.Walks.{CanStep};
+ghost use Rattle.cell_layer.specs.Walks.{step_small, CanStep};
+ghost use Rattle.cell_layer.specs.Works.{program_of, act_of};
 
-use crate::each_part::walk_part;
+use crate::each_part::pass_part;
 use crate::kept::Kept;
 use cob_program::{Program, Stmt};
 use cob_runs::{Action, Cell};
-use edge_amounts::{part_at, part_count};
+use edge_amounts::{EdgePart, EdgeWork, part_at, part_count};
 
 /// How many parts an edge of a statement has; `u32::MAX` stands for more, too.
 pub fn parts(program: &Program, statement: &Stmt, action: Action) -> u32
@@ -44,7 +46,7 @@ fn step(
 {
     match part_at(program, statement, action, part) {
         None => false,
-        Some(found) => walk_part(program, cells, row, &statement.act, action, found, kept),
+        Some(found) => pass_part(program, cells, row, &statement.act, action, found, kept),
     }
 }
 
@@ -72,4 +74,37 @@ pub fn walk(
     ensures can { result ≡ true → CanStep (plain_program program.now) (act_in (plain_stmt statement.now)) action (seen row.new kept.new) }
 {
     step(program, cells, statement, action, part, row, kept)
+}
+
+/// Makes of a row what a part of an edge makes of it. Answers false where no run passes the part; what is left of the row
+/// then isn't told. What is kept of the latest store is that of the moment before it.
+pub fn walk_part(
+    cells: &[Cell],
+    work: &EdgeWork,
+    part: EdgePart,
+    row: &mut [i128],
+    kept: &mut Kept,
+) -> bool
+    requires row { IsRowOf (program_of work.now) cells.now row.old }
+    requires small { IsSmallPart (program_of work.now) (act_of work.now) work.now.action (plain_part part) }
+    requires small_cells { has_small_cells (program_of work.now) ≡ true }
+    requires can { CanStep (program_of work.now) (act_of work.now) work.now.action (seen row.old kept.old) }
+    ensures on { result ≡ true → step_small (program_of work.now) (act_of work.now) work.now.action (plain_part part.entry) (seen row.old kept.old)
+        ≡ Some (seen row.new kept.new) }
+    ensures off { result ≡ false → step_small (program_of work.now) (act_of work.now) work.now.action (plain_part part.entry) (seen row.old kept.old)
+        ≡ None }
+    ensures row { IsRowOf (program_of work.now) cells.now row.new }
+    ensures latest { latest_of kept.new ≡ latest_behind (program_of work.now) (act_of work.now) work.now.action (plain_part part.entry)
+        (seen row.old kept.old) (latest_of kept.old) }
+    ensures can { result ≡ true → CanStep (program_of work.now) (act_of work.now) work.now.action (seen row.new kept.new) }
+{
+    pass_part(
+        work.program,
+        cells,
+        row,
+        &work.statement.act,
+        work.action,
+        part,
+        kept,
+    )
 }

@@ -62,16 +62,9 @@ impl<'a> System for CellLayer<'a> {
         steps.tick();
         out.copy_from_slice(from);
         if is_reached(out) {
-            let edge = edge_with(self.graph.edges.get(), edge);
-            post_edge(
-                self.program,
-                self.graph,
-                self.statements.as_slice(),
-                edge,
-                out,
-            );
+            post_edge(&self.works, edge as usize - 1, out);
         }
     }
 
-    ghost flows = { λ s. flows_by (plain_program s.program.now) s.graph.now s.statements.items (lists_of s.thresholds.now) s.held };
+    ghost flows = { λ s. flows_by (plain_program s.program.now) s.graph.now s.works (lists_of s.thresholds.now) s.held };
 }

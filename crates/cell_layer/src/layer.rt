@@ -12,11 +12,11 @@ ghost use Rattle.cell_layer.specs.Heads.{heads_of};
 ghost use Rattle.cell_layer.specs.Held.{IsHeld};
 ghost use Rattle.cob_graph.specs.Limits.{most_cells, most_nodes};
 
-use crate::edges::has_few_parts;
 use crate::entry::entry_row;
 use crate::heads::heads_of;
+use crate::works::EdgeWorks;
 use cob_graph::Graph;
-use cob_program::{Program, Stmt};
+use cob_program::Program;
 use std::alloc::{AllocError, Global};
 
 /// What is known of a program's cells along its graph, with a list of thresholds for each cell.
@@ -25,11 +25,11 @@ pub struct CellLayer<'a> {
     pub program: &'a Program,
     pub graph: &'a Graph,
     pub thresholds: &'a [Vec<i64>],
-    pub(crate) statements: Vec<&'a Stmt>,
+    pub(crate) works: EdgeWorks<'a>,
     // whether an edge goes back to a node, for each node
     pub(crate) heads: Vec<bool>,
     pub(crate) entry: Vec<i128>,
-    ghost held: { ∥ IsHeld (plain_program program.now) graph.now statements.items ∥₁ },
+    ghost held: { ∥ IsHeld (plain_program program.now) graph.now works ∥₁ },
     ghost ends: { ∥ AreThresholds (owns (plain_program program.now)) (lists_of thresholds.now) ∥₁ },
     ghost marked: { heads.items ≡ heads_of (length graph.now.nodes) graph.now.edges },
     ghost begun: { entry.items ≡ row_for (plain_program program.now) (Some (entry_cells (plain_program program.now))) },
@@ -42,7 +42,7 @@ pub struct CellLayer<'a> {
 
 impl<'a> CellLayer<'a> {
     /// The layer over a program's graph. Each cell has a list of thresholds, with the ends of its own range; the lists of
-    /// a layer that widens are sorted. An edge with 2^32 - 1 parts or more counts as want of memory.
+    /// a layer that widens are sorted.
     pub fn new(
         alloc: Global,
         program: &'a Program,
@@ -58,17 +58,14 @@ impl<'a> CellLayer<'a> {
         ensures graph { IfOk result (λ layer. layer.graph.now ≡ graph.now) }
         ensures thresholds { IfOk result (λ layer. layer.thresholds.now ≡ thresholds.now) }
     {
-        let statements = program.statements(alloc)?;
-        if !has_few_parts(program, graph, statements.as_slice()) {
-            return Err(AllocError);
-        }
+        let works = EdgeWorks::new(alloc, program, graph)?;
         let heads = heads_of(alloc, graph.nodes.get().len() as u32, graph.edges.get())?;
         let entry = entry_row(alloc, program, graph.cells.get())?;
         Ok(CellLayer {
             program,
             graph,
             thresholds,
-            statements,
+            works,
             heads,
             entry,
         })

@@ -1,21 +1,19 @@
-//! The faults that what is known before a part shows not to be met there.
-ghost use Rattle.std.specs.Prelude.{◌≡◌, ◌<◌, ◌||◌, not, true, length, is_some, map, IfSome};
-ghost use Rattle.std.specs.List.{AllByRecursion};
+//! The kinds of faults that what is known before a part shows not to be met there.
+ghost use Rattle.std.specs.Prelude.{◌≡◌, ◌||◌, not, true, is_some, map, IfSome};
 ghost use Rattle.std.specs.Option.{option_map_or};
-ghost use Rattle.cob_program.specs.ActView.{plain_act, plain_stmt, plain_program};
-ghost use Rattle.cob_program.specs.Bounds.{is_small, is_small_atom};
+ghost use Rattle.cob_tree.specs.Kinds.{kinds_of};
+ghost use Rattle.cob_program.specs.ActView.{plain_act, plain_program};
+ghost use Rattle.cob_program.specs.Bounds.{is_small};
 ghost use Rattle.cob_program.specs.Sum.{MkSum, parts_of, factors_of, more_parts, no_parts};
 ghost use Rattle.cob_program.specs.SumView.{plain_sum, plain_part as sum_part, plain_factor};
 ghost use Rattle.cob_program.specs.Values.{root_of, root_in};
 ghost use Rattle.cob_runs.specs.Contents.{form_at};
 ghost use Rattle.cob_calc.specs.Contents.{bound_at};
 ghost use Rattle.cob_edge_parts.specs.Parts as part;
-ghost use Rattle.cob_edge_parts.specs.Parts.{has_phrase};
-ghost use Rattle.edge_amounts.specs.PartView.{edge_parts, plain_amount, plain_divisor, plain_part};
+ghost use Rattle.edge_amounts.specs.PartView.{plain_amount, plain_part};
 ghost use Rattle.transfer_ranges.specs.Receivers.{receiver_of};
 ghost use Rattle.transfer_ranges.specs.ResultRanges.{may_fail};
 ghost use Rattle.transfer_ranges.specs.Sizes.{IsReceiver, IsSmallAmount};
-ghost use Rattle.edge_amounts.specs.Small.{has_small_sum};
 ghost use Rattle.edge_amounts.specs.Working.{CanWork, amount_from};
 ghost use Rattle.interval_domain.specs.Elements.{CellsFit};
 ghost use Rattle.interval_domain.specs.Rows.{cells_of};
@@ -25,21 +23,20 @@ ghost use Rattle.cell_steps.specs.Operands.{amount_of};
 ghost use Rattle.cell_steps.specs.Stores.{range_at};
 ghost use Rattle.cell_laws.specs.Sizes.{IsSmallPart, IsSmallStore};
 ghost use Rattle.cell_layer.specs.ProgramRows.{IsRowOf};
-ghost use Rattle.cell_layer.specs.Kept.{seen, clears_at_part};
-ghost use Rattle.cell_layer.specs.NumberedStatements.{act_in};
+ghost use Rattle.cell_layer.specs.Kept.{seen};
 ghost use Rattle.cell_layer.specs.Walks.{clears_small, CanStep};
+ghost use Rattle.cell_layer.specs.Works.{program_of, act_of};
 
 use crate::counters::count_is_known;
 use crate::counting::{count_down_fits, count_fits};
 use crate::dividing::divisor_clears;
 use crate::items::{item_is_numeric, item_range};
 use crate::kept::{Kept, taken};
-use cob_data::Sender;
-use cob_program::{Act, Factor, Part, Program, Stmt, Sum};
+use cob_program::{Act, Factor, Part, Program, Sum};
 use cob_runs::{Action, Cell};
-use cob_tree::Kind;
+use cob_tree::{Kind, Kinds};
 use dec_num::Mode;
-use edge_amounts::{Amount, Divisor, EdgePart, amount_of, has_phrase, part_at, receiver_at};
+use edge_amounts::{Amount, EdgePart, EdgeWork, amount_of, has_phrase, receiver_at};
 use sum_ranges::Ranged;
 use transfer_ranges::{AmountRange, Receiver, Taken, result_range};
 
@@ -92,13 +89,14 @@ fn has_quotient(amount: Amount) -> bool
 
 // ---- stores
 
-fn is_misfit(amount: Amount, fault: Kind) -> bool
-    ensures { result ≡ is_misfit (plain_amount amount.entry) fault }
+// the kinds but that of a misfit, unless the value fits
+fn cleared_where(amount: Amount, fits: bool) -> Kinds
+    ensures { result ≡ kinds_of (λ kind. not (is_misfit (plain_amount amount.entry) kind) || fits) }
 {
     match amount {
-        Amount::Moved(_) => matches!(fault, Kind::Truncation),
+        Amount::Moved(_) => Kinds::all().put(Kind::Truncation, fits),
         Amount::Computed(_, _) | Amount::Remaining(_, _) | Amount::Augmented(_) => {
-            matches!(fault, Kind::Size)
+            Kinds::all().put(Kind::Size, fits)
         }
     }
 }
@@ -185,7 +183,8 @@ fn all_fit(
     has_quotient(amount) && results_fit(program, cells, row, place, mode, amount, kept.common)
 }
 
-fn store_clears(
+// a misfit is handled where there is a phrase for it
+fn store_cleared(
     program: &Program,
     cells: &[Cell],
     row: &[i128],
@@ -195,144 +194,26 @@ fn store_clears(
     mode: Mode,
     amount: Amount,
     kept: Kept,
-    fault: Kind,
-) -> bool
+) -> Kinds
     requires row { IsRowOf (plain_program program.now) cells.now row.now }
     requires small { IsSmallStore (plain_program program.now) (plain_act act.now) action place (plain_amount amount) }
     requires can { CanStep (plain_program program.now) (plain_act act.now) action (seen row.now kept) }
-    ensures { result ≡ clears_small (plain_program program.now) (plain_act act.now) action (part.store place mode (plain_amount amount.entry)) (seen row.now kept) fault }
+    ensures { result ≡ kinds_of (clears_small (plain_program program.now) (plain_act act.now) action
+        (part.store place mode (plain_amount amount.entry)) (seen row.now kept)) }
 {
-    if has_phrase(act) || !is_misfit(amount, fault) {
-        return true;
+    if has_phrase(act) {
+        return Kinds::all();
     }
     let moment = taken(program, cells, row, act, action, kept);
-    all_fit(
+    let fits = all_fit(
         program, cells, row, act, action, place, mode, amount, moment,
-    )
-}
-
-// ---- other parts
-
-fn read_clears(
-    program: &Program,
-    cells: &[Cell],
-    row: &[i128],
-    act: &Act,
-    action: Action,
-    place: u32,
-    kept: Kept,
-    fault: Kind,
-) -> bool
-    requires row { IsRowOf (plain_program program.now) cells.now row.now }
-    ensures { result ≡ clears_small (plain_program program.now) (plain_act act.now) action (part.read place) (seen row.now kept) fault }
-{
-    match fault {
-        Kind::Class => item_is_numeric(program, cells, row, place),
-        _ => true,
-    }
-}
-
-fn unread_clears(
-    program: &Program,
-    row: &[i128],
-    act: &Act,
-    action: Action,
-    kept: Kept,
-    fault: Kind,
-) -> bool
-    ensures { result ≡ clears_small (plain_program program.now) (plain_act act.now) action part.unread (seen row.now kept) fault }
-{
-    match fault {
-        Kind::Class => false,
-        _ => true,
-    }
-}
-
-fn divide_clears(
-    program: &Program,
-    cells: &[Cell],
-    row: &[i128],
-    act: &Act,
-    action: Action,
-    divisor: Divisor,
-    kept: Kept,
-    fault: Kind,
-) -> bool
-    requires row { IsRowOf (plain_program program.now) cells.now row.now }
-    requires can { CanStep (plain_program program.now) (plain_act act.now) action (seen row.now kept) }
-    requires small { is_small_atom (bound_at program.now.layout) (plain_divisor divisor) ≡ true }
-    ensures { result ≡ clears_small (plain_program program.now) (plain_act act.now) action (part.divide (plain_divisor divisor.entry)) (seen row.now kept) fault }
-{
-    match fault {
-        Kind::Zero => divisor_clears(program, cells, row, act, divisor),
-        _ => true,
-    }
-}
-
-fn read_count_clears(
-    program: &Program,
-    cells: &[Cell],
-    row: &[i128],
-    act: &Act,
-    action: Action,
-    statement: u32,
-    kept: Kept,
-    fault: Kind,
-) -> bool
-    requires row { IsRowOf (plain_program program.now) cells.now row.now }
-    ensures { result ≡ clears_small (plain_program program.now) (plain_act act.now) action (part.read_count statement) (seen row.now kept) fault }
-{
-    match fault {
-        Kind::Class => count_is_known(program, cells, row, statement),
-        _ => true,
-    }
-}
-
-fn set_count_clears(
-    program: &Program,
-    cells: &[Cell],
-    row: &[i128],
-    act: &Act,
-    action: Action,
-    statement: u32,
-    _count: &Sender,
-    kept: Kept,
-    fault: Kind,
-) -> bool
-    requires row { IsRowOf (plain_program program.now) cells.now row.now }
-    requires sum { has_small_sum (bound_at program.now.layout) (plain_act act.now) ≡ true }
-    requires can { CanStep (plain_program program.now) (plain_act act.now) action (seen row.now kept) }
-    ensures { result ≡ clears_small (plain_program program.now) (plain_act act.now) action (part.set_count statement _count.now) (seen row.now kept) fault }
-{
-    match fault {
-        Kind::Size => count_fits(taken(program, cells, row, act, action, kept).common),
-        _ => true,
-    }
-}
-
-fn count_down_clears(
-    program: &Program,
-    cells: &[Cell],
-    row: &[i128],
-    act: &Act,
-    action: Action,
-    statement: u32,
-    kept: Kept,
-    fault: Kind,
-) -> bool
-    requires row { IsRowOf (plain_program program.now) cells.now row.now }
-    requires can { CanStep (plain_program program.now) (plain_act act.now) action (seen row.now kept) }
-    ensures { result ≡ clears_small (plain_program program.now) (plain_act act.now) action (part.count_down statement) (seen row.now kept) fault }
-{
-    match fault {
-        Kind::Size => count_down_fits(program, cells, row, statement),
-        _ => true,
-    }
+    );
+    cleared_where(amount, fits)
 }
 
 // ---- all parts
 
-fn part_clears(
+fn part_cleared(
     program: &Program,
     cells: &[Cell],
     row: &[i128],
@@ -340,64 +221,62 @@ fn part_clears(
     action: Action,
     part: EdgePart,
     kept: Kept,
-    fault: Kind,
-) -> bool
+) -> Kinds
     requires row { IsRowOf (plain_program program.now) cells.now row.now }
     requires small { IsSmallPart (plain_program program.now) (plain_act act.now) action (plain_part part) }
     requires can { CanStep (plain_program program.now) (plain_act act.now) action (seen row.now kept) }
-    ensures { result ≡ clears_small (plain_program program.now) (plain_act act.now) action (plain_part part.entry) (seen row.now kept) fault }
+    ensures { result ≡ kinds_of (clears_small (plain_program program.now) (plain_act act.now) action (plain_part part.entry) (seen row.now kept)) }
 {
+    let all = Kinds::all();
     match part {
-        EdgePart::Read(place) => read_clears(program, cells, row, act, action, place, kept, fault),
-        EdgePart::Unread => unread_clears(program, row, act, action, kept, fault),
-        EdgePart::Divide(divisor) => {
-            divide_clears(program, cells, row, act, action, divisor, kept, fault)
+        EdgePart::Read(place) => {
+            all.put(Kind::Class, item_is_numeric(program, cells, row, place))
         }
-        EdgePart::Store { item, mode, amount } => store_clears(
-            program, cells, row, act, action, item, mode, amount, kept, fault,
+        EdgePart::Unread => all.put(Kind::Class, false),
+        EdgePart::Divide(divisor) => {
+            all.put(
+                Kind::Zero,
+                divisor_clears(program, cells, row, act, divisor),
+            )
+        }
+        EdgePart::Store { item, mode, amount } => store_cleared(
+            program, cells, row, act, action, item, mode, amount, kept,
         ),
         EdgePart::ReadCount(number) => {
-            read_count_clears(program, cells, row, act, action, number, kept, fault)
+            all.put(Kind::Class, count_is_known(program, cells, row, number))
         }
-        EdgePart::SetCount { number, count } => set_count_clears(
-            program, cells, row, act, action, number, count, kept, fault,
-        ),
+        EdgePart::SetCount { .. } => {
+            let moment = taken(program, cells, row, act, action, kept);
+            all.put(Kind::Size, count_fits(moment.common))
+        }
         EdgePart::CountDown(number) => {
-            count_down_clears(program, cells, row, act, action, number, kept, fault)
+            all.put(Kind::Size, count_down_fits(program, cells, row, number))
         }
-        EdgePart::Bytes { .. } | EdgePart::Guard { .. } | EdgePart::GuardCount { .. } => true,
+        EdgePart::Bytes { .. } | EdgePart::Guard { .. } | EdgePart::GuardCount { .. } => all,
     }
 }
 
-/// Whether no run meets such a fault at the part with a number, which counts from 0.
-pub fn clears_part(
-    program: &Program,
+/// The kinds of faults that no run meets at a part of an edge.
+pub fn cleared_by_part(
     cells: &[Cell],
-    statement: &Stmt,
-    action: Action,
-    part: u32,
+    work: &EdgeWork,
+    part: EdgePart,
     row: &[i128],
     kept: &Kept,
-    fault: Kind,
-) -> bool
-    requires row { IsRowOf (plain_program program.now) cells.now row.now }
-    requires small { AllByRecursion (IsSmallPart (plain_program program.now) (act_in (plain_stmt statement.now)) action)
-        (edge_parts (plain_program program.now) (plain_stmt statement.now) action) }
-    requires can { CanStep (plain_program program.now) (act_in (plain_stmt statement.now)) action (seen row.now kept.now) }
-    requires within { part < length (edge_parts (plain_program program.now) (plain_stmt statement.now) action) }
-    ensures { result ≡ clears_at_part (plain_program program.now) (plain_stmt statement.now) action part (seen row.now kept.now) fault }
+) -> Kinds
+    requires row { IsRowOf (program_of work.now) cells.now row.now }
+    requires small { IsSmallPart (program_of work.now) (act_of work.now) work.now.action (plain_part part) }
+    requires can { CanStep (program_of work.now) (act_of work.now) work.now.action (seen row.now kept.now) }
+    ensures { result ≡ kinds_of (clears_small (program_of work.now) (act_of work.now) work.now.action (plain_part part.entry)
+        (seen row.now kept.now)) }
 {
-    match part_at(program, statement, action, part) {
-        None => true,
-        Some(found) => part_clears(
-            program,
-            cells,
-            row,
-            &statement.act,
-            action,
-            found,
-            *kept,
-            fault,
-        ),
-    }
+    part_cleared(
+        work.program,
+        cells,
+        row,
+        &work.statement.act,
+        work.action,
+        part,
+        *kept,
+    )
 }

@@ -1,14 +1,16 @@
-//! Statements by their numbers.
+//! Statements by their numbers, and the numbers of those that edges leave.
 ghost use Rattle.std.specs.Prelude.{◌≡◌, None, IfSome};
 ghost use Rattle.std.specs.List.{All};
 ghost use Rattle.cob_program.specs.ActView.{plain_stmt};
+ghost use Rattle.cell_laws.specs.Layer.{statement_at, left};
 ghost use Rattle.cell_layer.specs.NumberedStatements.{number_in};
 ghost use Rattle.cell_layer.specs.Statements.{IsNumbered};
 
+use cob_graph::{Edge, Graph};
 use cob_program::Stmt;
 
-// a statement's number
-fn number_of(statement: &Stmt) -> u32
+/// A statement's number.
+pub(crate) fn number_of(statement: &Stmt) -> u32
     ensures { result ≡ number_in (plain_stmt statement.now) }
 {
     statement.number
@@ -53,4 +55,24 @@ pub fn statement_with<'a>(statements: &[&'a Stmt], number: u32) -> Option<&'a St
         Some(statement) => Some(statement),
         None => among(statements, number),
     }
+}
+
+// the number of a node's statement
+fn statement_at(graph: &Graph, node: u32) -> u32
+    ensures { result ≡ statement_at graph.now node }
+{
+    if node == 0 {
+        return 0;
+    }
+    match graph.nodes.get().get(node as usize - 1) {
+        Some(node) => node.statement,
+        None => 0,
+    }
+}
+
+/// The number of the statement that an edge leaves.
+pub(crate) fn left_number(graph: &Graph, edge: Edge) -> u32
+    ensures { result ≡ left graph.now edge }
+{
+    statement_at(graph, edge.from)
 }

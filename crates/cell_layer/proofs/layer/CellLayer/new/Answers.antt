@@ -32,7 +32,7 @@ invariant_of-result c =
     let source = c.requires.source in
     let lists = c.args.thresholds.now in
     record {
-      held = held_by p g source c.in_ok-statements.statements.items c.in_ok-statements.ensures (c.has_few_parts.ensures.0 c.if-not-has_few_parts.false);
+      held = held_by p g source c.in_ok-works.works (ap plain_program c.in_ok-works.ensures.program) c.in_ok-works.ensures.graph;
       ends = ∣ c.requires.ends ∣₁;
       marked = c.in_ok-heads.ensures ∙ ap (λ nodes. heads_of (length nodes) c.get-2.result.now) c.get.ensures ∙ ap (heads_of (length g.nodes)) c.get-2.ensures;
       begun = c.in_ok-entry.ensures;
