@@ -1,11 +1,11 @@
 -- What a layer keeps gives its walks what they ask for, and its posts by what these answer.
 use Rattle.std.proofs.Common.{◌≡◌, ◌≤◌, ℕ, suc, ◌+◌, ◌*◌, ◌-◌, ◌<◌, List, [], ◌∷◌, length, ℤ, Vec, Option, Some, None, refl, sym, ap, subst, ◌∙◌, arith}
-use Rattle.std.specs.Prelude.{slice_get, Contains}
+use Rattle.std.specs.Prelude.{slice_get}
 use Rattle.std.specs.declared.alloc.Global.{Global}
 use Rattle.std.specs.List.{AllByRecursion, AllByRecursion-prop}
 use Rattle.std.proofs.Props.{props}
 use Rattle.std.proofs.Math.Logic.{∥∥₁_elim}
-use Rattle.std.proofs.lemmas.List.{length-map, get_or_default}
+use Rattle.std.proofs.lemmas.List.{length-map}
 use Rattle.std.proofs.lemmas.List.Elements.{All-from_recursion, All-contains}
 use Rattle.cob_data.specs.declared.layout.Layout.{Layout}
 use Rattle.cob_program.specs.Act.{Program}
@@ -13,7 +13,7 @@ use Rattle.cob_graph.specs.declared.graph.Edge.{Edge}
 use Rattle.cob_graph.specs.declared.graph.Graph.{Graph}
 use Rattle.dom_laws.specs.Lattice.{IsElement}
 use Rattle.dom_laws.specs.Flow.{IsEdge, IsNode}
-use Rattle.graph_runs.specs.Places.{no_edge, edge_at}
+use Rattle.graph_runs.specs.Places.{edge_at}
 use Rattle.interval_domain.specs.Rows.{IsRow, element_of}
 use Rattle.cob_graph.specs.declared.homes.Home.{Home}
 use Rattle.cob_graph.specs.Homes.{homes_of}
@@ -145,7 +145,3 @@ module _ (p : Program) (g : Graph) (works : EdgeWorks) (held : ∥ IsHeld p g wo
       let wide = facts.width_is (owns p) row is in
       let many : length (owns p) ≡ length g.cells = length-map (homes_of p) (home_range p.layout) ∙ sym (cells_for_homes p g works held) in
       omega (arith, wide, many, few)
-
--- the edge with a number that counts from 0
-pub numbered : (g : Graph) (e : ℕ) → slice_index_or g.edges (e - 1) no_edge ≡ edge_at g e
-numbered g e = refl

@@ -1,5 +1,5 @@
 //! The walk over the parts of an edge.
-ghost use Rattle.std.specs.Prelude.{◌≡◌, ◌&&◌, ◌||◌, ◌++◌, not, length, List, Some, None, IsTrue, if◌then◌else◌};
+ghost use Rattle.std.specs.Prelude.{◌≡◌, ◌&&◌, ◌||◌, ◌++◌, not, true, length, List, Some, None, IsTrue, if◌then◌else◌};
 ghost use Rattle.std.specs.List.{AllByRecursion};
 ghost use Rattle.cob_program.specs.ActView.{plain_stmt};
 ghost use Rattle.cob_edge_parts.specs.Parts.{is_handled};
