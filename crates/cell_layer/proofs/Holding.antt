@@ -1,11 +1,12 @@
 -- A layer's works are those of its program and graph.
-use Rattle.std.proofs.Common.{◌≡◌, ◌<◌, ℕ, Bool, List, length, sym, ap, subst, ◌∙◌}
-use Rattle.std.specs.Prelude.{ℤ, slice_index_or}
+use Rattle.std.proofs.Common.{◌≡◌, ◌↔◌, ◌<◌, ℕ, ℤ, Bool, true, false, if◌then◌else◌, List, length, Some, None, sym, ap, subst, ◌∙◌}
+use Rattle.std.specs.Prelude.{slice_index_or, IsTrue}
 use Rattle.std.specs.List.{list_all}
 use Rattle.std.proofs.Props.{props}
 use Rattle.std.proofs.Math.Logic.{∥∥₁_elim}
 use Rattle.cob_tree.specs.declared.fault.Kind.{Kind}
-use Rattle.cob_tree.specs.Kinds.{has, kinds_of}
+use Rattle.cob_tree.specs.declared.kinds.Kinds.{Kinds}
+use Rattle.cob_tree.specs.Kinds.{has, kinds_of, every_kind}
 use Rattle.cob_tree.proofs.KindLaws.{has_kinds_of}
 use Rattle.cob_program.specs.ActView.{plain_program}
 use Rattle.cob_program.specs.Act.{Program}
@@ -15,8 +16,9 @@ use Rattle.graph_runs.specs.Places.{no_edge}
 use Rattle.interval_domain.specs.declared.bounds.Interval.{Interval}
 use Rattle.interval_domain.specs.Known.{Known}
 use Rattle.interval_domain.specs.Elements.{CellsFit}
+use Rattle.interval_domain.specs.Rows.{is_reached, cells_of, element_of}
 use Rattle.cell_steps.specs.OwnRanges.{owns}
-use Rattle.cell_laws.specs.Layer.{row_for, edge_cells, leaves_clear}
+use Rattle.cell_laws.specs.Layer.{row_for, edge_cells, leaves_clear, clears_at}
 use Rattle.cell_layer.specs.declared.works.EdgeWorks.{EdgeWorks}
 use Rattle.cell_layer.specs.Held.{IsHeld}
 
@@ -52,3 +54,24 @@ module _ (p : Program) (g : Graph) (works : EdgeWorks) (held : ∥ IsHeld p g wo
   clears_too node cells kind =
       has_kinds_of (clears q h node cells) kind
       ∙ ∥∥₁_elim held (hlevel props) (λ is. ap (λ r. clears r h node cells kind) is.program ∙ ap (λ x. clears p x node cells kind) is.graph)
+
+  -- ---- where a row is reached, and where it isn't
+
+  module _ (node : ℕ) (row : List ℤ) (kind : Kind) (b : Bool) where
+    pub reached_clears : b ≡ true → b ≡ is_reached row → (s : Kinds) → s ≡ kinds_of (clears q h node (cells_of row)) →
+        IsTrue (has s kind) ↔ (clears_at p g node (element_of row) kind ≡ true)
+    reached_clears yes is s e =
+        let there = ap (λ t. has t kind) e ∙ clears_too node (cells_of row) kind in
+        let element = ap (λ r. clears_at p g node (if r then Some (cells_of row) else None) kind) (sym is ∙ yes) in
+        (λ t. element ∙ sym there ∙ t, λ t. there ∙ sym element ∙ t)
+
+    pub unreached_clears : b ≡ false → b ≡ is_reached row → (s : Kinds) → s ≡ every_kind →
+        IsTrue (has s kind) ↔ (clears_at p g node (element_of row) kind ≡ true)
+    unreached_clears no is s e = (
+      λ t. ap (λ r. clears_at p g node (if r then Some (cells_of row) else None) kind) (sym is ∙ no),
+      λ t. ap (λ t. has t kind) e ∙ has_kinds_of (λ _. true) kind,
+    )
+
+pub reached_element : (row out : List ℤ) → out ≡ row → (b : Bool) → b ≡ true → b ≡ is_reached out → element_of row ≡ Some (cells_of out)
+reached_element row out same b yes is =
+    sym (ap element_of same) ∙ ap (λ (r : Bool). if r then Some (cells_of out) else None) (sym is ∙ yes)

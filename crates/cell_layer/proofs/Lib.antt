@@ -26,5 +26,5 @@ pub mod Leaving
 pub mod OwnEdges
 pub mod Filled
 pub mod KindSets
-pub mod Sharing
+pub mod WorkPlaces
 pub mod Holding

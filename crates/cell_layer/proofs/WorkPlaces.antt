@@ -1,13 +1,14 @@
 -- Works that edges share.
-use Rattle.std.proofs.Common.{◌≡◌, ◌≤◌, ◌<◌, ℕ, zero, suc, ◌+◌, List, [], ◌∷◌, ◌++◌, length, Option, Some, None, inl, inr, refl, sym, ap, subst, ◌∙◌, arith}
-use Rattle.std.specs.Prelude.{◌⊎◌, slice_get, slice_index_or, Contains, IfSome}
+use Rattle.std.proofs.Common.{◌≡◌, ◌≤◌, ◌<◌, ℕ, zero, suc, ◌+◌, Bool, true, false, if◌then◌else◌, List, [], ◌∷◌, ◌++◌, length, Option, Some, None, inl, inr, refl, sym, ap, subst, ◌∙◌, arith}
+use Rattle.std.specs.Prelude.{◌⊎◌, slice_get, slice_index_or, option_copied, Contains, IfSome}
+use Rattle.std.specs.Slice.{IsItemAt}
 use Rattle.std.specs.Borrow.{Bor}
 use Rattle.std.specs.List.{All, AllByRecursion}
 use Rattle.std.proofs.Math.Logic.{∥∥₁_elim, ∥∥₁_prop}
 use Rattle.std.proofs.lemmas.Bool.{cases_lt}
 use Rattle.std.proofs.lemmas.List.{get_or_append_left, length-append}
 use Rattle.std.proofs.lemmas.List.Elements.{All-get_or, All-push}
-use Rattle.std.proofs.lemmas.Option.{slice_get_within, get_or_from_slice_get}
+use Rattle.std.proofs.lemmas.Option.{slice_get_past, slice_get_read, slice_get_within, get_or_from_slice_get}
 use Rattle.std.proofs.Math.Seq.{get_or-append_seam}
 use Rattle.cob_program.specs.declared.act.Stmt as declared_stmt
 use Rattle.cob_program.specs.ActView.{plain_stmt}
@@ -32,26 +33,31 @@ use Rattle.cell_layer.proofs.Finding.{found_at, is_left_none}
 found_by : (p : Program) (y : Stmt) → IsFound p y → act_at p (number_in y) ≡ Some (act_in y)
 found_by p (MkStmt n line a) found = found
 
+pub found_if : (p : Program) (works : List EdgeWork) (w : EdgeWork) (b : Bool) → ∥ All (IsOfProgram p) works ∥₁ →
+    ∥ All (IsOfProgram p) (works ++ w ∷ []) ∥₁ → ∥ All (IsOfProgram p) (if b then works ++ w ∷ [] else works) ∥₁
+found_if p works w true before behind = behind
+found_if p works w false before behind = before
+
 module _ (p : Program) (g : Graph) (source : ∥ IsSourceGraph p g ∥₁) (ss : List (Bor declared_stmt.Stmt))
     (listed : ∥ plain_references ss ≡ program_statements p ∥₁) where
   pub one_more_found : (works : List EdgeWork) (w : EdgeWork) (s : Bor declared_stmt.Stmt) → Contains ss s → program_of w ≡ p →
       statement_of w ≡ plain_stmt s.now → ∥ All (IsOfProgram p) works ∥₁ → ∥ All (IsOfProgram p) (works ++ w ∷ []) ∥₁
   one_more_found works w s contained same is all =
       ∥∥₁_elim source ∥∥₁_prop (λ h. ∥∥₁_elim listed ∥∥₁_prop (λ l. ∥∥₁_elim all ∥∥₁_prop (λ each.
-          let found =
-          found_at (IsFound p) ss contained.0 s (subst (AllByRecursion (IsFound p)) (sym l) (listed_is_found p h.whole)) contained.1 contained.2 in
-          ∣ All-push (IsOfProgram p) works w each
-              (record {
-                program = same;
-                found = subst (λ y. act_at p (number_in y) ≡ Some (act_in y)) (sym is) (found_by p (plain_stmt s.now) found);
-              }) ∣₁)))
+      let found =
+      found_at (IsFound p) ss contained.0 s (subst (AllByRecursion (IsFound p)) (sym l) (listed_is_found p h.whole)) contained.1 contained.2 in
+      ∣ All-push (IsOfProgram p) works w each
+      (record {
+        program = same;
+        found = subst (λ y. act_at p (number_in y) ≡ Some (act_in y)) (sym is) (found_by p (plain_stmt s.now) found);
+      }) ∣₁)))
 
   -- ---- places of an edge
 
   pub no_place : (works : List EdgeWork) (x : Edge) → All (λ s. ¬ number_in (plain_stmt s.now) ≡ left g x) ss → ∥ IsPlaceOf p g works x None ∥₁
   no_place works x none =
       ∥∥₁_elim source ∥∥₁_prop (λ h. ∥∥₁_elim listed ∥∥₁_prop (λ l.
-          ∣ record { within = tt; work = record { left = is_left_none p g x ss h.whole l none; program = tt; action = tt } } ∣₁))
+      ∣ record { within = tt; work = record { left = is_left_none p g x ss h.whole l none; program = tt; action = tt } } ∣₁))
 
 module _ (p : Program) (g : Graph) (works : List EdgeWork) (x : Edge) where
   work_here : (w : EdgeWork) → IsOfProgram p w → number_in (statement_of w) ≡ left g x → w.action ≡ x.action → IsWorkOf p g x (Some w)
@@ -111,6 +117,11 @@ module _ (p : Program) (g : Graph) (old new : List EdgeWork) (grown : HasMore ol
           (subst (IsPlaceOf p g new x) (sym at) new_place) ∣₁)
 
 -- ---- the work of an edge
+
+-- what is lent at a place
+pub got : (works : List EdgeWork) (i : ℕ) (r : Option (Bor EdgeWork)) → IsItemAt works i r → slice_get works i ≡ option_copied r
+got works i None lookup = slice_get_past works i lookup.3
+got works i (Some w) lookup = slice_get_read works (length works) i w.now refl lookup.3.0 lookup.1
 
 pub work_at : (p : Program) (g : Graph) (works : List EdgeWork) (places : List (Option ℕ)) (k : ℕ) → ∥ ArePlaces p g works places ∥₁ → k < length g.edges →
     ∥ IsWorkOf p g (slice_index_or g.edges k no_edge) (slice_index_or places k None >>= slice_get works) ∥₁

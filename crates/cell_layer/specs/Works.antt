@@ -48,8 +48,8 @@ pub record IsWorkOf (p : Program) (g : Graph) (x : Edge) (o : Option EdgeWork) :
 pub record StandsAt (works : List EdgeWork) (number : ℕ) (action : Action) (place : ℕ) : Type 0 where
   pub work : EdgeWork
   pub at : slice_get works place ≡ Some work
-  pub number : number_in (statement_of work) ≡ number
-  pub action : work.action ≡ action
+  pub of_statement : number_in (statement_of work) ≡ number
+  pub by_action : work.action ≡ action
 
 -- at the place, if there is one, stands the edge's work
 pub record IsPlaceOf (p : Program) (g : Graph) (works : List EdgeWork) (x : Edge) (place : Option ℕ) : Type 0 where

@@ -6,7 +6,7 @@ ghost use Rattle.cob_tree.specs.Kinds.{kinds_of};
 ghost use Rattle.cob_program.specs.ActView.{plain_program};
 ghost use Rattle.graph_runs.specs.Places.{no_edge};
 ghost use Rattle.interval_domain.specs.Elements.{CellsFit};
-ghost use Rattle.interval_domain.specs.Rows.{IsReached, cells_of, lists_of};
+ghost use Rattle.interval_domain.specs.Rows.{IsReached, cells_of, lists_of, width_of};
 ghost use Rattle.cell_steps.specs.OwnRanges.{owns};
 ghost use Rattle.cell_laws.specs.Layer.{leaves_clear, cell_meaning};
 ghost use Rattle.cell_layer.specs.LayerLaws.{means_by};
@@ -16,7 +16,7 @@ use crate::layer::CellLayer;
 use crate::works::EdgeWorks;
 use cob_graph::Edge;
 use cob_tree::{Kind, Kinds};
-use dom_laws::Layer;
+use dom_laws::{Domain, Layer};
 use interval_domain::is_reached;
 
 /// How many edges leave earlier nodes, where edges stand in the order of their sources.
@@ -66,12 +66,22 @@ fn node_cleared(works: &EdgeWorks, node: u32, row: &[i128], lent: &mut [i128]) -
 impl<'a> Layer for CellLayer<'a> {
     ghost meaning = { λ s. cell_meaning (plain_program s.program.now) s.graph.now };
 
-    fn clears(&self, node: u32, row: &[i128], kind: Kind) -> bool {
+    ghost lent_width = { λ s. width_of (owns (plain_program s.program.now)) };
+
+    fn lent_words(&self) -> usize {
+        self.words()
+    }
+
+    fn cleared(&self, node: u32, row: &[i128], lent: &mut [i128]) -> Kinds {
         if !is_reached(row) {
-            return true;
+            return Kinds::all();
         }
+        node_cleared(&self.works, node, row, lent)
+    }
+
+    fn clears(&self, node: u32, row: &[i128], kind: Kind) -> bool {
         let mut words = [0; 1025];
-        node_cleared(&self.works, node, row, &mut words[..row.len()]).has(kind)
+        self.cleared(node, row, &mut words[..row.len()]).has(kind)
     }
 
     ghost means = { λ s. means_by (plain_program s.program.now) s.graph.now (lists_of s.thresholds.now) };

@@ -1,5 +1,6 @@
 //! What edges make of rows, in place, and the kinds of faults that they clear.
-ghost use Rattle.std.specs.Prelude.{◌≡◌, ◌≤◌, ◌<◌, ◌&&◌, not, if◌then◌else◌, length, slice_index_or, Some, None};
+ghost use Rattle.std.specs.Prelude.{◌≡◌, ◌≤◌, ◌<◌, ◌&&◌, not, if◌then◌else◌, true, false, length, slice_index_or, Some, None};
+ghost use Rattle.std.specs.List.{AllByRecursion};
 ghost use Rattle.cob_tree.specs.Kinds.{kinds_of};
 ghost use Rattle.cob_program.specs.ActView.{plain_program};
 ghost use Rattle.cob_edge_parts.specs.Parts.{has_phrase, is_handled};
@@ -8,8 +9,13 @@ ghost use Rattle.interval_domain.specs.Rows.{IsReached, cells_of, row_from, widt
 ghost use Rattle.graph_runs.specs.Places.{no_edge};
 ghost use Rattle.cell_steps.specs.OwnRanges.{owns};
 ghost use Rattle.cell_laws.specs.Layer.{row_for, edge_cells, edge_clears};
+ghost use Rattle.cell_laws.specs.Sizes.{IsSmallPart};
+ghost use Rattle.cell_layer.specs.ProgramRows.{IsRowOf};
+ghost use Rattle.cell_layer.specs.SmallCells.{has_small_cells};
+ghost use Rattle.cell_layer.specs.Kept.{seen};
+ghost use Rattle.cell_layer.specs.Walks.{steps_small, clears_all_small, CanStep};
 ghost use Rattle.cell_layer.specs.Edges.{CanWalk, statement_post, statement_clears};
-ghost use Rattle.cell_layer.specs.Works.{program_of, statement_of, act_of};
+ghost use Rattle.cell_layer.specs.Works.{program_of, statement_of, act_of, parts_in};
 
 use crate::edge_walk::walk_part;
 use crate::kept::Kept;
@@ -49,6 +55,26 @@ fn finish(work: &EdgeWork, any_fail: bool, row: &mut [i128])
     }
 }
 
+// leads a row over all parts of an edge; answers false where no run passes them
+fn walk_parts(cells: &[Cell], work: &EdgeWork, row: &mut [i128], kept: &mut Kept) -> bool
+    requires row { IsRowOf (program_of work.now) cells.now row.old }
+    requires small_cells { has_small_cells (program_of work.now) ≡ true }
+    requires small { AllByRecursion (IsSmallPart (program_of work.now) (act_of work.now) work.now.action) (parts_in work.now) }
+    requires can { CanStep (program_of work.now) (act_of work.now) work.now.action (seen row.old kept.old) }
+    ensures on { result ≡ true → steps_small (program_of work.now) (act_of work.now) work.now.action (parts_in work.now) (seen row.old kept.old)
+        ≡ Some (seen row.new kept.new) }
+    ensures off { result ≡ false → steps_small (program_of work.now) (act_of work.now) work.now.action (parts_in work.now) (seen row.old kept.old)
+        ≡ None }
+    ensures row { IsRowOf (program_of work.now) cells.now row.new }
+{
+    for part in work.parts.as_slice() {
+        if !walk_part(cells, work, *part, row, kept) {
+            return false;
+        }
+    }
+    true
+}
+
 // makes of a row what an edge makes of it
 fn walk_edge(cells: &[Cell], work: &EdgeWork, row: &mut [i128])
     requires { CanWalk (program_of work.now) cells.now (statement_of work.now) work.now.action row.old }
@@ -56,25 +82,26 @@ fn walk_edge(cells: &[Cell], work: &EdgeWork, row: &mut [i128])
         (statement_post (program_of work.now) (statement_of work.now) work.now.action (cells_of row.old)) }
 {
     let mut kept = Kept::new();
-    for part in work.parts.as_slice() {
-        if !walk_part(cells, work, *part, row, &mut kept) {
-            set_unreached(row);
-            return;
-        }
+    if walk_parts(cells, work, row, &mut kept) {
+        finish(work, kept.any_fail, row);
+    } else {
+        set_unreached(row);
     }
-    finish(work, kept.any_fail, row);
 }
 
-// the kinds of faults that no part of an edge meets; what is left of the row isn't told
-fn walk_cleared(cells: &[Cell], work: &EdgeWork, row: &mut [i128]) -> Kinds
-    requires { CanWalk (program_of work.now) cells.now (statement_of work.now) work.now.action row.old }
-    ensures { result ≡ kinds_of (statement_clears (program_of work.now) (statement_of work.now) work.now.action (cells_of row.old)) }
+// the kinds of faults that no part of an edge meets, each on what those before it left
+fn parts_cleared(cells: &[Cell], work: &EdgeWork, row: &mut [i128], kept: &mut Kept) -> Kinds
+    requires row { IsRowOf (program_of work.now) cells.now row.old }
+    requires small_cells { has_small_cells (program_of work.now) ≡ true }
+    requires small { AllByRecursion (IsSmallPart (program_of work.now) (act_of work.now) work.now.action) (parts_in work.now) }
+    requires can { CanStep (program_of work.now) (act_of work.now) work.now.action (seen row.old kept.old) }
+    ensures { result ≡ kinds_of (clears_all_small (program_of work.now) (act_of work.now) work.now.action (parts_in work.now)
+        (seen row.old kept.old)) }
 {
-    let mut kept = Kept::new();
     let mut cleared = Kinds::all();
     for part in work.parts.as_slice() {
-        cleared = cleared.both(cleared_by_part(cells, work, *part, row, &kept));
-        if !walk_part(cells, work, *part, row, &mut kept) {
+        cleared = cleared.both(cleared_by_part(cells, work, *part, row, kept));
+        if !walk_part(cells, work, *part, row, kept) {
             return cleared;
         }
     }
@@ -88,7 +115,7 @@ pub fn cleared_by_edge(cells: &[Cell], work: &EdgeWork, row: &[i128], lent: &mut
     ensures { result ≡ kinds_of (statement_clears (program_of work.now) (statement_of work.now) work.now.action (cells_of row.now)) }
 {
     lent.copy_from_slice(row);
-    walk_cleared(cells, work, lent)
+    parts_cleared(cells, work, lent, &mut Kept::new())
 }
 
 // ---- edges of a graph, by their numbers, which count from 0
@@ -102,8 +129,9 @@ pub(crate) fn post_edge(works: &EdgeWorks, at: usize, row: &mut [i128])
         (edge_cells (plain_program works.now.program.now) works.now.graph.now
         (slice_index_or works.now.graph.now.edges at no_edge) (cells_of row.old)) }
 {
-    if let Some(work) = works.at(at) {
-        walk_edge(works.graph.cells.get(), work, row);
+    match works.at(at) {
+        Some(work) => walk_edge(works.graph.cells.get(), work, row),
+        None => {}
     }
 }
 

@@ -32,7 +32,7 @@ pub(crate) struct Sharing<'a> {
     guesses: Guesses,
     pub works: Vec<EdgeWork<'a>>,
     ghost source: { ∥ IsSourceGraph (plain_program program.now) graph.now ∥₁ },
-    ghost listed: { plain_references statements.items ≡ program_statements (plain_program program.now) },
+    ghost listed: { ∥ plain_references statements.items ≡ program_statements (plain_program program.now) ∥₁ },
     ghost found: { ∥ All (IsOfProgram (plain_program program.now)) works.items ∥₁ },
 }
 
@@ -106,7 +106,7 @@ impl<'a> Sharing<'a> {
             return Ok(Some(place));
         }
         match statement_with(self.statements.as_slice(), number) {
-            Some(statement) => self.add(alloc, statement, edge.action).map(Some),
+            Some(statement) => Ok(Some(self.add(alloc, statement, edge.action)?)),
             None => Ok(None),
         }
     }

@@ -1,5 +1,5 @@
 //! The works of all edges of a program's graph.
-ghost use Rattle.std.specs.Prelude.{◌≡◌, ◌<◌, length, slice_index_or, option_copied, IfOk, IfSome};
+ghost use Rattle.std.specs.Prelude.{◌≡◌, ◌<◌, length, slice_index_or, option_copied, IfOk, None};
 ghost use Rattle.cob_program.specs.ActView.{plain_program};
 ghost use Rattle.graph_runs.specs.Places.{no_edge};
 ghost use Rattle.graph_runs.specs.Sources.{IsSourceGraph};
@@ -48,13 +48,21 @@ impl<'a> EdgeWorks<'a> {
         })
     }
 
+    // the place of the work of an edge
+    fn place(&self, at: usize) -> Option<usize>
+        requires { at < length self.now.graph.now.edges }
+        ensures { result ≡ slice_index_or self.now.places.items at None }
+    {
+        self.places.as_slice()[at]
+    }
+
     /// What the edge does whose number, counted from 0, this is; none, if the program has no statement that it leaves.
     pub fn at(&self, at: usize) -> Option<&EdgeWork<'a>>
         requires { at < length self.now.graph.now.edges }
         ensures { ∥ IsWorkOf (plain_program self.now.program.now) self.now.graph.now
             (slice_index_or self.now.graph.now.edges at no_edge) (option_copied result) ∥₁ }
     {
-        match self.places.as_slice()[at] {
+        match self.place(at) {
             Some(place) => self.works.as_slice().get(place),
             None => None,
         }

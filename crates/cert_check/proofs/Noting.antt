@@ -7,7 +7,7 @@ use Rattle.std.proofs.lemmas.List.{length-set, get_or-set_same, get_or-set_other
 use Rattle.cob_tree.specs.declared.fault.Kind.{Kind}
 use Rattle.cob_tree.specs.declared.fault.Open.{Open}
 use Rattle.cob_tree.specs.declared.kinds.Kinds.{Kinds}
-use Rattle.cob_tree.specs.Kinds.{has, kinds_of, every_kind, both, put, tested}
+use Rattle.cob_tree.specs.Kinds.{has, kinds_of, every_kind, both}
 use Rattle.cob_tree.proofs.KindLaws.{has_kinds_of, same_kinds}
 use Rattle.cob_graph.specs.declared.graph.Graph.{Graph}
 use Rattle.cob_program.proofs.Loops.{item_step, added}
@@ -85,21 +85,12 @@ flat_more f first (suc count) j e =
 
 -- ---- one kind after another
 
-pub tested_next : (test : Kind → Bool) (kinds : List Kind) (i : ℕ) (s t r : Kinds) (x : Kind) (b : Bool) → i < length kinds → x ≡ get_or kinds i x →
-    b ≡ test x → t ≡ put s x b → tested test s (drop i kinds) ≡ r → tested test t (drop (i + 1) kinds) ≡ r
-tested_next test kinds i s t r x b within is told made so_far =
-    ap (λ u. tested test u (drop (i + 1) kinds)) (made ∙ ap (put s x) told)
-    ∙ sym (ap (tested test s) (item_step kinds i x within is)) ∙ so_far
-
 pub pushed_kind : (new old : List Open) (cleared : Kinds) (statement : ℕ) (kinds : List Kind) (i : ℕ) (x : Kind) (b : Bool) (all : List Open) →
     i < length kinds → x ≡ get_or kinds i x → b ≡ has cleared x → new ≡ old ++ if_open b statement x →
     old ++ left_of cleared statement (drop i kinds) ≡ all → new ++ left_of cleared statement (drop (i + 1) kinds) ≡ all
 pushed_kind new old cleared statement kinds i x b all within is told grown whole =
     added old new (if_open (has cleared x) statement x) (left_of cleared statement (drop (i + 1) kinds)) all (left_of cleared statement (drop i kinds))
     (grown ∙ ap (λ y. old ++ if_open y statement x) told) (ap (left_of cleared statement) (item_step kinds i x within is)) whole
-
-pub tested_done : (test : Kind → Bool) (left : List Kind) (s r : Kinds) → left ≡ [] → tested test s left ≡ r → s ≡ r
-tested_done test left s r none so_far = sym (ap (tested test s) none) ∙ so_far
 
 -- ---- one more node
 

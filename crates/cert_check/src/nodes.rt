@@ -1,5 +1,5 @@
 //! The faults that some node of a statement doesn't clear.
-ghost use Rattle.std.specs.Prelude.{◌≡◌, ◌≤◌, ◌<◌, ℕ, Bool, length, IfOk};
+ghost use Rattle.std.specs.Prelude.{◌≡◌, ◌≤◌, ℕ, Bool, length, IfOk};
 ghost use Rattle.cob_tree.specs.declared.fault.Kind.{Kind};
 ghost use Rattle.dom_laws.specs.Flow.{IsNode};
 ghost use Rattle.dom_laws.specs.Leaks.{HasElements};
@@ -10,34 +10,20 @@ ghost use Rattle.cert_check.specs.Clearing.{AreClearedTo, TestsTell};
 
 use crate::cleared::{note, push_left_open};
 use cob_graph::Graph;
-use cob_tree::{Kind, Kinds, Open, all_kinds};
+use cob_tree::{Kinds, Open};
 use dom_laws::{Layer, Rows};
 use std::alloc::{AllocError, Global};
 
-// Whether a node clears a fault.
-fn clears<L: Layer, R: Rows>(layer: &L, rows: &R, node: u32, fault: Kind) -> bool
+// What a node clears. What the lent row holds is lost.
+fn clears_all<L: Layer, R: Rows>(layer: &L, rows: &R, node: u32, lent: &mut [i128]) -> Kinds
     requires count { (L.flow layer.now).nodes ≤ R.count rows.now }
     requires rows { HasElements (L.lattice layer.now) (L.flow layer.now) (R.row_at rows.now) }
     requires node { IsNode (L.flow layer.now) node }
-    ensures { (clears : ℕ → Kind → Bool) → TestsTell (L.flow layer.now) (L.meaning layer.now) (R.row_at rows.now) clears
-        → result ≡ clears node fault }
-{
-    layer.clears(node, rows.row(node), fault)
-}
-
-// What a node clears.
-fn clears_all<L: Layer, R: Rows>(layer: &L, rows: &R, node: u32) -> Kinds
-    requires count { (L.flow layer.now).nodes ≤ R.count rows.now }
-    requires rows { HasElements (L.lattice layer.now) (L.flow layer.now) (R.row_at rows.now) }
-    requires node { IsNode (L.flow layer.now) node }
+    requires lent { length lent.old ≡ L.lent_width layer.now }
     ensures { (clears : ℕ → Kind → Bool) → TestsTell (L.flow layer.now) (L.meaning layer.now) (R.row_at rows.now) clears
         → result ≡ kinds_of (clears node) }
 {
-    let mut cleared = Kinds::all();
-    for kind in all_kinds() {
-        cleared = cleared.put(kind, clears(layer, rows, node, kind));
-    }
-    cleared
+    layer.cleared(node, rows.row(node), lent)
 }
 
 // The number of a node's statement.
@@ -51,17 +37,24 @@ fn statement_at(graph: &Graph, node: u32) -> u32
     }
 }
 
-// Notes at each statement what all its nodes clear.
-fn note_nodes<L: Layer, R: Rows>(layer: &L, rows: &R, graph: &Graph, noted: &mut [Kinds])
+// Notes at each statement what all its nodes clear. What the lent row holds is lost.
+fn note_nodes<L: Layer, R: Rows>(
+    layer: &L,
+    rows: &R,
+    graph: &Graph,
+    lent: &mut [i128],
+    noted: &mut [Kinds],
+)
     requires nodes { (L.flow layer.now).nodes ≡ length graph.now.nodes }
     requires count { (L.flow layer.now).nodes ≤ R.count rows.now }
     requires rows { HasElements (L.lattice layer.now) (L.flow layer.now) (R.row_at rows.now) }
+    requires lent { length lent.old ≡ L.lent_width layer.now }
     requires none { (clears : ℕ → Kind → Bool) → AreClearedTo graph.now clears 0 noted.old }
     ensures { (clears : ℕ → Kind → Bool) → TestsTell (L.flow layer.now) (L.meaning layer.now) (R.row_at rows.now) clears
         → AreClearedTo graph.now clears (length graph.now.nodes) noted.new }
 {
     for k in 0..layer.nodes() {
-        let cleared = clears_all(layer, rows, k + 1);
+        let cleared = clears_all(layer, rows, k + 1, lent);
         note(noted, statement_at(graph, k + 1), cleared);
     }
 }
@@ -83,7 +76,14 @@ fn cleared<L: Layer, R: Rows>(
         → AreClearedTo graph.now clears (length graph.now.nodes) noted.items) }
 {
     let mut noted = vec![in alloc; Kinds::all(); statements as usize]?;
-    note_nodes(layer, rows, graph, noted.as_mut_slice());
+    let mut lent = vec![in alloc; 0; layer.lent_words()]?;
+    note_nodes(
+        layer,
+        rows,
+        graph,
+        lent.as_mut_slice(),
+        noted.as_mut_slice(),
+    );
     Ok(noted)
 }
 

@@ -1,16 +1,11 @@
 -- What the work of an edge of a source's graph gives a walk with packs.
-use Rattle.std.proofs.Common.{◌≡◌, ℕ, List, Some, sym, subst}
-use Rattle.std.specs.Coded.{Unit-prop}
-use Rattle.std.specs.List.{AllByRecursion, AllByRecursion-prop}
-use Rattle.std.proofs.Props.{props}
-use Rattle.std.proofs.Math.Logic.{∥∥₁_elim, ∥∥₁_prop}
-use Rattle.cob_data.specs.declared.layout.Layout.{Layout}
+use Rattle.std.proofs.Common.{List, Some, sym, subst}
+use Rattle.std.specs.List.{AllByRecursion}
+use Rattle.std.proofs.Math.Logic.{∥∥₁_elim}
 use Rattle.cob_program.specs.Act.{Stmt, MkStmt, Act, Program}
 use Rattle.cob_runs.specs.declared.action.Action.{Action}
 use Rattle.cob_graph.specs.declared.graph.Edge.{Edge}
 use Rattle.cob_graph.specs.declared.graph.Graph.{Graph}
-use Rattle.cob_graph.specs.declared.homes.Home.{Home}
-use Rattle.cob_edge_parts.specs.Parts.{Part, read, unread, divide, store, bytes_in, guard, read_count, set_count, count_down, guard_count}
 use Rattle.edge_amounts.specs.PartView.{edge_parts}
 use Rattle.edge_amounts.specs.declared.work.EdgeWork.{EdgeWork}
 use Rattle.graph_runs.specs.Sources.{IsSourceGraph}
@@ -19,32 +14,10 @@ use Rattle.cell_layer.specs.NumberedStatements.{act_in}
 use Rattle.cell_layer.specs.Works.{program_of, statement_of, act_of, IsLeft, IsWorkOf}
 use Rattle.diff_layer.specs.declared.plans.PackPlan.{PackPlan}
 use Rattle.diff_layer.specs.Parts.{IsOfEdge}
-use Rattle.diff_layer.specs.Plans.{plain_plan, IsShortHome, IsPlanOf, ArePlansOf}
+use Rattle.diff_layer.specs.AtMostOne.{all_of_edge_prop, plans_prop}
+use Rattle.diff_layer.specs.Plans.{ArePlansOf}
 use Rattle.diff_layer.specs.Works.{parts_of_edge}
 use Rattle.diff_layer.proofs.SourceOperands.{operands_of_sources}
-
--- ---- what has one proof at most
-
-pub of_edge_prop : (p : Program) (a : Act) (x : Action) (y : Part) → IsProp (IsOfEdge p a x y)
-of_edge_prop p a x (store place mode y) = hlevel props
-of_edge_prop p a x (set_count n y) = ∥∥₁_prop
-of_edge_prop p a x (read place) = Unit-prop
-of_edge_prop p a x unread = Unit-prop
-of_edge_prop p a x (divide d) = Unit-prop
-of_edge_prop p a x (bytes_in offset count) = Unit-prop
-of_edge_prop p a x (guard t wanted) = Unit-prop
-of_edge_prop p a x (read_count n) = Unit-prop
-of_edge_prop p a x (count_down n) = Unit-prop
-of_edge_prop p a x (guard_count n wanted) = Unit-prop
-
-short_prop : (l : Layout) (h : Home) → IsProp (IsShortHome l h)
-short_prop l h = hlevel props
-
-shorts_prop : (l : Layout) (hs : List Home) → IsProp (AllByRecursion (IsShortHome l) hs)
-shorts_prop l hs = AllByRecursion-prop (IsShortHome l) (short_prop l) hs
-
-plan_prop : (p : Program) (plan : PackPlan) → IsProp (IsPlanOf p plan)
-plan_prop p plan = hlevel (props, shorts_prop)
 
 -- ---- an edge of a source's graph
 
@@ -60,10 +33,10 @@ module _ (p : Program) (g : Graph) (x : Edge) (w : EdgeWork) (work : ∥ IsWorkO
   -- The operands of an edge's stores are the edge's own, and can be worked with.
   pub of_edge : ∥ IsSourceGraph p g ∥₁ → AllByRecursion (IsOfEdge (program_of w) (act_of w) w.action) (parts_of_edge w)
   of_edge source =
-      let one = AllByRecursion-prop (IsOfEdge (program_of w) (act_of w) w.action) (of_edge_prop (program_of w) (act_of w) w.action) (parts_of_edge w) in
+      let one = all_of_edge_prop (program_of w) (act_of w) w.action (parts_of_edge w) in
       ∥∥₁_elim source one
       (λ s. ∥∥₁_elim work one (λ is. subst (λ q. AreOf q w.action) (sym is.program) (subst (AreOf p) (sym is.action) (of_statement p g x s (statement_of w) is.left))))
 
   pub plans_of_work : (plans : List PackPlan) → ArePlansOf p plans → ArePlansOf (program_of w) plans
   plans_of_work plans all =
-      ∥∥₁_elim work (AllByRecursion-prop (IsPlanOf (program_of w)) (plan_prop (program_of w)) plans) (λ is. subst (λ q. ArePlansOf q plans) (sym is.program) all)
+      ∥∥₁_elim work (plans_prop (program_of w) plans) (λ is. subst (λ q. ArePlansOf q plans) (sym is.program) all)

@@ -103,6 +103,14 @@ module _ (p : Program) (g : Graph) (works : EdgeWorks) (held : ∥ IsHeld p g wo
           (are_matrices (packs_of p packs) lists its row is);
     }
 
+    pub few_words_in : length packs ≤ 32 → (diff_lattice (packs_of p packs) lists).width ≤ 2592
+    few_words_in few =
+        let sizes = sizes_of (packs_of p packs) in
+        let most = few_words sizes (small_sizes (packs_of p packs) its.few) in
+        let many : length sizes ≡ length packs = length-map (packs_of p packs) size_of ∙ length-map packs _ in
+        let wide = width_is sizes lists (its.listed ∙ sym (length-map (packs_of p packs) size_of)) in
+        omega (arith, most, many, wide, few)
+
     pub few_in : (row : List ℤ) → length packs ≤ 32 → IsElement (diff_lattice (packs_of p packs) lists) row → length row ≤ 2592
     few_in row few is =
         let sizes = sizes_of (packs_of p packs) in
@@ -139,6 +147,12 @@ module _ (p : Program) (g : Graph) (works : EdgeWorks) (held : ∥ IsHeld p g wo
           ∙ at_edge
 
   -- ---- facts
+
+  pub fact_width : (row : List ℤ) → IsRow (owns p) row → length row ≡ 2 * length g.cells + 1
+  fact_width row is =
+      let wide = facts.width_is (owns p) row is in
+      let many : length (owns p) ≡ length g.cells = length-map (homes_of p) (home_range p.layout) ∙ sym (cells_for_homes p g works held) in
+      omega (arith, wide, many)
 
   pub few_facts : length g.cells ≤ most_cells → (row : List ℤ) → IsRow (owns p) row → length row ≤ 1025
   few_facts few row is =

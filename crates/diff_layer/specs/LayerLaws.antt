@@ -33,6 +33,7 @@ use Rattle.pack_laws.proofs.Meaning.{packs_mean}
 use Rattle.pack_laws.specs.Packs.{packs_of, AreRisingNumbers, ArePacksOfCells}
 use Rattle.pack_laws.proofs.Distinct.{homes_of_sources_are_distinct}
 use Rattle.pack_laws.proofs.Packed.{HasDistinctHomes, are_packs}
+use Rattle.diff_layer.specs.AtMostOne.{cells_prop}
 
 -- ---- what has one proof at most
 
@@ -44,16 +45,6 @@ packs_prop count packs = AllByRecursion-prop (λ (pack : declared.Pack). AreRisi
 
 thresholds_prop : (ts : List ℤ) → IsProp (AreThresholds ts)
 thresholds_prop ts = hlevel props
-
-known_prop : (own : Interval) (c : Known) → IsProp (KnownFits own c)
-known_prop own None = Unit-prop
-known_prop own (Some i) = hlevel props
-
-cells_prop : (owns_ : List Interval) (cs : List Known) → IsProp (CellsFit owns_ cs)
-cells_prop [] [] = Unit-prop
-cells_prop [] (c ∷ cs) = λ a b. absurd a
-cells_prop (own ∷ owns_) [] = λ a b. absurd a
-cells_prop (own ∷ owns_) (c ∷ cs) = ×_prop (known_prop own c) (cells_prop owns_ cs)
 
 element_prop : (owns_ : List Interval) (e : Element) → IsProp (ElementFits owns_ e)
 element_prop owns_ None = Unit-prop

@@ -14,10 +14,14 @@ pub mod Writing
 pub mod Works
 pub mod Changes
 pub mod Parts
+pub mod AtMostOne
+pub mod Passed
+pub mod Moments
 pub mod Ends
 pub mod Clears
 pub mod Closed
 pub mod Walks
 pub mod Planning
 pub mod Edges
+pub mod GraphWorks
 pub mod LayerLaws

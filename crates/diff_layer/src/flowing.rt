@@ -7,6 +7,7 @@ ghost use Rattle.diff_layer.specs.LayerLaws.{flows_by};
 
 use crate::edges::passes_edge;
 use crate::layer::DiffLayer;
+use crate::pack_works::PackWorks;
 use cell_layer::{edge_with, is_marked};
 use diff_bounds::set_least;
 use dom_laws::{Rows, Steps, System};
@@ -44,13 +45,11 @@ impl<'a, R: Rows> System for DiffLayer<'a, R> {
         steps.tick();
         out.copy_from_slice(from);
         let source = edge_with(self.graph.edges.get(), edge).from;
-        let passes = passes_edge(
-            &self.works,
-            self.plans.as_slice(),
-            edge as usize - 1,
-            self.facts.row(source),
-            out,
-        );
+        let edges = PackWorks {
+            works: &self.works,
+            plans: self.plans.as_slice(),
+        };
+        let passes = passes_edge(&edges, edge as usize - 1, self.facts.row(source), out);
         if !passes {
             set_least(self.sizes.as_slice(), self.thresholds, out);
         }

@@ -1,11 +1,13 @@
 //! The traits of rows, domains, systems and layers, with their laws.
 ghost use Rattle.std.specs.Prelude.{◌≡◌, ℕ, ◌+◌, ◌≤◌, List, ℤ, length, IsTrue, false, ◌↔◌};
+ghost use Rattle.cob_tree.specs.declared.fault.Kind.{Kind};
+ghost use Rattle.cob_tree.specs.Kinds.{has};
 ghost use Rattle.dom_laws.specs.Lattice.{Lattice, IsElement, IsLattice};
 ghost use Rattle.dom_laws.specs.Flow.{Flow, IsNode, IsEdge, IsHead, IsFlow};
 ghost use Rattle.dom_laws.specs.Meaning.{Meaning, IsMeaning};
 
 use super::counter::Steps;
-use cob_tree::Kind;
+use cob_tree::{Kind, Kinds};
 use std::sync::ledger::Ledger;
 
 /// A row for each of some nodes.
@@ -103,6 +105,19 @@ pub trait System: Domain {
 /// A system whose rows stand for storages of a program.
 pub trait Layer: System {
     ghost meaning: { Self → Meaning };
+
+    /// How many words a row has that is lent to `cleared`.
+    ghost lent_width: { Self → ℕ };
+
+    fn lent_words(&self) -> usize
+        ensures { result ≡ lent_width self.now };
+
+    /// The kinds of faults that the row shows the node not to meet. What the lent row holds is lost.
+    fn cleared(&self, node: u32, row: &[i128], lent: &mut [i128]) -> Kinds
+        requires node { IsNode (Self.flow self.now) node }
+        requires row { IsElement (Self.lattice self.now) row.now }
+        requires lent { length lent.old ≡ lent_width self.now }
+        ensures { (kind : Kind) → IsTrue (has result kind) ↔ (meaning self.now).Clears node row.now kind };
 
     /// Whether the row shows that the node meets no fault of this kind.
     fn clears(&self, node: u32, row: &[i128], kind: Kind) -> bool

@@ -5,8 +5,8 @@ use Rattle.edge_amounts.specs.PartView.{plain_part}
 use Rattle.cell_layer.proofs.Stepping.{small_part}
 use Rattle.cell_layer.proofs.edge_walk.step.Goals as goal
 
-pub walk_part-requires-clause-small : goal.walk_part-requires-clause-small
-walk_part-requires-clause-small c =
+pub pass_part-requires-clause-small : goal.pass_part-requires-clause-small
+pass_part-requires-clause-small c =
     let x = c.args in
     small_part (plain_program x.program.now) x.action x.statement.now x.part (plain_part c.in-Some.found) c.requires.small
     (sym c.part_at.ensures ∙ ap (option_map plain_part) c.in-Some.is)

@@ -1,27 +1,18 @@
-use Rattle.std.proofs.Common.{◌≡◌, ◌<◌, ◌≤◌, length, ap, arith}
-use Rattle.std.proofs.lemmas.List.{get_or_default, drop_all}
-use Rattle.cob_tree.specs.declared.fault.Kind.TheVariants.{Size}
-use Rattle.cob_tree.specs.Kinds.{tested}
-use Rattle.cert_check.proofs.Noting.{tested_next, tested_done}
+use Rattle.std.proofs.Common.{subst, sym, ◌∙◌}
+use Rattle.cob_tree.specs.Kinds.{has, kinds_of}
+use Rattle.cob_tree.proofs.KindLaws.{has_kinds_of, same_kinds}
+use Rattle.dom_laws.specs.Lattice.{IsElement}
+use Rattle.cert_check.proofs.Asking.{clears_tell}
 use Rattle.cert_check.proofs.nodes.clears_all.Goals as goal
 
-pub loop-kind-init : goal.loop-kind-init
-loop-kind-init g c = λ clears tell. ap (tested (clears c.args.node) c.all-cleared.result) c.all_kinds-kind-items.ensures
-
-pub loop-kind-preserved : goal.loop-kind-preserved
-loop-kind-preserved g c = λ clears tell.
-    let items = c.all_kinds-kind-items.result in
-    let count : length c.all_kinds-kind-items.result ≡ 4 = ap length c.all_kinds-kind-items.ensures in
-    let test = c.loop-kind-test.true in
-    let within : c.loop-kind.kind-index < length c.all_kinds-kind-items.result = omega (arith, count, test) in
-    tested_next (clears c.args.node) items c.loop-kind.kind-index c.loop-kind.cleared _ _ _ c.clears.result within
-    (get_or_default items c.loop-kind.kind-index Size _ within) (c.clears.ensures clears tell) c.put-cleared.ensures
-    (c.loop-kind.invariant clears tell)
+pub cleared-requires-clause-row : goal.cleared-requires-clause-row
+cleared-requires-clause-row g c =
+    subst (IsElement (g.L.Domain.lattice c.args.layer.now)) (sym c.row.ensures) (c.requires.rows c.args.node c.requires.node)
 
 pub returns : goal.returns
 returns g c = λ clears tell.
-    let count : length c.all_kinds-kind-items.result ≡ 4 = ap length c.all_kinds-kind-items.ensures in
-    let test = c.loop-kind-test.false in
-    let over : length c.all_kinds-kind-items.result ≤ c.loop-kind.kind-index = omega (arith, count, test) in
-    tested_done (clears c.args.node) _ c.loop-kind.cleared _ (drop_all c.loop-kind.kind-index c.all_kinds-kind-items.result over)
-    (c.loop-kind.invariant clears tell)
+    let node = c.args.node in
+    same_kinds c.cleared.result (kinds_of (clears node)) (λ kind.
+        clears_tell (has c.cleared.result kind) (clears node kind) (λ row. (g.L.Layer.meaning c.args.layer.now).Clears node row kind)
+        c.row.result.now (g.R.Rows.row_at c.args.rows.now node) c.row.ensures (c.cleared.ensures kind) (tell node kind c.requires.node)
+        ∙ sym (has_kinds_of (clears node) kind))

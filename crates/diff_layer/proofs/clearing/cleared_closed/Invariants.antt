@@ -5,4 +5,4 @@ use Rattle.diff_layer.proofs.clearing.cleared_closed.Given as goal
 
 abbrev pub invariant-loop-part : goal.invariant-loop-part
 invariant-loop-part l =
-    IsClearedTo l.work l.cells l.plans (cells_of l.initial.row) (matrices_for l.plans l.initial.out) l.all l.part-index l.row l.before l.kept l.written l.out
+    IsClearedTo l.edge (cells_of l.initial.row) (matrices_for l.edge.plans.now l.initial.out) l.all l.part-index l.row l.before l.state l.out

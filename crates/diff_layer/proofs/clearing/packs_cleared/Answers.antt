@@ -10,19 +10,19 @@ use Rattle.diff_layer.proofs.clearing.packs_cleared.Goals as goal
 pub returns-else-not-close_all : goal.returns-else-not-close_all
 returns-else-not-close_all c =
     let x = c.args in
-    let w = x.work.now in
+    let w = x.edge.now.work.now in
     let closes : c.close_all.result ≡ true = search rules in
     c.cleared_closed.ensures
     ∙ sym
-    (ap (λ o. kinds_of (λ fault. option_map_or (closed_clears (program_of w) (plain_plans x.plans.now) (statement_of w) w.action (cells_of x.row.now) fault) o true))
-    (c.close_all.ensures.closed ∙ ap (λ b. if b then Some (matrices_for x.plans.now c.close_all.new.out) else None) closes))
+    (ap (λ o. kinds_of (λ fault. option_map_or (closed_clears (program_of w) (plain_plans x.edge.now.plans.now) (statement_of w) w.action (cells_of x.row.now) fault) o true))
+    (c.close_all.ensures.closed ∙ ap (λ b. if b then Some (matrices_for x.edge.now.plans.now c.close_all.new.out) else None) closes))
 
 pub returns-then-not-close_all : goal.returns-then-not-close_all
 returns-then-not-close_all c =
     let x = c.args in
-    let w = x.work.now in
+    let w = x.edge.now.work.now in
     let closes : c.close_all.result ≡ false = search rules in
     c.all.ensures
     ∙ sym
-    (ap (λ o. kinds_of (λ fault. option_map_or (closed_clears (program_of w) (plain_plans x.plans.now) (statement_of w) w.action (cells_of x.row.now) fault) o true))
-    (c.close_all.ensures.closed ∙ ap (λ b. if b then Some (matrices_for x.plans.now c.close_all.new.out) else None) closes))
+    (ap (λ o. kinds_of (λ fault. option_map_or (closed_clears (program_of w) (plain_plans x.edge.now.plans.now) (statement_of w) w.action (cells_of x.row.now) fault) o true))
+    (c.close_all.ensures.closed ∙ ap (λ b. if b then Some (matrices_for x.edge.now.plans.now c.close_all.new.out) else None) closes))

@@ -49,12 +49,14 @@ passes_edge-passes-requires-clause-edge g c =
     let last = c.requires.edge.last in
     edges_too (plain_program s.program.now) s.graph.now s.works s.held (c.args.edge - 1) (omega (arith, first, last))
 
-pub passes_edge-passes-requires-clause-plans : goal.passes_edge-passes-requires-clause-plans
-passes_edge-passes-requires-clause-plans g c =
+pub invariant_of-edges : goal.invariant_of-edges
+invariant_of-edges g c =
     let s = c.args.self.now in
     let p = plain_program s.program.now in
-    subst (ArePlansOf (plain_program s.works.program.now)) (sym c.as_slice.ensures.value)
-    (plans_too p s.graph.now s.works s.held s.plans.items (are_plans p s.graph.now s.works s.held s.packs.now s.cells s.thresholds.now s.listed s.plans.items s.planned s.units))
+    record {
+      packs = subst (ArePlansOf (plain_program s.works.program.now)) (sym c.as_slice.ensures.value)
+          (plans_too p s.graph.now s.works s.held s.plans.items (are_plans p s.graph.now s.works s.held s.packs.now s.cells s.thresholds.now s.listed s.plans.items s.planned s.units));
+    }
 
 pub passes_edge-passes-requires-clause-fact : goal.passes_edge-passes-requires-clause-fact
 passes_edge-passes-requires-clause-fact g c =
