@@ -27,7 +27,7 @@ of_statement p g x source (MkStmt n line a) is =
     (operands_of_sources p g source (left g x) a x.action is.act)
 
 module _ (p : Program) (g : Graph) (x : Edge) (w : EdgeWork) (work : ∥ IsWorkOf p g x (Some w) ∥₁) where
-  AreOf : Program → Action → Type 0
+  abbrev AreOf : Program → Action → Type 0
   AreOf q a = AllByRecursion (IsOfEdge q (act_of w) a) (edge_parts q (statement_of w) a)
 
   -- The operands of an edge's stores are the edge's own, and can be worked with.

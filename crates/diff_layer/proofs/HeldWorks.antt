@@ -64,14 +64,14 @@ module _ (p : Program) (g : Graph) (works : EdgeWorks) (held : ∥ IsHeld p g wo
     module _ (node : ℕ) (fact : List ℤ) (ms : List (List ℤ)) (kind : Kind) (b : Bool) where
       pub reached_clears : b ≡ true → b ≡ is_reached fact → (s : Kinds) → s ≡ kinds_of (clears q h node (cells_of fact) ms) →
           IsTrue (has s kind) ↔ (clears_at2 p g packs node (element_of fact) ms kind ≡ true)
-      reached_clears yes is s e =
+      reached_clears reached is s e =
           let there = ap (λ t. has t kind) e ∙ clears_too node (cells_of fact) ms kind in
-          let element = ap (λ r. clears_at2 p g packs node (if r then Some (cells_of fact) else None) ms kind) (sym is ∙ yes) in
+          let element = ap (λ r. clears_at2 p g packs node (if r then Some (cells_of fact) else None) ms kind) (sym is ∙ reached) in
           (λ t. element ∙ sym there ∙ t, λ t. there ∙ sym element ∙ t)
 
       pub unreached_clears : b ≡ false → b ≡ is_reached fact → (s : Kinds) → s ≡ every_kind →
           IsTrue (has s kind) ↔ (clears_at2 p g packs node (element_of fact) ms kind ≡ true)
-      unreached_clears no is s e = (
-        λ t. ap (λ r. clears_at2 p g packs node (if r then Some (cells_of fact) else None) ms kind) (sym is ∙ no),
+      unreached_clears missing is s e = (
+        λ t. ap (λ r. clears_at2 p g packs node (if r then Some (cells_of fact) else None) ms kind) (sym is ∙ missing),
         λ t. ap (λ t. has t kind) e ∙ has_kinds_of (λ _. true) kind,
       )

@@ -86,6 +86,14 @@ module _ (p : Program) (g : Graph) (works : EdgeWorks) (held : ∥ IsHeld p g wo
   its : ArePacks p (packs_of p packs) lists
   its = its_packs p g works held packs cells thresholds listed
 
+  pub few_words_in : length packs ≤ 32 → (diff_lattice (packs_of p packs) lists).width ≤ 2592
+  few_words_in few =
+      let sizes = sizes_of (packs_of p packs) in
+      let most = few_words sizes (small_sizes (packs_of p packs) its.few) in
+      let many : length sizes ≡ length packs = length-map (packs_of p packs) size_of ∙ length-map packs _ in
+      let wide = width_is sizes lists (its.listed ∙ sym (length-map (packs_of p packs) size_of)) in
+      omega (arith, most, many, wide, few)
+
   module _ (plans : List PackPlan) (planned : plain_plans plans ≡ packs_of p packs) where
     pub are_plans : ∥ HaveUnits p.layout plans ∥₁ → ArePlansOf p plans
     are_plans units =
@@ -102,22 +110,6 @@ module _ (p : Program) (g : Graph) (works : EdgeWorks) (held : ∥ IsHeld p g wo
       matrices = subst (λ qs. AreMatrices qs (matrices_in (sizes_of qs) row)) (sym planned)
           (are_matrices (packs_of p packs) lists its row is);
     }
-
-    pub few_words_in : length packs ≤ 32 → (diff_lattice (packs_of p packs) lists).width ≤ 2592
-    few_words_in few =
-        let sizes = sizes_of (packs_of p packs) in
-        let most = few_words sizes (small_sizes (packs_of p packs) its.few) in
-        let many : length sizes ≡ length packs = length-map (packs_of p packs) size_of ∙ length-map packs _ in
-        let wide = width_is sizes lists (its.listed ∙ sym (length-map (packs_of p packs) size_of)) in
-        omega (arith, most, many, wide, few)
-
-    pub few_in : (row : List ℤ) → length packs ≤ 32 → IsElement (diff_lattice (packs_of p packs) lists) row → length row ≤ 2592
-    few_in row few is =
-        let sizes = sizes_of (packs_of p packs) in
-        let most = few_words sizes (small_sizes (packs_of p packs) its.few) in
-        let many : length sizes ≡ length packs = length-map (packs_of p packs) size_of ∙ length-map packs _ in
-        let wide = is.width ∙ width_is sizes lists (its.listed ∙ sym (length-map (packs_of p packs) size_of)) in
-        omega (arith, most, many, wide, few)
 
     -- ---- edges
 

@@ -1,5 +1,5 @@
 -- What has one proof at most.
-use Rattle.std.proofs.Common.{List, [], ◌∷◌, Some, None}
+use Rattle.std.proofs.Common.{List, [], ◌∷◌, Some, None, ap}
 use Rattle.std.specs.Coded.{×_prop, Unit-prop}
 use Rattle.std.specs.List.{AllByRecursion, AllByRecursion-prop}
 use Rattle.std.proofs.Props.{props}
@@ -12,6 +12,8 @@ use Rattle.cob_edge_parts.specs.Parts.{Part, read, unread, divide, store, bytes_
 use Rattle.interval_domain.specs.declared.bounds.Interval.{Interval}
 use Rattle.interval_domain.specs.Known.{Known, KnownFits}
 use Rattle.interval_domain.specs.Elements.{CellsFit}
+use Rattle.cell_laws.specs.Sizes.{IsSmallPart}
+use Rattle.cell_layer.proofs.AtMostOne.{parts_prop}
 use Rattle.diff_layer.specs.declared.plans.PackPlan.{PackPlan}
 use Rattle.diff_layer.specs.Parts.{IsOfEdge}
 use Rattle.diff_layer.specs.Plans.{IsShortHome, IsPlanOf, ArePlansOf}
@@ -41,6 +43,10 @@ of_edge_prop p a x (guard t wanted) = Unit-prop
 of_edge_prop p a x (read_count n) = Unit-prop
 of_edge_prop p a x (count_down n) = Unit-prop
 of_edge_prop p a x (guard_count n wanted) = Unit-prop
+
+pub small_prop : (p : Program) (a : Act) (x : Action) (y : Part) → IsProp (IsSmallPart p a x y)
+small_prop p a x y u v =
+    ap (λ (t : IsSmallPart p a x y × Unit {0}). t.0) (parts_prop p a x (y ∷ []) (u, tt) (v, tt))
 
 pub all_of_edge_prop : (p : Program) (a : Act) (x : Action) (ys : List Part) → IsProp (AllByRecursion (IsOfEdge p a x) ys)
 all_of_edge_prop p a x ys = AllByRecursion-prop (IsOfEdge p a x) (of_edge_prop p a x) ys

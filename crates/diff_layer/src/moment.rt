@@ -13,9 +13,9 @@ use transfer_ranges::Receiver;
 
 /// A moment of the walk along an edge: what is known of cells, and what is kept.
 #[derive(Drop)]
-pub struct Moment<'a> {
+pub struct Moment<'a, 'b> {
     pub items: KnownItems<'a>,
-    pub act: &'a Act,
+    pub act: &'b Act,
     pub action: Action,
     pub kept: Kept,
     /// The edge has written to bytes of the items of its operands.
@@ -25,9 +25,9 @@ pub struct Moment<'a> {
 
 /// The matrices of packs that are known at a moment.
 #[derive(Drop)]
-pub struct Matrices<'a> {
+pub struct Matrices<'a, 'b> {
     pub plans: &'a [PackPlan],
-    pub words: &'a [i128],
+    pub words: &'b [i128],
 }
 
 /// A receiver, and how what it gets is cut or rounded.

@@ -1,5 +1,5 @@
 //! Rows of matrices as what is known of storages, and the faults that they clear.
-ghost use Rattle.std.specs.Prelude.{◌≡◌, ◌+◌, ◌*◌, length};
+ghost use Rattle.std.specs.Prelude.{◌≡◌, ◌≤◌, ◌+◌, ◌*◌, length};
 ghost use Rattle.std.specs.List.{list_all};
 ghost use Rattle.cob_tree.specs.Kinds.{kinds_of};
 ghost use Rattle.cob_program.specs.ActView.{plain_program};
@@ -46,6 +46,18 @@ fn node_cleared(edges: &PackWorks, node: u32, rows: &NodeRows, lent: &mut [i128]
     cleared
 }
 
+impl<'a, R: Rows> DiffLayer<'a, R> {
+    // how many words are lent where it is asked what a node clears
+    fn lent(&self) -> usize
+        ensures value { result ≡ lent_words (2 * length self.now.graph.now.cells + 1)
+            (diff_lattice (packs_of (plain_program self.now.program.now) self.now.packs.now) (lists_of self.now.thresholds.now)).width }
+        ensures few { result ≤ 4642 }
+    {
+        let cells = 2 * self.graph.cells.get().len() + 1;
+        2 * cells + self.words()
+    }
+}
+
 impl<'a, R: Rows> Layer for DiffLayer<'a, R> {
     ghost meaning = { λ s. diff_meaning (plain_program s.program.now) s.graph.now (packs_of (plain_program s.program.now) s.packs.now)
         (R.row_at s.facts.now) };
@@ -54,8 +66,7 @@ impl<'a, R: Rows> Layer for DiffLayer<'a, R> {
         (diff_lattice (packs_of (plain_program s.program.now) s.packs.now) (lists_of s.thresholds.now)).width };
 
     fn lent_words(&self) -> usize {
-        let cells = 2 * self.graph.cells.get().len() + 1;
-        2 * cells + self.words()
+        self.lent()
     }
 
     fn cleared(&self, node: u32, row: &[i128], lent: &mut [i128]) -> Kinds {
@@ -76,7 +87,7 @@ impl<'a, R: Rows> Layer for DiffLayer<'a, R> {
 
     fn clears(&self, node: u32, row: &[i128], kind: Kind) -> bool {
         let mut words = [0; 4642];
-        let lent = &mut words[..self.lent_words()];
+        let lent = &mut words[..self.lent()];
         self.cleared(node, row, lent).has(kind)
     }
 

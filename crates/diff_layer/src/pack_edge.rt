@@ -17,10 +17,10 @@ use edge_amounts::EdgeWork;
 
 /// What an edge does, beside its program's cells and packs.
 #[derive(Drop)]
-pub struct PackEdge<'a> {
+pub struct PackEdge<'a, 'b, 'c, 'd> {
     pub cells: &'a [Cell],
-    pub work: &'a EdgeWork<'a>,
-    pub plans: &'a [PackPlan],
+    pub work: &'b EdgeWork<'c>,
+    pub plans: &'d [PackPlan],
     pub ghost packs: { ArePlansOf (program_of work.now) plans.now } by { plans_prop (program_of work.now) plans.now },
     pub ghost small_cells: { has_small_cells (program_of work.now) ≡ true },
     pub ghost small: { AllByRecursion (IsSmallPart (program_of work.now) (act_of work.now) work.now.action) (parts_of_edge work.now) }

@@ -8,16 +8,16 @@ use cell_layer::EdgeWorks;
 
 /// What the edges of a program's graph do, beside packs of its cells.
 #[derive(Drop)]
-pub struct PackWorks<'a> {
-    pub works: &'a EdgeWorks<'a>,
-    pub plans: &'a [PackPlan],
+pub struct PackWorks<'a, 'b, 'c> {
+    pub works: &'a EdgeWorks<'b>,
+    pub plans: &'c [PackPlan],
     pub ghost packs: { ArePlansOf (plain_program works.now.program.now) plans.now }
         by { plans_prop (plain_program works.now.program.now) plans.now },
 }
 
 /// What is known at a node: the row of cells, and the matrices of all packs.
 #[derive(Drop)]
-pub struct NodeRows<'a> {
+pub struct NodeRows<'a, 'b> {
     pub cells: &'a [i128],
-    pub matrices: &'a [i128],
+    pub matrices: &'b [i128],
 }

@@ -10,9 +10,9 @@ use crate::moment::Moment;
 
 /// A part that the row of cells has passed: what is known before it, and the row behind it.
 #[derive(Drop)]
-pub struct Passed<'a> {
-    pub moment: Moment<'a>,
-    pub row: &'a [i128],
+pub struct Passed<'a, 'b, 'c> {
+    pub moment: Moment<'a, 'b>,
+    pub row: &'c [i128],
     pub ghost row_of: { IsRowOf (program_of moment.items) moment.items.cells.now row.now },
     pub ghost fit: { CellsFit (owns (program_of moment.items)) (cells_of row.now) }
         by { cells_prop (owns (program_of moment.items)) (cells_of row.now) },

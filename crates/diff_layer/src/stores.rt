@@ -22,10 +22,10 @@ ghost use Rattle.diff_layer.specs.Changes.{decimal_in, cell_stored, fitting_stor
 use crate::amounts::amount_form;
 use crate::cells::unit_of;
 use crate::gone::{Gone, forget};
-use crate::moment::Moment;
+use crate::moment::{Moment, Slot};
 use crate::operands::has_operands;
 use crate::pack::{PackView, cell_in};
-use crate::pack_stores::store_at;
+use crate::pack_stores::{Target, store_at};
 use cob_graph::Home;
 use dec_num::Mode;
 use diff_bounds::set_least_matrix;
@@ -77,14 +77,16 @@ fn store_cell(
             );
             let receiver = receiver_at(&moment.items.program.layout, place);
             let unit = unit_of(&moment.items.program.layout, pack.decimals, Home::Item(place));
+            let target = Target {
+                place: cell + 1,
+                unit,
+            };
             store_at(
                 pack.cells.len(),
                 m,
-                cell + 1,
+                target,
                 form,
-                receiver,
-                mode,
-                unit,
+                Slot { mode, receiver },
                 decimal_in(moment.kept.result),
             );
         }

@@ -1,20 +1,19 @@
-use Rattle.std.proofs.Common.{◌≡◌, ◌≤◌, ◌<◌, true, false, length, get_or, rules, sym, ap, subst, ◌∙◌}
+use Rattle.std.proofs.Common.{◌≡◌, ◌≤◌, ◌<◌, ◌+◌, true, false, length, get_or, rules, sym, ap, subst, ◌∙◌}
 use Rattle.interval_domain.specs.Rows.{cells_of}
 use Rattle.cell_laws.specs.Sizes.{IsSmallPart}
 use Rattle.cell_layer.specs.Works.{program_of, act_of}
-use Rattle.cell_layer.proofs.AtMostOne.{part_prop}
-use Rattle.diff_layer.specs.AtMostOne.{of_edge_prop}
+use Rattle.diff_layer.specs.AtMostOne.{small_prop, of_edge_prop}
 use Rattle.diff_layer.specs.Parts.{IsOfEdge}
 use Rattle.diff_layer.specs.Plans.{matrices_for}
 use Rattle.diff_layer.specs.Works.{parts_of_edge}
 use Rattle.diff_layer.proofs.Walked.{held_of}
-use Rattle.diff_layer.proofs.WalkSteps.{IsClearedTo, clear_begins, clears_on, clear_stops, clear_ends, clears_whole}
+use Rattle.diff_layer.proofs.WalkSteps.{IsClearedTo, begun, clear_begins, clears_on, clear_stops, clear_ends, clears_whole}
 use Rattle.diff_layer.proofs.clearing.cleared_closed.Goals as goal
 
 pub loop-part-init : goal.loop-part-init
 loop-part-init c =
     let x = c.args in
-    subst (λ s. IsClearedTo x.edge.now (cells_of x.row.now) (matrices_for x.edge.now.plans.now x.out.now) s 0 x.row.now x.before.now _ x.out.now) (sym c.all-all.ensures)
+    subst (λ s. IsClearedTo x.edge.now (cells_of x.row.now) (matrices_for x.edge.now.plans.now x.out.now) s 0 x.row.now x.before.now (begun x.edge.now c.new.result) x.out.now) (sym c.all-all.ensures)
     (clear_begins x.edge.now x.row.now x.before.now c.new.result x.out.now c.requires.row c.requires.room c.requires.fits
     c.requires.matrices (c.new.ensures.begins x.row.now))
 
@@ -23,7 +22,7 @@ cleared-requires-clause-small c =
     let w = c.args.edge.now.work.now in
     let k = c.loop-part in
     let part = c.part-item.result in
-    held_of (IsSmallPart (program_of w) (act_of w) w.action) (part_prop (program_of w) (act_of w) w.action) w.parts.items (parts_of_edge w) k.part-index part w.listed c.args.edge.now.small
+    held_of (IsSmallPart (program_of w) (act_of w) w.action) (small_prop (program_of w) (act_of w) w.action) w.parts.items (parts_of_edge w) k.part-index part w.listed c.args.edge.now.small
     (subst (λ ps. k.part-index < length ps) c.as_slice-parts.ensures.value c.loop-part-test.true)
     (c.part-item.is ∙ ap (λ ps. get_or ps k.part-index part) c.as_slice-parts.ensures.value)
 
@@ -41,7 +40,7 @@ step-requires-clause-small c =
     let w = c.args.edge.now.work.now in
     let k = c.loop-part in
     let part = c.part-item.result in
-    held_of (IsSmallPart (program_of w) (act_of w) w.action) (part_prop (program_of w) (act_of w) w.action) w.parts.items (parts_of_edge w) k.part-index part w.listed c.args.edge.now.small
+    held_of (IsSmallPart (program_of w) (act_of w) w.action) (small_prop (program_of w) (act_of w) w.action) w.parts.items (parts_of_edge w) k.part-index part w.listed c.args.edge.now.small
     (subst (λ ps. k.part-index < length ps) c.as_slice-parts.ensures.value c.loop-part-test.true)
     (c.part-item.is ∙ ap (λ ps. get_or ps k.part-index part) c.as_slice-parts.ensures.value)
 
@@ -61,7 +60,7 @@ loop-part-preserved c =
     let part = c.part-item.result in
     let now = k.invariant in
     subst
-    (λ s. IsClearedTo x.edge.now (cells_of x.row.now) (matrices_for x.edge.now.plans.now x.out.now) s _ c.step.new.row c.step.new.before c.step.new.state c.step.new.out) (sym c.both-all.ensures)
+    (λ s. IsClearedTo x.edge.now (cells_of x.row.now) (matrices_for x.edge.now.plans.now x.out.now) s (k.part-index + 1) c.step.new.row c.step.new.before c.step.new.state c.step.new.out) (sym c.both-all.ensures)
     (clears_on x.edge.now part k.row k.before k.state k.out c.step.new.row c.step.new.before c.step.new.state c.step.new.out c.step.result c.step.ensures.steps
     (cells_of x.row.now) (matrices_for x.edge.now.plans.now x.out.now) k.part-index
     (subst (λ ps. k.part-index < length ps) c.as_slice-parts.ensures.value c.loop-part-test.true)

@@ -7,8 +7,8 @@ use Rattle.diff_layer.specs.Walks.{closed_clears}
 use Rattle.cell_layer.specs.Works.{program_of, statement_of}
 use Rattle.diff_layer.proofs.clearing.packs_cleared.Goals as goal
 
-pub returns-else-not-close_all : goal.returns-else-not-close_all
-returns-else-not-close_all c =
+pub returns : goal.returns
+returns c =
     let x = c.args in
     let w = x.edge.now.work.now in
     let closes : c.close_all.result ≡ true = search rules in

@@ -1,4 +1,5 @@
 use Rattle.std.proofs.Common.{◌∙◌, sym, ap, subst}
+use Rattle.cob_tree.specs.Kinds.{kinds_of}
 use Rattle.interval_domain.specs.Rows.{cells_of}
 use Rattle.interval_domain.specs.Elements.{CellsFit}
 use Rattle.cell_steps.specs.OwnRanges.{owns}
@@ -7,7 +8,7 @@ use Rattle.cell_layer.specs.Works as works
 use Rattle.cell_layer.proofs.Leaving as cells
 use Rattle.cell_layer.proofs.Leaving.{can_walk}
 use Rattle.diff_layer.specs.GraphWorks.{program_of, graph_of, packs_of, edge_of, matrices_of, cells_at}
-use Rattle.diff_layer.specs.Plans.{IsRowFor}
+use Rattle.diff_layer.specs.Walks.{statement_clears2}
 use Rattle.diff_layer.proofs.ClearedByCells.{all_cleared_by_cells}
 use Rattle.diff_layer.proofs.EdgeOperands.{of_edge, plans_of_work}
 use Rattle.diff_layer.proofs.EdgesWalked.{cleared_by, cleared_by_none}
@@ -65,12 +66,15 @@ pub returns-else-is_all : goal.returns-else-is_all
 returns-else-is_all c =
     let a = c.args in
     let e = a.edges.now in
+    let w = c.in-Some.work.now in
     c.packs_cleared.ensures
+    ∙ ap (λ row. kinds_of (statement_clears2 (works.program_of w) (packs_of e) (works.statement_of w) w.action (cells_of row) (matrices_of e c.copy_from_slice-in-Some.new.self))) c.copy_from_slice.ensures.after
+    ∙ ap (λ out. kinds_of (statement_clears2 (works.program_of w) (packs_of e) (works.statement_of w) w.action (cells_at a.rows.now) (matrices_of e out))) c.copy_from_slice-in-Some.ensures.after
     ∙ cleared_by (program_of e) (graph_of e) (packs_of e) (edge_of e a.at) (cells_at a.rows.now) (matrices_of e a.rows.now.matrices.now) c.in-Some.work.now (rw c.in-Some.is at c.at.ensures)
 
 pub returns-in-None : goal.returns-in-None
 returns-in-None c =
     let a = c.args in
     let e = a.edges.now in
-    c.all-in-None.ensures
+    c.all.ensures
     ∙ cleared_by_none (program_of e) (graph_of e) (packs_of e) (edge_of e a.at) (cells_at a.rows.now) (matrices_of e a.rows.now.matrices.now) (rw c.in-None.is at c.at.ensures)

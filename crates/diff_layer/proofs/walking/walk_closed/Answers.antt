@@ -2,8 +2,7 @@ use Rattle.std.proofs.Common.{◌≡◌, ◌≤◌, ◌<◌, true, false, length
 use Rattle.interval_domain.specs.Rows.{cells_of}
 use Rattle.cell_laws.specs.Sizes.{IsSmallPart}
 use Rattle.cell_layer.specs.Works.{program_of, act_of}
-use Rattle.cell_layer.proofs.AtMostOne.{part_prop}
-use Rattle.diff_layer.specs.AtMostOne.{of_edge_prop}
+use Rattle.diff_layer.specs.AtMostOne.{small_prop, of_edge_prop}
 use Rattle.diff_layer.specs.Parts.{IsOfEdge}
 use Rattle.diff_layer.specs.Plans.{matrices_for}
 use Rattle.diff_layer.specs.Works.{parts_of_edge}
@@ -22,7 +21,7 @@ step-requires-clause-small c =
     let w = c.args.edge.now.work.now in
     let k = c.loop-part in
     let part = c.part-item.result in
-    held_of (IsSmallPart (program_of w) (act_of w) w.action) (part_prop (program_of w) (act_of w) w.action) w.parts.items (parts_of_edge w) k.part-index part w.listed c.args.edge.now.small
+    held_of (IsSmallPart (program_of w) (act_of w) w.action) (small_prop (program_of w) (act_of w) w.action) w.parts.items (parts_of_edge w) k.part-index part w.listed c.args.edge.now.small
     (subst (λ ps. k.part-index < length ps) c.as_slice-parts.ensures.value c.loop-part-test.true)
     (c.part-item.is ∙ ap (λ ps. get_or ps k.part-index part) c.as_slice-parts.ensures.value)
 

@@ -1,4 +1,4 @@
-use Rattle.std.proofs.Common.{if◌then◌else◌, Some, None, ap, ◌∙◌}
+use Rattle.std.proofs.Common.{if◌then◌else◌, Some, None, sym, ap, ◌∙◌}
 use Rattle.cob_program.specs.Values.{◌>>=◌}
 use Rattle.interval_domain.specs.Rows.{cells_of}
 use Rattle.cell_layer.specs.Works.{program_of, statement_of}
@@ -20,3 +20,4 @@ returns-else-close_all c =
     let w = x.edge.now.work.now in
     ap (λ o. o >>= closed_walked (program_of w) (plain_plans x.edge.now.plans.now) (statement_of w) w.action (cells_of x.row.now))
     (c.close_all.ensures.closed ∙ ap (λ b. if b then Some (matrices_for x.edge.now.plans.now c.close_all.new.out) else None) c.if-close_all.false)
+    ∙ sym (ap (λ b. if b then Some (matrices_for x.edge.now.plans.now c.close_all.new.out) else None) c.if-close_all.false)

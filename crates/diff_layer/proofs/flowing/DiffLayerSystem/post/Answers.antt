@@ -24,9 +24,9 @@ row-requires-clause-first g c =
     let p = plain_program s.program.now in
     let facts = g.R.Rows.row_at s.facts.now in
     let e = c.args.edge in
-    let at : c.edge_with.result ≡ edge_at s.graph.now e = c.edge_with.ensures ∙ ap (λ xs. slice_index_or xs (e - 1) no_edge) c.get.ensures in
+    let at : c.edge_with-source.result ≡ edge_at s.graph.now e = c.edge_with-source.ensures ∙ ap (λ xs. slice_index_or xs (e - 1) no_edge) c.get.ensures in
     let flows = flows_by p s.graph.now s.works s.held s.packs.now s.cells s.thresholds.now s.listed facts s.known in
-    let node : IsNode (diff_flow p s.graph.now (packs_of p s.packs.now) facts) c.edge_with.result.from =
+    let node : IsNode (diff_flow p s.graph.now (packs_of p s.packs.now) facts) c.edge_with-source.result.from =
     subst (λ (x : Edge). IsNode (diff_flow p s.graph.now (packs_of p s.packs.now) facts) x.from) (sym at) (flows.source_node e c.requires.edge) in
     node.first
 
@@ -36,11 +36,11 @@ row-requires-clause-last g c =
     let p = plain_program s.program.now in
     let facts = g.R.Rows.row_at s.facts.now in
     let e = c.args.edge in
-    let at : c.edge_with.result ≡ edge_at s.graph.now e = c.edge_with.ensures ∙ ap (λ xs. slice_index_or xs (e - 1) no_edge) c.get.ensures in
+    let at : c.edge_with-source.result ≡ edge_at s.graph.now e = c.edge_with-source.ensures ∙ ap (λ xs. slice_index_or xs (e - 1) no_edge) c.get.ensures in
     let flows = flows_by p s.graph.now s.works s.held s.packs.now s.cells s.thresholds.now s.listed facts s.known in
-    let node : IsNode (diff_flow p s.graph.now (packs_of p s.packs.now) facts) c.edge_with.result.from =
+    let node : IsNode (diff_flow p s.graph.now (packs_of p s.packs.now) facts) c.edge_with-source.result.from =
     subst (λ (x : Edge). IsNode (diff_flow p s.graph.now (packs_of p s.packs.now) facts) x.from) (sym at) (flows.source_node e c.requires.edge) in
-    subst (λ n. c.edge_with.result.from ≤ n) (sym s.counted) node.last
+    subst (λ n. c.edge_with-source.result.from ≤ n) (sym s.counted) node.last
 
 pub passes_edge-passes-requires-clause-edge : goal.passes_edge-passes-requires-clause-edge
 passes_edge-passes-requires-clause-edge g c =
@@ -64,12 +64,12 @@ passes_edge-passes-requires-clause-fact g c =
     let p = plain_program s.program.now in
     let facts = g.R.Rows.row_at s.facts.now in
     let e = c.args.edge in
-    let at : c.edge_with.result ≡ edge_at s.graph.now e = c.edge_with.ensures ∙ ap (λ xs. slice_index_or xs (e - 1) no_edge) c.get.ensures in
+    let at : c.edge_with-source.result ≡ edge_at s.graph.now e = c.edge_with-source.ensures ∙ ap (λ xs. slice_index_or xs (e - 1) no_edge) c.get.ensures in
     let flows = flows_by p s.graph.now s.works s.held s.packs.now s.cells s.thresholds.now s.listed facts s.known in
-    let node : IsNode (diff_flow p s.graph.now (packs_of p s.packs.now) facts) c.edge_with.result.from =
+    let node : IsNode (diff_flow p s.graph.now (packs_of p s.packs.now) facts) c.edge_with-source.result.from =
     subst (λ (x : Edge). IsNode (diff_flow p s.graph.now (packs_of p s.packs.now) facts) x.from) (sym at) (flows.source_node e c.requires.edge) in
     let is : IsRow (owns p) c.row.result.now =
-    subst (IsRow (owns p)) (sym c.row.ensures) (facts_of p s.graph.now facts s.known c.edge_with.result.from node.first node.last) in
+    subst (IsRow (owns p)) (sym c.row.ensures) (facts_of p s.graph.now facts s.known c.edge_with-source.result.from node.first node.last) in
     row_too p s.graph.now s.works s.held c.row.result.now is
 
 pub passes_edge-passes-requires-clause-words : goal.passes_edge-passes-requires-clause-words
@@ -78,12 +78,12 @@ passes_edge-passes-requires-clause-words g c =
     let p = plain_program s.program.now in
     let facts = g.R.Rows.row_at s.facts.now in
     let e = c.args.edge in
-    let at : c.edge_with.result ≡ edge_at s.graph.now e = c.edge_with.ensures ∙ ap (λ xs. slice_index_or xs (e - 1) no_edge) c.get.ensures in
+    let at : c.edge_with-source.result ≡ edge_at s.graph.now e = c.edge_with-source.ensures ∙ ap (λ xs. slice_index_or xs (e - 1) no_edge) c.get.ensures in
     let flows = flows_by p s.graph.now s.works s.held s.packs.now s.cells s.thresholds.now s.listed facts s.known in
-    let node : IsNode (diff_flow p s.graph.now (packs_of p s.packs.now) facts) c.edge_with.result.from =
+    let node : IsNode (diff_flow p s.graph.now (packs_of p s.packs.now) facts) c.edge_with-source.result.from =
     subst (λ (x : Edge). IsNode (diff_flow p s.graph.now (packs_of p s.packs.now) facts) x.from) (sym at) (flows.source_node e c.requires.edge) in
     let is : IsRow (owns p) c.row.result.now =
-    subst (IsRow (owns p)) (sym c.row.ensures) (facts_of p s.graph.now facts s.known c.edge_with.result.from node.first node.last) in
+    subst (IsRow (owns p)) (sym c.row.ensures) (facts_of p s.graph.now facts s.known c.edge_with-source.result.from node.first node.last) in
     few_facts p s.graph.now s.works s.held s.packs.now s.cells s.thresholds.now s.listed s.words c.row.result.now is
 
 pub passes_edge-passes-requires-clause-matrices : goal.passes_edge-passes-requires-clause-matrices
@@ -113,7 +113,7 @@ returns-then-not-passes-clause-row g c =
     let p = plain_program s.program.now in
     let facts = g.R.Rows.row_at s.facts.now in
     let e = c.args.edge in
-    let at : c.edge_with.result ≡ edge_at s.graph.now e = c.edge_with.ensures ∙ ap (λ xs. slice_index_or xs (e - 1) no_edge) c.get.ensures in
+    let at : c.edge_with-source.result ≡ edge_at s.graph.now e = c.edge_with-source.ensures ∙ ap (λ xs. slice_index_or xs (e - 1) no_edge) c.get.ensures in
     let same : c.as_slice-then-not-passes.result.now ≡ sizes_of (packs_of p s.packs.now) = c.as_slice-then-not-passes.ensures.value ∙ s.sized in
     let planned : plain_plans c.as_slice.result.now ≡ packs_of p s.packs.now = ap plain_plans c.as_slice.ensures.value ∙ s.planned in
     let plans = c.as_slice.result.now in
@@ -131,7 +131,7 @@ returns-else-not-passes-clause-row g c =
     let p = plain_program s.program.now in
     let facts = g.R.Rows.row_at s.facts.now in
     let e = c.args.edge in
-    let at : c.edge_with.result ≡ edge_at s.graph.now e = c.edge_with.ensures ∙ ap (λ xs. slice_index_or xs (e - 1) no_edge) c.get.ensures in
+    let at : c.edge_with-source.result ≡ edge_at s.graph.now e = c.edge_with-source.ensures ∙ ap (λ xs. slice_index_or xs (e - 1) no_edge) c.get.ensures in
     let planned : plain_plans c.as_slice.result.now ≡ packs_of p s.packs.now = ap plain_plans c.as_slice.ensures.value ∙ s.planned in
     let plans = c.as_slice.result.now in
     let walks : packs_walked p s.graph.now (plain_plans plans) (edge_at s.graph.now e) (element_of c.row.result.now) (matrices_for plans c.args.from.now) ≡ Some (matrices_for plans c.passes_edge-passes.new.out) =
