@@ -60,18 +60,18 @@ module _ (p : Program) (g : Graph) (works : EdgeWorks) (held : ∥ IsHeld p g wo
   module _ (node : ℕ) (row : List ℤ) (kind : Kind) (b : Bool) where
     pub reached_clears : b ≡ true → b ≡ is_reached row → (s : Kinds) → s ≡ kinds_of (clears q h node (cells_of row)) →
         IsTrue (has s kind) ↔ (clears_at p g node (element_of row) kind ≡ true)
-    reached_clears yes is s e =
+    reached_clears told is s e =
         let there = ap (λ t. has t kind) e ∙ clears_too node (cells_of row) kind in
-        let element = ap (λ r. clears_at p g node (if r then Some (cells_of row) else None) kind) (sym is ∙ yes) in
+        let element = ap (λ r. clears_at p g node (if r then Some (cells_of row) else None) kind) (sym is ∙ told) in
         (λ t. element ∙ sym there ∙ t, λ t. there ∙ sym element ∙ t)
 
     pub unreached_clears : b ≡ false → b ≡ is_reached row → (s : Kinds) → s ≡ every_kind →
         IsTrue (has s kind) ↔ (clears_at p g node (element_of row) kind ≡ true)
-    unreached_clears no is s e = (
-      λ t. ap (λ r. clears_at p g node (if r then Some (cells_of row) else None) kind) (sym is ∙ no),
+    unreached_clears told is s e = (
+      λ t. ap (λ r. clears_at p g node (if r then Some (cells_of row) else None) kind) (sym is ∙ told),
       λ t. ap (λ t. has t kind) e ∙ has_kinds_of (λ _. true) kind,
     )
 
 pub reached_element : (row out : List ℤ) → out ≡ row → (b : Bool) → b ≡ true → b ≡ is_reached out → element_of row ≡ Some (cells_of out)
-reached_element row out same b yes is =
-    sym (ap element_of same) ∙ ap (λ (r : Bool). if r then Some (cells_of out) else None) (sym is ∙ yes)
+reached_element row out same b told is =
+    sym (ap element_of same) ∙ ap (λ (r : Bool). if r then Some (cells_of out) else None) (sym is ∙ told)

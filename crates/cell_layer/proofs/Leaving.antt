@@ -48,7 +48,7 @@ module _ (p : Program) (g : Graph) (x : Edge) where
       small_cells =
           ∥∥₁_elim source (hlevel props) (λ s. ∥∥₁_elim work (hlevel props) (λ is. ap has_small_cells is.program ∙ cells_are_small p s.items))
 
-      AreSmall : Program → Action → Type 0
+      abbrev AreSmall : Program → Action → Type 0
       AreSmall q a = AllByRecursion (IsSmallPart q (act_of w) a) (edge_parts q (statement_of w) a)
 
       small_parts : AllByRecursion (IsSmallPart (program_of w) (act_of w) w.action) (edge_parts (program_of w) (statement_of w) w.action)

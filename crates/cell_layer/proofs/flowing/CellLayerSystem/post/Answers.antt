@@ -21,4 +21,4 @@ returns-then-is_reached-clause-row g c =
     c.post_edge.ensures
     ∙ (posts_too p s.graph.now s.works s.held (edge - 1) _
     ∙ ap (λ (o : Element). row_for p (o >>= edge_cells p s.graph.now (edge_at s.graph.now edge)))
-    (sym (reached_element c.args.from.now _ c.copy_from_slice.ensures c.is_reached.result c.if-is_reached.true c.is_reached.ensures)))
+    (sym (reached_element c.args.from.now _ c.copy_from_slice.ensures.after c.is_reached.result c.if-is_reached.true c.is_reached.ensures)))

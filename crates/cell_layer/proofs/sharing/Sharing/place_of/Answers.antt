@@ -16,14 +16,14 @@ returns-in-Some-clause-place c =
     place_here (plain_program s.program.now) s.graph.now s.works.items x c.in-Some.place
     (subst (λ (n : ℕ). StandsAt s.works.items n x.action c.in-Some.place) c.left_number-number.ensures c.in-Some.ensures) s.found
 
-pub returns-in-Some-statement_with-clause-place : goal.returns-in-Some-statement_with-clause-place
-returns-in-Some-statement_with-clause-place c =
+pub returns-in_ok-add-in-Some-statement_with-clause-place : goal.returns-in_ok-add-in-Some-statement_with-clause-place
+returns-in_ok-add-in-Some-statement_with-clause-place c =
     let s = c.args.self.now in
     let x = c.args.edge in
     let works = c.add.new.self.works.items in
-    place_here (plain_program s.program.now) s.graph.now works x c.in_ok-add.field-0
-    (subst (λ (n : ℕ). StandsAt works n x.action c.in_ok-add.field-0) (c.in-Some-statement_with.ensures.some.1 ∙ c.left_number-number.ensures)
-    c.in_ok-add.ensures.place) c.in_ok-add.ensures.found
+    place_here (plain_program s.program.now) s.graph.now works x c.in_ok-add-in-Some-statement_with.field-0
+    (subst (λ (n : ℕ). StandsAt works n x.action c.in_ok-add-in-Some-statement_with.field-0) (c.in-Some-statement_with.ensures.some.1 ∙ c.left_number-number.ensures)
+    c.in_ok-add-in-Some-statement_with.ensures.place) c.in_ok-add-in-Some-statement_with.ensures.found
 
 pub returns-in-None-clause-place : goal.returns-in-None-clause-place
 returns-in-None-clause-place c =
