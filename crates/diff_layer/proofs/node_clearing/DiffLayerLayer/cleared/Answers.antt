@@ -13,7 +13,7 @@ use Rattle.cell_layer.proofs.Holding.{fits_too}
 use Rattle.diff_layer.specs.LayerLaws.{facts_of}
 use Rattle.diff_layer.proofs.Facts.{is_there, cells_fit}
 use Rattle.diff_layer.proofs.HeldWorks.{plans_too, reached_clears, unreached_clears}
-use Rattle.diff_layer.proofs.Layers.{are_plans, is_row_for, few_in, fact_width}
+use Rattle.diff_layer.proofs.Layers.{are_plans, is_row_for, fact_width}
 use Rattle.diff_layer.proofs.node_clearing.DiffLayerLayer.cleared.Goals as goal
 
 pub invariant_of-edges : goal.invariant_of-edges

@@ -1,7 +1,7 @@
 use Rattle.std.proofs.Common.{◌≡◌, length, ap, arith}
 use Rattle.cob_program.specs.ActView.{plain_program}
 use Rattle.diff_layer.proofs.Layers.{few_words_in}
-use Rattle.diff_layer.proofs.node_clearing.DiffLayer.lent.Goals as goal
+use Rattle.diff_layer.proofs.layer.DiffLayer.lent.Goals as goal
 
 pub overflow_add-result : goal.overflow_add-result
 overflow_add-result g c =
