@@ -1,5 +1,5 @@
 -- What a part clears, by either layer.
-use Rattle.std.proofs.Common.{◌≡◌, Bool, true, false, List, ℤ, sym, ap, subst, ◌∙◌}
+use Rattle.std.proofs.Common.{◌≡◌, Bool, true, false, List, ℤ, sym, ap, ◌∙◌}
 use Rattle.cob_tree.specs.declared.fault.Kind.{Kind}
 use Rattle.cob_program.specs.declared.act.Stmt as declared_stmt
 use Rattle.cob_program.specs.declared.act.Stmt.{out-Stmt}

@@ -2,7 +2,7 @@
 use Rattle.std.proofs.Common.{List, Some, sym, subst}
 use Rattle.std.specs.List.{AllByRecursion}
 use Rattle.std.proofs.Math.Logic.{∥∥₁_elim}
-use Rattle.cob_program.specs.Act.{Stmt, MkStmt, Act, Program}
+use Rattle.cob_program.specs.Act.{Stmt, MkStmt, Program}
 use Rattle.cob_runs.specs.declared.action.Action.{Action}
 use Rattle.cob_graph.specs.declared.graph.Edge.{Edge}
 use Rattle.cob_graph.specs.declared.graph.Graph.{Graph}

@@ -1,5 +1,5 @@
 -- What a layer keeps gives its walks what they ask for, and its posts by what these answer.
-use Rattle.std.proofs.Common.{◌≡◌, ◌≤◌, ℕ, suc, ◌+◌, ◌*◌, ◌-◌, ◌<◌, List, [], ◌∷◌, length, ℤ, Vec, Option, Some, None, refl, sym, ap, subst, ◌∙◌, arith}
+use Rattle.std.proofs.Common.{◌≡◌, ◌≤◌, ℕ, suc, ◌+◌, ◌*◌, List, [], ◌∷◌, length, ℤ, Vec, Some, None, refl, sym, ap, subst, ◌∙◌, arith}
 use Rattle.std.specs.Prelude.{slice_get}
 use Rattle.std.specs.declared.alloc.Global.{Global}
 use Rattle.std.specs.List.{AllByRecursion, AllByRecursion-prop}
@@ -12,7 +12,6 @@ use Rattle.cob_program.specs.Act.{Program}
 use Rattle.cob_graph.specs.declared.graph.Edge.{Edge}
 use Rattle.cob_graph.specs.declared.graph.Graph.{Graph}
 use Rattle.dom_laws.specs.Lattice.{IsElement}
-use Rattle.dom_laws.specs.Flow.{IsEdge, IsNode}
 use Rattle.graph_runs.specs.Places.{edge_at}
 use Rattle.interval_domain.specs.Rows.{IsRow, element_of}
 use Rattle.cob_graph.specs.declared.homes.Home.{Home}
@@ -24,17 +23,16 @@ use Rattle.cell_layer.specs.Held.{IsHeld}
 use Rattle.cell_layer.proofs.Making.{sound_items}
 use Rattle.diff_bounds.specs.declared.Pack as declared
 use Rattle.diff_steps.specs.Packs.{Pack, size_of}
-use Rattle.diff_steps.specs.Edges.{bottoms}
 use Rattle.diff_bounds.specs.PackRows.{width_of, matrices_in, row_of, matrices_beside, lists_of}
 use Rattle.pack_laws.specs.Agreeing.{AreMatrices, IsPackOf, ArePacksOf}
 use Rattle.diff_layer.specs.declared.plans.PackPlan.{PackPlan}
 use Rattle.diff_layer.specs.Plans.{plain_plan, plain_plans, IsShortHome, ArePlansOf, matrices_for, IsRowFor}
 use Rattle.pack_laws.specs.Packs.{packs_of, ArePacksOfCells}
-use Rattle.pack_laws.specs.Layer.{Facts, AreFacts, ArePacks, sizes_of, diff_lattice, packs_post, diff_post, diff_flow}
+use Rattle.pack_laws.specs.Layer.{Facts, ArePacks, sizes_of, diff_lattice, packs_post, diff_post}
 use Rattle.pack_laws.proofs.Pieces.{are_matrices}
 use Rattle.diff_layer.specs.Planning.{HasUnit, HaveUnits}
 use Rattle.diff_layer.specs.Edges.{packs_walked}
-use Rattle.diff_layer.specs.LayerLaws.{source_of, cells_for_homes, its_packs, facts_of, flows_by}
+use Rattle.diff_layer.specs.LayerLaws.{source_of, cells_for_homes, its_packs}
 use Rattle.diff_layer.proofs.Rows.{row_back, width_is, least_is, few_words, small_sizes, post_passed, post_stopped}
 use Rattle.diff_layer.proofs.Short.{homes_are_short}
 use Rattle.diff_layer.proofs.Facts as facts

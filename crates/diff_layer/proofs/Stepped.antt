@@ -1,13 +1,12 @@
 -- A part that both rows are led over.
-use Rattle.std.proofs.Common.{◌≡◌, ℕ, Bool, true, false, if◌then◌else◌, List, ◌++◌, ℤ, Option, Some, None, refl, sym, ap, subst, ◌∙◌}
-use Rattle.std.specs.Prelude.{IfSome, slice_get}
+use Rattle.std.proofs.Common.{◌≡◌, Bool, true, false, if◌then◌else◌, List, ◌++◌, ℤ, Option, Some, None, refl, sym, ap, subst, ◌∙◌}
+use Rattle.std.specs.Prelude.{IfSome}
 use Rattle.std.proofs.Props.{props}
 use Rattle.std.proofs.Math.Logic.{∥∥₁_elim}
 use Rattle.cob_program.specs.Values.{◌>>=◌}
-use Rattle.cob_program.specs.Act.{Act, Stmt, Program}
+use Rattle.cob_program.specs.Act.{Act, Program}
 use Rattle.cob_runs.specs.declared.action.Action.{Action}
 use Rattle.cob_edge_parts.specs.Parts.{Amount, moved, computed, remaining, augmented, Part, read, unread, divide, store, bytes_in, guard, read_count, set_count, count_down, guard_count}
-use Rattle.edge_amounts.specs.PartView.{edge_parts}
 use Rattle.transfer_ranges.specs.declared.amounts.Taken.{Taken}
 use Rattle.edge_amounts.specs.Working.{CanWork}
 use Rattle.interval_domain.specs.Known.{Known}
@@ -15,9 +14,7 @@ use Rattle.cell_steps.specs.Agreeing.{of_operands}
 use Rattle.cell_steps.specs.Seen.{Seen}
 use Rattle.cell_steps.specs.Stores.{range_at, keeps_receiver, taking}
 use Rattle.cell_laws.specs.Sizes.{IsSmallPart}
-use Rattle.cell_layer.specs.Kept.{step_at}
 use Rattle.cell_layer.specs.Latest.{Latest, latest_behind}
-use Rattle.cell_layer.specs.NumberedStatements.{act_in}
 use Rattle.cell_layer.specs.Walks.{trimmed, with_taken_small, step_small, CanStep}
 use Rattle.cell_layer.proofs.Stepping.{taken_can, taken_written, can_work}
 use Rattle.diff_steps.specs.Packs.{Pack}

@@ -5,7 +5,6 @@ use Rattle.std.proofs.Math.Logic.{∥∥₁_elim}
 use Rattle.cob_tree.specs.declared.fault.Kind.{Kind}
 use Rattle.cob_tree.specs.declared.kinds.Kinds.{Kinds}
 use Rattle.cob_tree.specs.Kinds.{kinds_of, every_kind, both}
-use Rattle.cob_program.specs.Values.{◌>>=◌}
 use Rattle.cob_program.specs.Act.{Act, Program}
 use Rattle.cob_runs.specs.declared.action.Action.{Action}
 use Rattle.cob_runs.specs.declared.action.Cell.{Cell}
@@ -23,8 +22,7 @@ use Rattle.cell_layer.specs.Kept.{seen}
 use Rattle.cell_layer.specs.ProgramRows.{IsRowOf}
 use Rattle.cell_layer.specs.Walks.{CanStep}
 use Rattle.diff_steps.specs.Moments.{Bytes, Seen2}
-use Rattle.diff_steps.specs.Steps.{all_closed}
-use Rattle.diff_steps.specs.Edges.{beginning2, steps2, finished2}
+use Rattle.diff_steps.specs.Edges.{beginning2, finished2}
 use Rattle.diff_steps.specs.Clearing.{clears_part2}
 use Rattle.diff_layer.specs.PackWriting.{are_written}
 use Rattle.diff_layer.specs.declared.plans.PackPlan.{PackPlan}

@@ -1,6 +1,6 @@
 -- What a layer's laws follow from.
-use Rattle.std.proofs.Common.{◌≡◌, ◌≤◌, ℕ, List, [], ◌∷◌, length, ℤ, Vec, Some, None, sym, ap, ◌∙◌}
-use Rattle.std.specs.Coded.{×_prop, Unit-prop}
+use Rattle.std.proofs.Common.{◌≡◌, ◌≤◌, ℕ, List, length, ℤ, Vec, Some, None, sym, ap, ◌∙◌}
+use Rattle.std.specs.Coded.{Unit-prop}
 use Rattle.std.specs.declared.alloc.Global.{Global}
 use Rattle.std.specs.List.{AllByRecursion, AllByRecursion-prop}
 use Rattle.std.proofs.Props.{props}
@@ -13,12 +13,9 @@ use Rattle.dom_laws.specs.Lattice.{IsLattice}
 use Rattle.dom_laws.specs.Flow.{IsFlow}
 use Rattle.dom_laws.specs.Meaning.{IsMeaning}
 use Rattle.graph_runs.specs.Sources.{IsSourceGraph}
-use Rattle.interval_domain.specs.Known.{Known, KnownFits}
-use Rattle.interval_domain.specs.Elements.{Element, CellsFit, ElementFits}
-use Rattle.interval_domain.specs.Rows.{IsRow, element_of}
-use Rattle.cob_graph.specs.declared.homes.Home.{Home}
+use Rattle.interval_domain.specs.Elements.{Element, ElementFits}
+use Rattle.interval_domain.specs.Rows.{IsRow}
 use Rattle.cob_graph.specs.Homes.{homes_of}
-use Rattle.cell_steps.specs.OwnRanges.{owns}
 use Rattle.cell_layer.proofs.FirstCells.{homes_many}
 use Rattle.cell_layer.specs.declared.works.EdgeWorks.{EdgeWorks}
 use Rattle.cell_layer.specs.Held.{IsHeld}

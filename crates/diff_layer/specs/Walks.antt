@@ -1,5 +1,5 @@
 -- What an edge of a statement makes of the matrices of packs, and what it clears.
-use Rattle.std.specs.Prelude.{ℕ, ◌&&◌, if◌then◌else◌, Bool, true, List, [], ◌∷◌, ℤ, Option, Some, None}
+use Rattle.std.specs.Prelude.{◌&&◌, if◌then◌else◌, Bool, true, List, [], ◌∷◌, ℤ, Option, Some, None}
 use Rattle.std.specs.Option.{option_map_or}
 use Rattle.cob_tree.specs.declared.fault.Kind.{Kind}
 use Rattle.cob_program.specs.Values.{◌>>=◌}

@@ -68,12 +68,7 @@ fn is_apart_in(items: &KnownItems, plan: &PackPlan, m: &[i128], divisor: Divisor
     is_apart(pack.cells.len(), m, divisor_form(items, &pack, divisor))
 }
 
-fn is_apart_in_some(
-    items: &KnownItems,
-    plans: &[PackPlan],
-    out: &[i128],
-    divisor: Divisor,
-) -> bool
+fn is_apart_in_some(items: &KnownItems, plans: &[PackPlan], out: &[i128], divisor: Divisor) -> bool
     requires fits { CellsFit (owns (program_of items.now)) (known_in items.now) }
     requires plans { ArePlansOf (program_of items.now) plans.now }
     requires small { is_small_atom (bound_at (program_of items.now).layout) (plain_divisor divisor) ≡ true }
@@ -179,13 +174,7 @@ fn amount_for(
 
 // whether a store fits that the first layer doesn't show to fit, where its operands are taken; no run comes to one whose
 // operands have no range
-fn store_fits(
-    moment: &Moment,
-    matrices: &Matrices,
-    place: u32,
-    mode: Mode,
-    amount: Amount,
-) -> bool
+fn store_fits(moment: &Moment, matrices: &Matrices, place: u32, mode: Mode, amount: Amount) -> bool
     requires matrices { AreMatricesOf (program_of moment.now.items) matrices.now }
     requires small { IsSmallStore (program_of moment.now.items) (act_at moment.now) moment.now.action place (plain_amount amount) }
     requires of_edge { IsStoreOf (program_of moment.now.items) (act_at moment.now) moment.now.action (plain_amount amount) }
@@ -286,13 +275,7 @@ fn taken(moment: &Moment) -> Kept
 }
 
 // whether a store fits, where its operands are taken
-fn taken_fits(
-    moment: &Moment,
-    matrices: &Matrices,
-    place: u32,
-    mode: Mode,
-    amount: Amount,
-) -> bool
+fn taken_fits(moment: &Moment, matrices: &Matrices, place: u32, mode: Mode, amount: Amount) -> bool
     requires matrices { AreMatricesOf (program_of moment.now.items) matrices.now }
     requires small { IsSmallStore (program_of moment.now.items) (act_at moment.now) moment.now.action place (plain_amount amount) }
     requires of_edge { IsStoreOf (program_of moment.now.items) (act_at moment.now) moment.now.action (plain_amount amount) }
@@ -449,13 +432,7 @@ fn kinds_cleared(moment: &Moment, matrices: &Matrices, part: EdgePart, by_cells:
 }
 
 // the kinds of faults of a part of an edge that aren't met
-fn cleared(
-    edge: &PackEdge,
-    part: &EdgePart,
-    row: &[i128],
-    state: PackState,
-    out: &[i128],
-) -> Kinds
+fn cleared(edge: &PackEdge, part: &EdgePart, row: &[i128], state: PackState, out: &[i128]) -> Kinds
     requires row { IsRowOf (program_in edge.now.work.now) edge.now.cells.now row.now }
     requires small { IsSmallPart (program_in edge.now.work.now) (act_of edge.now.work.now) edge.now.work.now.action (plain_part part.now) }
     requires of_edge { IsOfEdge (program_in edge.now.work.now) (act_of edge.now.work.now) edge.now.work.now.action (plain_part part.now) }
@@ -486,12 +463,7 @@ fn cleared(
 }
 
 // the kinds that all parts of an edge clear, where the matrices are closed
-fn cleared_closed(
-    edge: &PackEdge,
-    row: &mut [i128],
-    before: &mut [i128],
-    out: &mut [i128],
-) -> Kinds
+fn cleared_closed(edge: &PackEdge, row: &mut [i128], before: &mut [i128], out: &mut [i128]) -> Kinds
     requires row { IsRowOf (program_in edge.now.work.now) edge.now.cells.now row.old }
     requires fits { CellsFit (owns (program_in edge.now.work.now)) (cells_of row.old) }
     requires room { length before.old ≡ length row.old }

@@ -23,10 +23,8 @@ pub struct PackEdge<'a, 'b, 'c, 'd> {
     pub plans: &'d [PackPlan],
     pub ghost packs: { ArePlansOf (program_of work.now) plans.now } by { plans_prop (program_of work.now) plans.now },
     pub ghost small_cells: { has_small_cells (program_of work.now) ≡ true },
-    pub ghost small: { AllByRecursion (IsSmallPart (program_of work.now) (act_of work.now) work.now.action) (parts_of_edge work.now) }
-        by { parts_prop (program_of work.now) (act_of work.now) work.now.action (parts_of_edge work.now) },
-    pub ghost of_edge: { AllByRecursion (IsOfEdge (program_of work.now) (act_of work.now) work.now.action) (parts_of_edge work.now) }
-        by { all_of_edge_prop (program_of work.now) (act_of work.now) work.now.action (parts_of_edge work.now) },
+    pub ghost small: { AllByRecursion (IsSmallPart (program_of work.now) (act_of work.now) work.now.action) (parts_of_edge work.now) } by { parts_prop (program_of work.now) (act_of work.now) work.now.action (parts_of_edge work.now) },
+    pub ghost of_edge: { AllByRecursion (IsOfEdge (program_of work.now) (act_of work.now) work.now.action) (parts_of_edge work.now) } by { all_of_edge_prop (program_of work.now) (act_of work.now) work.now.action (parts_of_edge work.now) },
 }
 
 /// What is kept between two parts of an edge.

@@ -89,14 +89,7 @@ pub struct Target {
 }
 
 /// Stores a form, cut or rounded, at a cell.
-pub fn store_form(
-    size: usize,
-    m: &mut [i128],
-    target: Target,
-    slot: Slot,
-    known: Known,
-    form: &Lin,
-)
+pub fn store_form(size: usize, m: &mut [i128], target: Target, slot: Slot, known: Known, form: &Lin)
     requires size { size ≤ 8 }
     requires m { IsMatrix size m.old }
     requires first { 1 ≤ target.place }

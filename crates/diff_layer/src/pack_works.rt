@@ -11,8 +11,7 @@ use cell_layer::EdgeWorks;
 pub struct PackWorks<'a, 'b, 'c> {
     pub works: &'a EdgeWorks<'b>,
     pub plans: &'c [PackPlan],
-    pub ghost packs: { ArePlansOf (plain_program works.now.program.now) plans.now }
-        by { plans_prop (plain_program works.now.program.now) plans.now },
+    pub ghost packs: { ArePlansOf (plain_program works.now.program.now) plans.now } by { plans_prop (plain_program works.now.program.now) plans.now },
 }
 
 /// What is known at a node: the row of cells, and the matrices of all packs.

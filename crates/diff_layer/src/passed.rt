@@ -14,6 +14,5 @@ pub struct Passed<'a, 'b, 'c> {
     pub moment: Moment<'a, 'b>,
     pub row: &'c [i128],
     pub ghost row_of: { IsRowOf (program_of moment.items) moment.items.cells.now row.now },
-    pub ghost fit: { CellsFit (owns (program_of moment.items)) (cells_of row.now) }
-        by { cells_prop (owns (program_of moment.items)) (cells_of row.now) },
+    pub ghost fit: { CellsFit (owns (program_of moment.items)) (cells_of row.now) } by { cells_prop (owns (program_of moment.items)) (cells_of row.now) },
 }

@@ -76,7 +76,11 @@ fn store_cell(
                 moment.written,
             );
             let receiver = receiver_at(&moment.items.program.layout, place);
-            let unit = unit_of(&moment.items.program.layout, pack.decimals, Home::Item(place));
+            let unit = unit_of(
+                &moment.items.program.layout,
+                pack.decimals,
+                Home::Item(place),
+            );
             let target = Target {
                 place: cell + 1,
                 unit,
@@ -116,7 +120,12 @@ fn store_fitting(
 {
     if has_operands(&moment.items, amount, moment.written) {
         store_cell(moment, pack, m, place, mode, amount);
-        forget(&moment.items.program.layout, Gone::Others(place), pack.cells, m);
+        forget(
+            &moment.items.program.layout,
+            Gone::Others(place),
+            pack.cells,
+            m,
+        );
     } else {
         set_least_matrix(pack.cells.len(), m);
     }
@@ -145,6 +154,11 @@ pub(crate) fn store(
     if !moment.kept.may_fail {
         store_fitting(moment, pack, m, place, mode, amount);
     } else if moment.kept.may_fit {
-        forget(&moment.items.program.layout, Gone::Lost(place), pack.cells, m);
+        forget(
+            &moment.items.program.layout,
+            Gone::Lost(place),
+            pack.cells,
+            m,
+        );
     }
 }

@@ -131,18 +131,14 @@ fn is_taken(work: &EdgeWork, any_fail: bool) -> bool
     ensures { result ≡ not (is_handled (act_of work.now) work.now.action && not any_fail) }
 {
     match work.action {
-        Action::Size => !matches!(&work.statement.act, Act::Arith { size: Some(_), .. }) || any_fail,
+        Action::Size => !matches!(&work.statement.act, Act::Arith { size: Some(_), .. })
+            || any_fail,
         _ => true,
     }
 }
 
 // leads both rows over all parts of an edge, where the matrices are closed
-fn walk_closed(
-    edge: &PackEdge,
-    row: &mut [i128],
-    before: &mut [i128],
-    out: &mut [i128],
-) -> bool
+fn walk_closed(edge: &PackEdge, row: &mut [i128], before: &mut [i128], out: &mut [i128]) -> bool
     requires row { IsRowOf (program_of edge.now.work.now) edge.now.cells.now row.old }
     requires fits { CellsFit (owns (program_of edge.now.work.now)) (cells_of row.old) }
     requires room { length before.old ≡ length row.old }
@@ -167,12 +163,7 @@ fn walk_closed(
 /// Makes of the matrices of all packs what an edge makes of them, beside room for a row. The row of what is known of cells
 /// goes along, and what it then holds isn't told. Answers false where no run passes the edge; then the matrices' words
 /// aren't told either.
-pub fn walk_packs(
-    edge: &PackEdge,
-    row: &mut [i128],
-    before: &mut [i128],
-    out: &mut [i128],
-) -> bool
+pub fn walk_packs(edge: &PackEdge, row: &mut [i128], before: &mut [i128], out: &mut [i128]) -> bool
     requires row { IsRowOf (program_of edge.now.work.now) edge.now.cells.now row.old }
     requires fits { CellsFit (owns (program_of edge.now.work.now)) (cells_of row.old) }
     requires room { length before.old ≡ length row.old }

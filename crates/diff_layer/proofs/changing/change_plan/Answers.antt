@@ -1,5 +1,4 @@
-use Rattle.std.proofs.Common.{sym, ap, subst, ◌∙◌, arith}
-use Rattle.std.proofs.lemmas.List.{length-map}
+use Rattle.std.proofs.Common.{sym, ap, subst, arith}
 use Rattle.diff_bounds.specs.Matrix.{IsMatrix}
 use Rattle.diff_steps.specs.Packs.{size_of}
 use Rattle.diff_layer.specs.Plans.{plain_plan}

@@ -1,4 +1,4 @@
-use Rattle.std.proofs.Common.{◌≡◌, ◌≤◌, ◌<◌, ◌+◌, true, false, length, get_or, rules, sym, ap, subst, ◌∙◌}
+use Rattle.std.proofs.Common.{◌≤◌, ◌<◌, ◌+◌, length, get_or, rules, sym, ap, subst, ◌∙◌}
 use Rattle.interval_domain.specs.Rows.{cells_of}
 use Rattle.cell_laws.specs.Sizes.{IsSmallPart}
 use Rattle.cell_layer.specs.Works.{program_of, act_of}

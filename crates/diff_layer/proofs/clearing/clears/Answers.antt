@@ -1,4 +1,4 @@
-use Rattle.std.proofs.Common.{true, sym, ap, ◌∙◌}
+use Rattle.std.proofs.Common.{sym, ap, ◌∙◌}
 use Rattle.cob_tree.specs.Kinds.{has}
 use Rattle.cob_tree.proofs.KindLaws.{has_kinds_of}
 use Rattle.edge_amounts.specs.PartView.{plain_part}

@@ -1,4 +1,4 @@
-use Rattle.std.proofs.Common.{◌∙◌, subst}
+use Rattle.std.proofs.Common.{◌∙◌}
 use Rattle.interval_domain.specs.Rows.{cells_of}
 use Rattle.cell_layer.proofs.Leaving.{can_walk}
 use Rattle.diff_layer.specs.GraphWorks.{program_of, graph_of, packs_of, edge_of, matrices_of}

@@ -1,7 +1,6 @@
 use Rattle.std.proofs.Common.{◌≡◌, ◌≤◌, ◌<◌, ◌==◌, ◌∙◌, List, true, false, length, slice_index_or, sym, ap, subst, arith, rules}
 use Rattle.std.specs.List.Sorted.{IsNonDecreasingBy}
 use Rattle.std.proofs.lemmas.Bool.{eqb-true, eqb-false}
-use Rattle.cob_tree.specs.declared.fault.Kind.{Kind}
 use Rattle.cob_graph.specs.declared.graph.Edge.{Edge}
 use Rattle.graph_runs.specs.Places.{no_edge}
 use Rattle.diff_layer.specs.GraphWorks.{program_of, graph_of, packs_of, matrices_of, cells_at}

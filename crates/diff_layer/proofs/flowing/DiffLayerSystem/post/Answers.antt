@@ -1,4 +1,4 @@
-use Rattle.std.proofs.Common.{◌≡◌, ◌≤◌, ◌∙◌, ◌-◌, length, Some, None, refl, sym, ap, subst, arith}
+use Rattle.std.proofs.Common.{◌≡◌, ◌≤◌, ◌∙◌, ◌-◌, Some, None, refl, sym, ap, subst, arith}
 use Rattle.std.specs.Prelude.{slice_index_or, if◌then◌else◌}
 use Rattle.cob_program.specs.ActView.{plain_program}
 use Rattle.cob_graph.specs.declared.graph.Edge.{Edge}
@@ -13,7 +13,7 @@ use Rattle.pack_laws.specs.Packs.{packs_of}
 use Rattle.diff_layer.specs.Edges.{packs_walked}
 use Rattle.cell_layer.proofs.Holding.{edges_too}
 use Rattle.diff_layer.specs.LayerLaws.{its_packs, facts_of, flows_by}
-use Rattle.diff_layer.proofs.Layers.{are_plans, as_many, is_row_for, few_facts, passed, stopped}
+use Rattle.diff_layer.proofs.Layers.{are_plans, is_row_for, few_facts, passed, stopped}
 use Rattle.diff_layer.proofs.HeldWorks.{plans_too, row_too, walks_too}
 use Rattle.diff_layer.proofs.Sizes.{small_in}
 use Rattle.diff_layer.proofs.flowing.DiffLayerSystem.post.Goals as goal

@@ -1,4 +1,4 @@
-use Rattle.std.proofs.Common.{◌≡◌, length, ap, arith}
+use Rattle.std.proofs.Common.{length, ap, arith}
 use Rattle.cob_program.specs.ActView.{plain_program}
 use Rattle.diff_layer.proofs.Layers.{few_words_in}
 use Rattle.diff_layer.proofs.layer.DiffLayer.lent.Goals as goal

@@ -1,4 +1,4 @@
-use Rattle.std.proofs.Common.{◌≡◌, ◌≤◌, ◌∙◌, length, sym, ap, subst}
+use Rattle.std.proofs.Common.{◌≤◌, ◌∙◌, length, sym, ap, subst}
 use Rattle.std.specs.List.{All}
 use Rattle.cob_program.specs.ActView.{plain_program}
 use Rattle.cob_program.specs.Statements.{plain_references}
@@ -12,7 +12,7 @@ use Rattle.diff_steps.specs.Edges.{entry_packs}
 use Rattle.diff_bounds.specs.PackRows.{row_of}
 use Rattle.diff_layer.specs.Plans.{plain_plans, ArePlansOf}
 use Rattle.pack_laws.specs.Layer.{sizes_of}
-use Rattle.pack_laws.specs.Packs.{packs_of, ArePacksOfCells}
+use Rattle.pack_laws.specs.Packs.{ArePacksOfCells}
 use Rattle.diff_layer.specs.LayerLaws.{cells_for_homes}
 use Rattle.diff_layer.proofs.Layers.{are_plans}
 use Rattle.diff_layer.proofs.Rows.{same_sizes}
