@@ -4,6 +4,8 @@ use Rattle.std.specs.Prelude.{int_le, int_lt}
 use Rattle.std.specs.Option.{option_map, option_map_or}
 use Rattle.std.specs.List.{list_any}
 use Rattle.std.proofs.lemmas.Int.{ints}
+use Rattle.std.proofs.Props.{props}
+use Rattle.std.proofs.Math.Logic.{∥∥₁_elim}
 use Rattle.dec_num.specs.declared.types.Mode.{Mode}
 use Rattle.cob_data.specs.declared.layout.Sender.{Sender}
 use Rattle.dec_num.specs.declared.types.Mode.TheVariants.{Trunc}
@@ -37,7 +39,8 @@ use Rattle.interval_domain.specs.Known.{Known}
 use Rattle.cob_graph.specs.declared.homes.Home.TheVariants.{Count as of_count}
 use Rattle.cob_graph.specs.Homes.{homes_of}
 use Rattle.cell_steps.specs.Cells.{units_of}
-use Rattle.cell_steps.specs.Operands.{edge_operands, settled, amount_of}
+use Rattle.cell_steps.specs.Agreeing.{of_operands}
+use Rattle.cell_steps.specs.Operands.{edge_amount, edge_operands, settled, amount_of}
 use Rattle.cell_steps.specs.Seen.{Seen}
 use Rattle.cell_steps.specs.Stores.{range_at, with_taken}
 use Rattle.cell_steps.specs.Clearing.{is_misfit, has_quotient, all_fit_of, all_fit, all_count, clears_part}
@@ -216,10 +219,11 @@ module _ (p : Program) (a : Act) (x : Action) (t : Seen) where
 
   rooted : (y : Amount) → CanStep p a x t → t.written ≡ true → sends_small p a x ≡ true → IsStoreOf p a x y → Rooted y
   rooted (moved z) can w sent of_edge = tt
-  rooted (computed s how.Whole) can w sent of_edge = λ c u e g. root_from (can.taken w).range s (root_of s) c u (sym its ∙ e) g
+  rooted (computed s how.Whole) can w sent of_edge =
+      λ c u e g. ∥∥₁_elim of_edge.operands (hlevel props) (λ same. root_from (can.taken w).range s (root_of s) c u (sym (its same) ∙ e) g)
     where
-      its : t.common ≡ taken_from (can.taken w).range s (root_of s)
-      its = (can.taken w).same ∙ (sent_all sent (edge_operands (can.taken w).range a x) ∙ ap (λ (o : Option Amount). o >>= operands (can.taken w).range) of_edge.operands)
+      its : edge_amount a x ≡ Some (of_operands (computed s how.Whole)) → t.common ≡ taken_from (can.taken w).range s (root_of s)
+      its same = (can.taken w).same ∙ (sent_all sent (edge_operands (can.taken w).range a x) ∙ ap (λ (o : Option Amount). o >>= operands (can.taken w).range) same)
   rooted (computed s how.Plus) can w sent of_edge = tt
   rooted (computed s how.Minus) can w sent of_edge = tt
   rooted (computed s how.Times) can w sent of_edge = tt

@@ -1,8 +1,10 @@
 -- What the first layer clears along an edge both layers do.
-use Rattle.std.proofs.Common.{◌≡◌, true, List, [], ◌∷◌, ℤ, Option, Some, None, refl}
+use Rattle.std.proofs.Common.{◌≡◌, true, List, [], ◌∷◌, ℤ, Option, Some, None, refl, sym, ap, ◌∙◌}
 use Rattle.std.specs.Option.{option_map_or}
 use Rattle.std.proofs.lemmas.Bool.{and_parts}
 use Rattle.cob_tree.specs.declared.fault.Kind.{Kind}
+use Rattle.cob_tree.specs.Kinds.{has, kinds_of, every_kind}
+use Rattle.cob_tree.proofs.KindLaws.{has_kinds_of}
 use Rattle.cob_program.specs.Values.{◌>>=◌}
 use Rattle.cob_program.specs.Act.{Act, Program}
 use Rattle.cob_runs.specs.declared.action.Action.{Action}
@@ -17,6 +19,7 @@ use Rattle.cell_steps.specs.Clearing.{clears_part, clears_parts}
 use Rattle.cell_steps.specs.Edges.{clears_edge}
 use Rattle.cell_laws.proofs.PartsDone.{and_true}
 use Rattle.cell_laws.specs.Layer.{edge_clears, left}
+use Rattle.cell_layer.proofs.KindSets.{same_tests}
 use Rattle.diff_steps.specs.Packs.{Pack}
 use Rattle.diff_steps.specs.Moments.{Seen2, with_packs}
 use Rattle.diff_steps.specs.Steps.{all_closed, changed, step2}
@@ -72,3 +75,11 @@ module _ (p : Program) (packs : List Pack) (fault : Kind) where
             → option_map_or (λ a. clears_edge2 p packs (left g edge) a edge.action cells ms fault) o true ≡ true
         by_act None e = refl
         by_act (Some a) e = act_too a e
+
+-- where the first layer clears all kinds along an edge, so do both
+pub all_cleared_by_cells : (p : Program) (packs : List Pack) (g : Graph) (cells : List Known) (ms : List (List ℤ)) (edge : Edge)
+    → kinds_of (λ kind. edge_clears p g kind cells edge) ≡ every_kind → every_kind ≡ kinds_of (λ kind. edge_clears2 p g packs kind cells ms edge)
+all_cleared_by_cells p packs g cells ms edge e =
+    same_tests (λ kind. true) (λ kind. edge_clears2 p g packs kind cells ms edge)
+    (λ kind. sym (cleared_by_cells p packs kind g cells ms edge
+    (sym (has_kinds_of (λ k. edge_clears p g k cells edge) kind) ∙ (ap (λ s. has s kind) e ∙ has_kinds_of (λ k. true) kind))))

@@ -1,23 +1,19 @@
--- What edges make of matrices, and what they clear, by the statements that they leave.
+-- What edges make of matrices, and what they clear, by their works.
 use Rattle.std.proofs.Common.{◌≡◌, true, List, ℤ, Option, Some, None, sym, ap, ◌∙◌}
-use Rattle.std.specs.Prelude.{Contains}
-use Rattle.std.specs.Borrow.{Bor}
-use Rattle.std.specs.List.{All}
 use Rattle.std.specs.Option.{option_map_or}
 use Rattle.std.proofs.Props.{props}
 use Rattle.std.proofs.Math.Logic.{∥∥₁_elim}
 use Rattle.cob_tree.specs.declared.fault.Kind.{Kind}
-use Rattle.cob_program.specs.declared.act.Stmt as declared_stmt
-use Rattle.cob_program.specs.ActView.{plain_stmt}
+use Rattle.cob_tree.specs.Kinds.{kinds_of, every_kind}
 use Rattle.cob_program.specs.Act.{Stmt, MkStmt, Act, Program}
 use Rattle.cob_graph.specs.declared.graph.Edge.{Edge}
 use Rattle.cob_graph.specs.declared.graph.Graph.{Graph}
+use Rattle.edge_amounts.specs.declared.work.EdgeWork.{EdgeWork}
 use Rattle.interval_domain.specs.Known.{Known}
 use Rattle.cell_laws.specs.Layer.{left}
 use Rattle.cell_layer.specs.NumberedStatements.{act_in, number_in}
-use Rattle.cell_layer.specs.Statements.{IsNumbered}
-use Rattle.cell_layer.specs.Held.{IsHeld, IsLeft}
-use Rattle.cell_layer.proofs.Finding.{is_left_some, is_left_none}
+use Rattle.cell_layer.specs.Works.{program_of, statement_of, IsLeft, IsWorkOf}
+use Rattle.cell_layer.proofs.KindSets.{same_tests}
 use Rattle.diff_steps.specs.Packs.{Pack}
 use Rattle.diff_steps.specs.Edges.{walked_packs}
 use Rattle.diff_steps.specs.Clearing.{clears_edge2}
@@ -52,23 +48,33 @@ module _ (p : Program) (g : Graph) (packs : List Pack) (x : Edge) (cells : List 
   clears_by_none fault is =
       ap (λ (o : Option Act). option_map_or (λ a. clears_edge2 p packs (left g x) a x.action cells ms fault) o true) is.act
 
-  module _ (ss : List (Bor declared_stmt.Stmt)) (held : ∥ IsHeld p g ss ∥₁) where
-    module _ (s : Bor declared_stmt.Stmt) (numbered : IsNumbered ss (left g x) s) where
-      its : IsHeld p g ss → IsLeft p g x (Some (plain_stmt s.now))
-      its h = is_left_some p g x ss h.source.whole h.listed s numbered
+  module _ (w : EdgeWork) (work : ∥ IsWorkOf p g x (Some w) ∥₁) where
+    pub walks_it : edge_walked p g packs x ms cells ≡ statement_walked (program_of w) packs (statement_of w) w.action cells ms
+    walks_it = ∥∥₁_elim work (hlevel props) walks
+      where
+        walks : IsWorkOf p g x (Some w) → edge_walked p g packs x ms cells ≡ statement_walked (program_of w) packs (statement_of w) w.action cells ms
+        walks is =
+            walked_by (statement_of w) is.left
+            ∙ (ap (λ a. statement_walked p packs (statement_of w) a cells ms) (sym is.action)
+            ∙ ap (λ q. statement_walked q packs (statement_of w) w.action cells ms) (sym is.program))
 
-      pub walks_it : edge_walked p g packs x ms cells ≡ statement_walked p packs (plain_stmt s.now) x.action cells ms
-      walks_it = ∥∥₁_elim held (hlevel props) (λ h. walked_by (plain_stmt s.now) (its h))
+    clears_it : (fault : Kind) → statement_clears2 (program_of w) packs (statement_of w) w.action cells ms fault ≡ edge_clears2 p g packs fault cells ms x
+    clears_it fault = ∥∥₁_elim work (hlevel props) clears
+      where
+        clears : IsWorkOf p g x (Some w) → statement_clears2 (program_of w) packs (statement_of w) w.action cells ms fault ≡ edge_clears2 p g packs fault cells ms x
+        clears is =
+            ap (λ q. statement_clears2 q packs (statement_of w) w.action cells ms fault) is.program
+            ∙ (ap (λ a. statement_clears2 p packs (statement_of w) a cells ms fault) is.action
+            ∙ sym (clears_by (statement_of w) fault is.left))
 
-      pub clears_it : (fault : Kind) → statement_clears2 p packs (plain_stmt s.now) x.action cells ms fault ≡ edge_clears2 p g packs fault cells ms x
-      clears_it fault = ∥∥₁_elim held (hlevel props) (λ h. sym (clears_by (plain_stmt s.now) fault (its h)))
+    pub cleared_by : kinds_of (statement_clears2 (program_of w) packs (statement_of w) w.action cells ms) ≡ kinds_of (λ fault. edge_clears2 p g packs fault cells ms x)
+    cleared_by = same_tests (statement_clears2 (program_of w) packs (statement_of w) w.action cells ms) (λ fault. edge_clears2 p g packs fault cells ms x) clears_it
 
-    module _ (none : All (λ s. ¬ number_in (plain_stmt s.now) ≡ left g x) ss) where
-      its_none : IsHeld p g ss → IsLeft p g x None
-      its_none h = is_left_none p g x ss h.source.whole h.listed none
+  module _ (none : ∥ IsWorkOf p g x None ∥₁) where
+    pub walks_none : edge_walked p g packs x ms cells ≡ Some ms
+    walks_none = ∥∥₁_elim none (hlevel props) (λ is. walked_by_none is.left)
 
-      pub walks_none : edge_walked p g packs x ms cells ≡ Some ms
-      walks_none = ∥∥₁_elim held (hlevel props) (λ h. walked_by_none (its_none h))
-
-      pub clears_none : (fault : Kind) → true ≡ edge_clears2 p g packs fault cells ms x
-      clears_none fault = ∥∥₁_elim held (hlevel props) (λ h. sym (clears_by_none fault (its_none h)))
+    pub cleared_by_none : every_kind ≡ kinds_of (λ fault. edge_clears2 p g packs fault cells ms x)
+    cleared_by_none =
+        same_tests (λ fault. true) (λ fault. edge_clears2 p g packs fault cells ms x)
+        (λ fault. ∥∥₁_elim none (hlevel props) (λ is. sym (clears_by_none fault is.left)))

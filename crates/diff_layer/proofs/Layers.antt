@@ -1,41 +1,38 @@
 -- What a layer keeps gives its walks what they ask for, and its posts by what these answer.
-use Rattle.std.proofs.Common.{◌≡◌, ◌≤◌, ℕ, suc, ◌+◌, ◌*◌, ◌-◌, ◌<◌, List, [], ◌∷◌, length, ℤ, Vec, Option, Some, None, refl, sym, ap, subst, ◌∙◌, arith}
-use Rattle.std.specs.Prelude.{slice_get, Contains}
+use Rattle.std.proofs.Common.{◌≡◌, ◌≤◌, ℕ, suc, ◌+◌, ◌*◌, List, [], ◌∷◌, length, ℤ, Vec, Some, None, refl, sym, ap, subst, ◌∙◌, arith}
+use Rattle.std.specs.Prelude.{slice_get}
 use Rattle.std.specs.declared.alloc.Global.{Global}
-use Rattle.std.specs.Borrow.{Bor}
 use Rattle.std.specs.List.{AllByRecursion, AllByRecursion-prop}
 use Rattle.std.proofs.Props.{props}
 use Rattle.std.proofs.Math.Logic.{∥∥₁_elim}
-use Rattle.std.proofs.lemmas.List.{length-map, get_or_default}
+use Rattle.std.proofs.lemmas.List.{length-map}
 use Rattle.std.proofs.lemmas.List.Elements.{All-from_recursion, All-contains}
 use Rattle.cob_data.specs.declared.layout.Layout.{Layout}
-use Rattle.cob_program.specs.declared.act.Stmt as declared_stmt
 use Rattle.cob_program.specs.Act.{Program}
 use Rattle.cob_graph.specs.declared.graph.Edge.{Edge}
 use Rattle.cob_graph.specs.declared.graph.Graph.{Graph}
 use Rattle.dom_laws.specs.Lattice.{IsElement}
-use Rattle.dom_laws.specs.Flow.{IsEdge, IsNode}
-use Rattle.graph_runs.specs.Places.{no_edge, edge_at}
+use Rattle.graph_runs.specs.Places.{edge_at}
 use Rattle.interval_domain.specs.Rows.{IsRow, element_of}
 use Rattle.cob_graph.specs.declared.homes.Home.{Home}
 use Rattle.cob_graph.specs.Homes.{homes_of}
 use Rattle.cob_graph.specs.Limits.{most_cells}
 use Rattle.cell_steps.specs.OwnRanges.{home_range, owns}
+use Rattle.cell_layer.specs.declared.works.EdgeWorks.{EdgeWorks}
 use Rattle.cell_layer.specs.Held.{IsHeld}
 use Rattle.cell_layer.proofs.Making.{sound_items}
 use Rattle.diff_bounds.specs.declared.Pack as declared
 use Rattle.diff_steps.specs.Packs.{Pack, size_of}
-use Rattle.diff_steps.specs.Edges.{bottoms}
 use Rattle.diff_bounds.specs.PackRows.{width_of, matrices_in, row_of, matrices_beside, lists_of}
 use Rattle.pack_laws.specs.Agreeing.{AreMatrices, IsPackOf, ArePacksOf}
 use Rattle.diff_layer.specs.declared.plans.PackPlan.{PackPlan}
 use Rattle.diff_layer.specs.Plans.{plain_plan, plain_plans, IsShortHome, ArePlansOf, matrices_for, IsRowFor}
 use Rattle.pack_laws.specs.Packs.{packs_of, ArePacksOfCells}
-use Rattle.pack_laws.specs.Layer.{Facts, AreFacts, ArePacks, sizes_of, diff_lattice, packs_post, diff_post, diff_flow}
+use Rattle.pack_laws.specs.Layer.{Facts, ArePacks, sizes_of, diff_lattice, packs_post, diff_post}
 use Rattle.pack_laws.proofs.Pieces.{are_matrices}
 use Rattle.diff_layer.specs.Planning.{HasUnit, HaveUnits}
 use Rattle.diff_layer.specs.Edges.{packs_walked}
-use Rattle.diff_layer.specs.LayerLaws.{source_of, cells_for_homes, its_packs, facts_of, flows_by}
+use Rattle.diff_layer.specs.LayerLaws.{source_of, cells_for_homes, its_packs}
 use Rattle.diff_layer.proofs.Rows.{row_back, width_is, least_is, few_words, small_sizes, post_passed, post_stopped}
 use Rattle.diff_layer.proofs.Short.{homes_are_short}
 use Rattle.diff_layer.proofs.Facts as facts
@@ -56,7 +53,7 @@ module _ (p : Program) (short : AllByRecursion (IsShortHome p.layout) (homes_of 
       HaveUnits p.layout plans → ArePlansOf p plans
   plans_are [] cells few units = tt
   plans_are (plan ∷ plans) cells few units =
-      (record { few = few.0; short = pack_short (plain_plan plan) cells.0; unit = units.0; pack = cells.0 }, plans_are plans cells.1 few.1 units.1)
+      (record { few = few.0; short = pack_short (plain_plan plan) cells.0; unit = units.0 }, plans_are plans cells.1 few.1 units.1)
 
 units_prop : (l : Layout) (plans : List PackPlan) → IsProp (HaveUnits l plans)
 units_prop l plans = AllByRecursion-prop (HasUnit l) (λ plan. hlevel props) plans
@@ -79,18 +76,26 @@ module _ (p : Program) (g : Graph) (x : Edge) (fact from out : List ℤ) where
 
 -- ---- a layer
 
-module _ (p : Program) (g : Graph) (ss : List (Bor declared_stmt.Stmt)) (held : ∥ IsHeld p g ss ∥₁) (packs : List declared.Pack)
+module _ (p : Program) (g : Graph) (works : EdgeWorks) (held : ∥ IsHeld p g works ∥₁) (packs : List declared.Pack)
     (cells : ∥ ArePacksOfCells (length g.cells) packs ∥₁) (thresholds : List (Vec ℤ Global)) (listed : length thresholds ≡ length packs) where
   abbrev pub lists : List (List ℤ)
   lists = lists_of thresholds
 
   its : ArePacks p (packs_of p packs) lists
-  its = its_packs p g ss held packs cells thresholds listed
+  its = its_packs p g works held packs cells thresholds listed
+
+  pub few_words_in : length packs ≤ 32 → (diff_lattice (packs_of p packs) lists).width ≤ 2592
+  few_words_in few =
+      let sizes = sizes_of (packs_of p packs) in
+      let most = few_words sizes (small_sizes (packs_of p packs) its.few) in
+      let many : length sizes ≡ length packs = length-map (packs_of p packs) size_of ∙ length-map packs _ in
+      let wide = width_is sizes lists (its.listed ∙ sym (length-map (packs_of p packs) size_of)) in
+      omega (arith, most, many, wide, few)
 
   module _ (plans : List PackPlan) (planned : plain_plans plans ≡ packs_of p packs) where
     pub are_plans : ∥ HaveUnits p.layout plans ∥₁ → ArePlansOf p plans
     are_plans units =
-        plans_are p (homes_are_short p (sound_items p g (source_of p g ss held))) plans (subst (ArePacksOf p) (sym planned) its.cells)
+        plans_are p (homes_are_short p (sound_items p g (source_of p g works held))) plans (subst (ArePacksOf p) (sym planned) its.cells)
         (subst (AllByRecursion (λ pack. size_of pack ≤ 8)) (sym planned) its.few) (∥∥₁_elim units (units_prop p.layout plans) (λ a. a))
 
     pub as_many : length plans ≡ length packs
@@ -103,14 +108,6 @@ module _ (p : Program) (g : Graph) (ss : List (Bor declared_stmt.Stmt)) (held : 
       matrices = subst (λ qs. AreMatrices qs (matrices_in (sizes_of qs) row)) (sym planned)
           (are_matrices (packs_of p packs) lists its row is);
     }
-
-    pub few_in : (row : List ℤ) → length packs ≤ 32 → IsElement (diff_lattice (packs_of p packs) lists) row → length row ≤ 2592
-    few_in row few is =
-        let sizes = sizes_of (packs_of p packs) in
-        let most = few_words sizes (small_sizes (packs_of p packs) its.few) in
-        let many : length sizes ≡ length packs = length-map (packs_of p packs) size_of ∙ length-map packs _ in
-        let wide = is.width ∙ width_is sizes lists (its.listed ∙ sym (length-map (packs_of p packs) size_of)) in
-        omega (arith, most, many, wide, few)
 
     -- ---- edges
 
@@ -141,14 +138,14 @@ module _ (p : Program) (g : Graph) (ss : List (Bor declared_stmt.Stmt)) (held : 
 
   -- ---- facts
 
+  pub fact_width : (row : List ℤ) → IsRow (owns p) row → length row ≡ 2 * length g.cells + 1
+  fact_width row is =
+      let wide = facts.width_is (owns p) row is in
+      let many : length (owns p) ≡ length g.cells = length-map (homes_of p) (home_range p.layout) ∙ sym (cells_for_homes p g works held) in
+      omega (arith, wide, many)
+
   pub few_facts : length g.cells ≤ most_cells → (row : List ℤ) → IsRow (owns p) row → length row ≤ 1025
   few_facts few row is =
       let wide = facts.width_is (owns p) row is in
-      let many : length (owns p) ≡ length g.cells = length-map (homes_of p) (home_range p.layout) ∙ sym (cells_for_homes p g ss held) in
+      let many : length (owns p) ≡ length g.cells = length-map (homes_of p) (home_range p.layout) ∙ sym (cells_for_homes p g works held) in
       omega (arith, wide, many, few)
-
--- an edge of the graph
-pub among : (g : Graph) (e : ℕ) (x : Edge) → 1 ≤ e → e ≤ length g.edges → x ≡ edge_at g e → Contains g.edges x
-among g e x first last at =
-    let inside : e - 1 < length g.edges = omega (arith, first, last) in
-    (e - 1, inside, get_or_default g.edges (e - 1) x no_edge inside ∙ sym at)

@@ -46,6 +46,7 @@ pub mod Short
 pub mod EdgesWalked
 pub mod Facts
 pub mod Beginning
+pub mod HeldWorks
 pub mod Layers
 pub mod EdgeOperands
 pub mod ClearedByCells

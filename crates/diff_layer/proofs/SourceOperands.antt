@@ -33,10 +33,10 @@ module _ (p : Program) (sound : HasWellFormedItems p.layout) (a : Act) (x : Acti
   result_taken s place how.Under e = e
 
   store_of : (place : ℕ) (y : Amount) → takes_number (form_at p.layout place) ≡ true → IsSourceAmount p.layout a x place y → IsStoreOf p a x y
-  store_of place (moved y) takes (its, can) = record { operands = its; small = countable_small p.layout sound y (can takes) }
-  store_of place (computed s h) takes (its, result) = record { operands = its; small = result_taken s place h result }
-  store_of place (remaining s scale) takes (its, left) = record { operands = its; small = left.stored }
-  store_of place (augmented y) takes (its, is, number) = record { operands = its; small = number_small p.layout sound y number }
+  store_of place (moved y) takes (its, can) = record { operands = ∣ its ∣₁; small = countable_small p.layout sound y (can takes) }
+  store_of place (computed s h) takes (its, result) = record { operands = ∣ its ∣₁; small = result_taken s place h result }
+  store_of place (remaining s scale) takes (its, left) = record { operands = ∣ its ∣₁; small = left.stored }
+  store_of place (augmented y) takes (its, is, number) = record { operands = ∣ its ∣₁; small = number_small p.layout sound y number }
 
   part_of : (y : Part) → IsSourcePart p.layout a x y → IsOfEdge p a x y
   part_of (read place) kept = tt
@@ -46,7 +46,7 @@ module _ (p : Program) (sound : HasWellFormedItems p.layout) (a : Act) (x : Acti
   part_of (bytes_in offset count) kept = tt
   part_of (guard t wanted) kept = tt
   part_of (read_count n) kept = tt
-  part_of (set_count n y) kept = kept.0
+  part_of (set_count n y) kept = ∣ kept.0 ∣₁
   part_of (count_down n) kept = tt
   part_of (guard_count n wanted) kept = tt
 

@@ -1,11 +1,12 @@
 -- A part that both rows are led over.
-use Rattle.std.proofs.Common.{◌≡◌, ℕ, Bool, true, false, if◌then◌else◌, List, ◌++◌, ℤ, Option, Some, None, refl, sym, ap, subst, ◌∙◌}
-use Rattle.std.specs.Prelude.{IfSome, slice_get}
+use Rattle.std.proofs.Common.{◌≡◌, Bool, true, false, if◌then◌else◌, List, ◌++◌, ℤ, Option, Some, None, refl, sym, ap, subst, ◌∙◌}
+use Rattle.std.specs.Prelude.{IfSome}
+use Rattle.std.proofs.Props.{props}
+use Rattle.std.proofs.Math.Logic.{∥∥₁_elim}
 use Rattle.cob_program.specs.Values.{◌>>=◌}
-use Rattle.cob_program.specs.Act.{Act, Stmt, Program}
+use Rattle.cob_program.specs.Act.{Act, Program}
 use Rattle.cob_runs.specs.declared.action.Action.{Action}
 use Rattle.cob_edge_parts.specs.Parts.{Amount, moved, computed, remaining, augmented, Part, read, unread, divide, store, bytes_in, guard, read_count, set_count, count_down, guard_count}
-use Rattle.edge_amounts.specs.PartView.{edge_parts}
 use Rattle.transfer_ranges.specs.declared.amounts.Taken.{Taken}
 use Rattle.edge_amounts.specs.Working.{CanWork}
 use Rattle.interval_domain.specs.Known.{Known}
@@ -13,9 +14,7 @@ use Rattle.cell_steps.specs.Agreeing.{of_operands}
 use Rattle.cell_steps.specs.Seen.{Seen}
 use Rattle.cell_steps.specs.Stores.{range_at, keeps_receiver, taking}
 use Rattle.cell_laws.specs.Sizes.{IsSmallPart}
-use Rattle.cell_layer.specs.Kept.{step_at}
 use Rattle.cell_layer.specs.Latest.{Latest, latest_behind}
-use Rattle.cell_layer.specs.NumberedStatements.{act_in}
 use Rattle.cell_layer.specs.Walks.{trimmed, with_taken_small, step_small, CanStep}
 use Rattle.cell_layer.proofs.Stepping.{taken_can, taken_written, can_work}
 use Rattle.diff_steps.specs.Packs.{Pack}
@@ -45,11 +44,12 @@ module _ (p : Program) (a : Act) (x : Action) where
   written_to unread wrote written of_edge e = tt
   written_to (divide d) wrote written of_edge e = tt
   written_to (store place mode y) wrote written of_edge e =
-      e ∙ ap (are_written p.layout wrote) (ap items_of_amount of_edge.operands ∙ operand_items y)
+      e ∙ ∥∥₁_elim of_edge.operands (hlevel props) (λ same. ap (are_written p.layout wrote) (ap items_of_amount same ∙ operand_items y))
   written_to (bytes_in offset count) wrote written of_edge e = tt
   written_to (guard t wanted) wrote written of_edge e = tt
   written_to (read_count n) wrote written of_edge e = tt
-  written_to (set_count n y) wrote written of_edge e = e ∙ ap (λ o. are_written p.layout wrote (items_of_amount o)) of_edge
+  written_to (set_count n y) wrote written of_edge e =
+      e ∙ ∥∥₁_elim of_edge (hlevel props) (λ same. ap (λ o. are_written p.layout wrote (items_of_amount o)) same)
   written_to (count_down n) wrote written of_edge e = tt
   written_to (guard_count n wanted) wrote written of_edge e = tt
 
@@ -124,11 +124,6 @@ module _ (p : Program) (a : Act) (x : Action) where
         go : (d : Bool) → ((if d then Some out else None) >>= λ ks. Some (t, with_packs c ks)) ≡ passed_to d t (seen2 (part_bytes (keeps_receiver a x) p.layout y ++ wrote) out)
         go true = ap (λ bs. Some (t, seen2 (bs ++ wrote) out)) (bytes_same y)
         go false = refl
-
--- the step of the part that has the number
-pub step_there : (p : Program) (y : Stmt) (x : Action) (k : ℕ) (part : Part) (s : Seen) (o : Option Seen) → slice_get (edge_parts p y x) k ≡ Some part → step_at p y x k s ≡ o →
-    step_small p (act_in y) x part s ≡ o
-step_there p y x k part s o there e = sym (ap (λ (q : Option Part). q >>= λ z. step_small p (act_in y) x z s) there) ∙ e
 
 pub set_can : (p : Program) (known : List Known) (common : Option Taken) (y : Part) → IsSetCount y → IfSome common HasSmallTop → CanChange p known common y
 set_can p known common (set_count n z) is top = top

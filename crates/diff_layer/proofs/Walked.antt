@@ -1,72 +1,80 @@
--- The parts of an edge, one after another.
-use Rattle.std.proofs.Common.{◌≡◌, ◌≤◌, ℕ, zero, suc, ◌<◌, Bool, true, false, ◌&&◌, List, [], ◌∷◌, drop, length, Option, Some, None, refl, ap, ◌∙◌, arith}
-use Rattle.std.specs.Prelude.{slice_get}
+-- The parts of an edge, one after another, in a list that is made once.
+use Rattle.std.proofs.Common.{◌≡◌, ◌≤◌, ◌<◌, ◌+◌, ℕ, zero, suc, Bool, true, false, ◌&&◌, List, [], ◌∷◌, map, drop, length, get_or, Option, Some, None, refl, sym, ap, subst, ◌∙◌}
+use Rattle.std.specs.List.{AllByRecursion}
 use Rattle.std.specs.Option.{option_map_or}
+use Rattle.std.proofs.lemmas.List.{drop_all}
+use Rattle.std.proofs.Math.Logic.{∥∥₁_elim}
 use Rattle.cob_tree.specs.declared.fault.Kind.{Kind}
-use Rattle.cob_program.specs.Values.{◌>>=◌}
 use Rattle.cob_program.specs.Act.{Act, Program}
+use Rattle.cob_program.proofs.Loops.{item_step}
+use Rattle.cob_program.specs.Values.{◌>>=◌}
 use Rattle.cob_runs.specs.declared.action.Action.{Action}
 use Rattle.cob_edge_parts.specs.Parts.{Part}
+use Rattle.edge_amounts.specs.PartView.{plain_part}
+use Rattle.edge_amounts.specs.declared.part.EdgePart.{EdgePart}
 use Rattle.cell_steps.specs.Seen.{Seen}
 use Rattle.diff_steps.specs.Packs.{Pack}
 use Rattle.diff_steps.specs.Moments.{Seen2}
 use Rattle.diff_steps.specs.Clearing.{clears_part2}
 use Rattle.diff_layer.specs.Walks.{step2_small, steps2_small, clears_all2}
 
-module _ (p : Program) (packs : List Pack) (a : Act) (x : Action) where
-  abbrev pub step_of : List Part → ℕ → Seen → Seen2 → Option (Seen × Seen2)
-  step_of ps k s r = slice_get ps k >>= λ y. step2_small p packs a x y s r
+-- ---- the list
 
-  abbrev pub clears_of : List Part → ℕ → Seen → Seen2 → Kind → Bool
-  clears_of ps k s r fault = option_map_or (λ y. clears_part2 p packs a x y s r fault) (slice_get ps k) true
+-- the parts from a place on
+abbrev pub left : List EdgePart → ℕ → List Part
+left parts i = map plain_part (drop i parts)
 
-  -- ---- one part is passed, or none
+pub left_more : (parts : List EdgePart) (i : ℕ) (part : EdgePart) → i < length parts → part ≡ get_or parts i part → left parts i ≡ plain_part part ∷ left parts (i + 1)
+left_more parts i part within is = ap (map plain_part) (item_step parts i part within is)
 
-  pub passed : (ps : List Part) (k : ℕ) (s t : Seen) (r q : Seen2) → k < length ps → step_of ps k s r ≡ Some (t, q) →
-      steps2_small p packs a x (drop k ps) s r ≡ steps2_small p packs a x (drop (suc k) ps) t q
-  passed [] k s t r q within e = absurd (omega (arith, within))
-  passed (y ∷ ps) zero s t r q within e = ap (λ (o : Option (Seen × Seen2)). o >>= λ u. steps2_small p packs a x ps u.0 u.1) e
-  passed (y ∷ ps) (suc k) s t r q within e = passed ps k s t r q (omega (arith, within)) e
+pub left_none : (parts : List EdgePart) (i : ℕ) → length parts ≤ i → left parts i ≡ []
+left_none parts i past = ap (map plain_part) (drop_all i parts past)
 
-  pub stopped : (ps : List Part) (k : ℕ) (s : Seen) (r : Seen2) → k < length ps → step_of ps k s r ≡ None → steps2_small p packs a x (drop k ps) s r ≡ None
-  stopped [] k s r within e = absurd (omega (arith, within))
-  stopped (y ∷ ps) zero s r within e = ap (λ (o : Option (Seen × Seen2)). o >>= λ u. steps2_small p packs a x ps u.0 u.1) e
-  stopped (y ∷ ps) (suc k) s r within e = stopped ps k s r (omega (arith, within)) e
+module _ (P : Part → Type 0) where
+  dropped : (parts : List EdgePart) (i : ℕ) → AllByRecursion P (map plain_part parts) → AllByRecursion P (left parts i)
+  dropped [] zero all = tt
+  dropped [] (suc i) all = tt
+  dropped (y ∷ parts) zero all = all
+  dropped (y ∷ parts) (suc i) all = dropped parts i all.1
 
-  pub none_left : (ps : List Part) (k : ℕ) (s : Seen) (r : Seen2) → length ps ≤ k → steps2_small p packs a x (drop k ps) s r ≡ Some (s, r)
-  none_left [] zero s r e = refl
-  none_left [] (suc k) s r e = refl
-  none_left (y ∷ ps) zero s r e = absurd (omega (arith, e))
-  none_left (y ∷ ps) (suc k) s r e = none_left ps k s r (omega (arith, e))
+  -- what holds of all parts of an edge holds of each in its list
+  pub held_of : ((y : Part) → IsProp (P y)) → (parts : List EdgePart) (all : List Part) (i : ℕ) (part : EdgePart) → ∥ map plain_part parts ≡ all ∥₁ → AllByRecursion P all → i < length parts →
+      part ≡ get_or parts i part → P (plain_part part)
+  held_of prop parts all i part listed held within is = ∥∥₁_elim listed (prop (plain_part part)) one
+    where
+      one : map plain_part parts ≡ all → P (plain_part part)
+      one e =
+          let rest : AllByRecursion P (plain_part part ∷ left parts (i + 1)) =
+          subst (AllByRecursion P) (left_more parts i part within is) (dropped parts i (subst (AllByRecursion P) (sym e) held)) in
+          rest.0
 
-  -- ---- what is cleared
+-- ---- one part is passed, or none
 
-  both : (b : Bool) (o o2 : Option (Seen × Seen2)) (f : Seen × Seen2 → Bool) → b ≡ true → o ≡ o2 → (b && option_map_or f o true) ≡ option_map_or f o2 true
-  both b o o2 f e g = ap (λ c. c && option_map_or f o true) e ∙ ap (λ r. option_map_or f r true) g
+module _ (p : Program) (packs : List Pack) (a : Act) (x : Action) (y : Part) (rest ys : List Part) (cut : ys ≡ y ∷ rest) (s : Seen) (r : Seen2) where
+  pub passed : (t : Seen) (q : Seen2) → step2_small p packs a x y s r ≡ Some (t, q) → steps2_small p packs a x ys s r ≡ steps2_small p packs a x rest t q
+  passed t q e =
+      ap (λ zs. steps2_small p packs a x zs s r) cut ∙ ap (λ (o : Option (Seen × Seen2)). o >>= λ u. steps2_small p packs a x rest u.0 u.1) e
 
-  pub cleared_passed : (ps : List Part) (k : ℕ) (s t : Seen) (r q : Seen2) (fault : Kind) → k < length ps → clears_of ps k s r fault ≡ true →
-      step_of ps k s r ≡ Some (t, q) → clears_all2 p packs a x (drop k ps) s r fault ≡ clears_all2 p packs a x (drop (suc k) ps) t q fault
-  cleared_passed [] k s t r q fault within c e = absurd (omega (arith, within))
-  cleared_passed (y ∷ ps) zero s t r q fault within c e =
-      both (clears_part2 p packs a x y s r fault) (step2_small p packs a x y s r) (Some (t, q)) (λ u. clears_all2 p packs a x ps u.0 u.1 fault) c e
-  cleared_passed (y ∷ ps) (suc k) s t r q fault within c e = cleared_passed ps k s t r q fault (omega (arith, within)) c e
+  pub stopped : step2_small p packs a x y s r ≡ None → steps2_small p packs a x ys s r ≡ None
+  stopped e =
+      ap (λ zs. steps2_small p packs a x zs s r) cut ∙ ap (λ (o : Option (Seen × Seen2)). o >>= λ u. steps2_small p packs a x rest u.0 u.1) e
 
-  pub cleared_stopped : (ps : List Part) (k : ℕ) (s : Seen) (r : Seen2) (fault : Kind) → k < length ps → clears_of ps k s r fault ≡ true →
-      step_of ps k s r ≡ None → clears_all2 p packs a x (drop k ps) s r fault ≡ true
-  cleared_stopped [] k s r fault within c e = absurd (omega (arith, within))
-  cleared_stopped (y ∷ ps) zero s r fault within c e =
-      both (clears_part2 p packs a x y s r fault) (step2_small p packs a x y s r) None (λ u. clears_all2 p packs a x ps u.0 u.1 fault) c e
-  cleared_stopped (y ∷ ps) (suc k) s r fault within c e = cleared_stopped ps k s r fault (omega (arith, within)) c e
+  whole : (fault : Kind) → clears_all2 p packs a x ys s r fault
+      ≡ (clears_part2 p packs a x y s r fault && option_map_or (λ (u : Seen × Seen2). clears_all2 p packs a x rest u.0 u.1 fault) (step2_small p packs a x y s r) true)
+  whole fault = ap (λ zs. clears_all2 p packs a x zs s r fault) cut
 
-  pub not_cleared : (ps : List Part) (k : ℕ) (s : Seen) (r : Seen2) (fault : Kind) → k < length ps → clears_of ps k s r fault ≡ false →
-      clears_all2 p packs a x (drop k ps) s r fault ≡ false
-  not_cleared [] k s r fault within c = absurd (omega (arith, within))
-  not_cleared (y ∷ ps) zero s r fault within c =
-      ap (λ b. b && option_map_or (λ u. clears_all2 p packs a x ps u.0 u.1 fault) (step2_small p packs a x y s r) true) c
-  not_cleared (y ∷ ps) (suc k) s r fault within c = not_cleared ps k s r fault (omega (arith, within)) c
+  pub cleared_passed : (t : Seen) (q : Seen2) → step2_small p packs a x y s r ≡ Some (t, q) → (fault : Kind) →
+      (clears_part2 p packs a x y s r fault && clears_all2 p packs a x rest t q fault) ≡ clears_all2 p packs a x ys s r fault
+  cleared_passed t q e fault =
+      sym
+      (whole fault ∙ ap (λ o. clears_part2 p packs a x y s r fault && option_map_or (λ (u : Seen × Seen2). clears_all2 p packs a x rest u.0 u.1 fault) o true) e)
 
-  pub all_cleared : (ps : List Part) (k : ℕ) (s : Seen) (r : Seen2) (fault : Kind) → length ps ≤ k → clears_all2 p packs a x (drop k ps) s r fault ≡ true
-  all_cleared [] zero s r fault e = refl
-  all_cleared [] (suc k) s r fault e = refl
-  all_cleared (y ∷ ps) zero s r fault e = absurd (omega (arith, e))
-  all_cleared (y ∷ ps) (suc k) s r fault e = all_cleared ps k s r fault (omega (arith, e))
+  and_true : (b : Bool) → b ≡ (b && true)
+  and_true true = refl
+  and_true false = refl
+
+  pub cleared_stopped : step2_small p packs a x y s r ≡ None → (fault : Kind) → clears_part2 p packs a x y s r fault ≡ clears_all2 p packs a x ys s r fault
+  cleared_stopped e fault =
+      and_true (clears_part2 p packs a x y s r fault)
+      ∙ sym
+      (whole fault ∙ ap (λ o. clears_part2 p packs a x y s r fault && option_map_or (λ (u : Seen × Seen2). clears_all2 p packs a x rest u.0 u.1 fault) o true) e)

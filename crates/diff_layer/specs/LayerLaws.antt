@@ -1,13 +1,11 @@
 -- What a layer's laws follow from.
-use Rattle.std.proofs.Common.{◌≡◌, ◌≤◌, ℕ, List, [], ◌∷◌, length, ℤ, Vec, Some, None, sym, ap, ◌∙◌}
-use Rattle.std.specs.Coded.{×_prop, Unit-prop}
+use Rattle.std.proofs.Common.{◌≡◌, ◌≤◌, ℕ, List, length, ℤ, Vec, Some, None, sym, ap, ◌∙◌}
+use Rattle.std.specs.Coded.{Unit-prop}
 use Rattle.std.specs.declared.alloc.Global.{Global}
-use Rattle.std.specs.Borrow.{Bor}
 use Rattle.std.specs.List.{AllByRecursion, AllByRecursion-prop}
 use Rattle.std.proofs.Props.{props}
 use Rattle.std.proofs.Math.Logic.{∥∥₁_elim, ∥∥₁_prop}
 use Rattle.std.proofs.lemmas.List.{length-map}
-use Rattle.cob_program.specs.declared.act.Stmt as declared_stmt
 use Rattle.cob_program.specs.Act.{Program}
 use Rattle.cob_graph.specs.declared.graph.Graph.{Graph}
 use Rattle.interval_domain.specs.declared.bounds.Interval.{Interval}
@@ -15,13 +13,11 @@ use Rattle.dom_laws.specs.Lattice.{IsLattice}
 use Rattle.dom_laws.specs.Flow.{IsFlow}
 use Rattle.dom_laws.specs.Meaning.{IsMeaning}
 use Rattle.graph_runs.specs.Sources.{IsSourceGraph}
-use Rattle.interval_domain.specs.Known.{Known, KnownFits}
-use Rattle.interval_domain.specs.Elements.{Element, CellsFit, ElementFits}
-use Rattle.interval_domain.specs.Rows.{IsRow, element_of}
-use Rattle.cob_graph.specs.declared.homes.Home.{Home}
+use Rattle.interval_domain.specs.Elements.{Element, ElementFits}
+use Rattle.interval_domain.specs.Rows.{IsRow}
 use Rattle.cob_graph.specs.Homes.{homes_of}
-use Rattle.cell_steps.specs.OwnRanges.{owns}
 use Rattle.cell_layer.proofs.FirstCells.{homes_many}
+use Rattle.cell_layer.specs.declared.works.EdgeWorks.{EdgeWorks}
 use Rattle.cell_layer.specs.Held.{IsHeld}
 use Rattle.diff_bounds.specs.declared.Pack as declared
 use Rattle.diff_bounds.specs.Widening.{AreThresholds}
@@ -34,6 +30,7 @@ use Rattle.pack_laws.proofs.Meaning.{packs_mean}
 use Rattle.pack_laws.specs.Packs.{packs_of, AreRisingNumbers, ArePacksOfCells}
 use Rattle.pack_laws.proofs.Distinct.{homes_of_sources_are_distinct}
 use Rattle.pack_laws.proofs.Packed.{HasDistinctHomes, are_packs}
+use Rattle.diff_layer.specs.AtMostOne.{cells_prop}
 
 -- ---- what has one proof at most
 
@@ -45,16 +42,6 @@ packs_prop count packs = AllByRecursion-prop (λ (pack : declared.Pack). AreRisi
 
 thresholds_prop : (ts : List ℤ) → IsProp (AreThresholds ts)
 thresholds_prop ts = hlevel props
-
-known_prop : (own : Interval) (c : Known) → IsProp (KnownFits own c)
-known_prop own None = Unit-prop
-known_prop own (Some i) = hlevel props
-
-cells_prop : (owns_ : List Interval) (cs : List Known) → IsProp (CellsFit owns_ cs)
-cells_prop [] [] = Unit-prop
-cells_prop [] (c ∷ cs) = λ a b. absurd a
-cells_prop (own ∷ owns_) [] = λ a b. absurd a
-cells_prop (own ∷ owns_) (c ∷ cs) = ×_prop (known_prop own c) (cells_prop owns_ cs)
 
 element_prop : (owns_ : List Interval) (e : Element) → IsProp (ElementFits owns_ e)
 element_prop owns_ None = Unit-prop
@@ -83,7 +70,7 @@ ordered_by packs lists ends = packs_are_a_lattice (sizes_of packs) lists (thresh
 
 -- ---- packs
 
-module _ (p : Program) (g : Graph) (statements : List (Bor declared_stmt.Stmt)) (held : ∥ IsHeld p g statements ∥₁) where
+module _ (p : Program) (g : Graph) (works : EdgeWorks) (held : ∥ IsHeld p g works ∥₁) where
   pub source_of : ∥ IsSourceGraph p g ∥₁
   source_of = ∥∥₁_elim held ∥∥₁_prop (λ h. ∣ h.source ∣₁)
 

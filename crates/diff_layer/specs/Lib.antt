@@ -11,12 +11,17 @@ pub mod Working
 pub mod Gone
 pub mod Plans
 pub mod Writing
+pub mod Works
 pub mod Changes
 pub mod Parts
+pub mod AtMostOne
+pub mod Passed
+pub mod Moments
 pub mod Ends
 pub mod Clears
 pub mod Closed
 pub mod Walks
 pub mod Planning
 pub mod Edges
+pub mod GraphWorks
 pub mod LayerLaws

@@ -25,12 +25,12 @@ use Rattle.diff_layer.specs.Changes.{part_changed}
 
 -- The operands of a store are those of its edge, and can be worked with.
 pub record IsStoreOf (p : Program) (a : Act) (x : Action) (y : Amount) : Type 0 where
-  pub operands : edge_amount a x ≡ Some (of_operands y)
+  pub operands : ∥ edge_amount a x ≡ Some (of_operands y) ∥₁
   pub small : is_small_amount (bound_at p.layout) y ≡ true
 
 abbrev pub IsOfEdge : Program → Act → Action → Part → Type 0
 IsOfEdge p a x (store place mode y) = IsStoreOf p a x y
-IsOfEdge p a x (set_count n y) = edge_amount a x ≡ Some (moved y)
+IsOfEdge p a x (set_count n y) = ∥ edge_amount a x ≡ Some (moved y) ∥₁
 IsOfEdge p a x _ = Unit {0}
 
 -- Whether the edge has written to bytes of the items that a part's operands are read of.

@@ -7,7 +7,7 @@ use Rattle.cob_graph.specs.declared.homes.Home.{Home}
 use Rattle.cell_steps.specs.OwnRanges.{home_range}
 use Rattle.diff_steps.specs.Packs.{Pack, size_of, decimals_of, pack_decimals}
 use Rattle.diff_bounds.specs.PackRows.{width_of, matrices_in}
-use Rattle.pack_laws.specs.Agreeing.{AreMatrices, IsPackOf}
+use Rattle.pack_laws.specs.Agreeing.{AreMatrices}
 use Rattle.diff_layer.specs.declared.plans.PackPlan.{PackPlan}
 
 abbrev pub plain_plan : PackPlan → Pack
@@ -27,7 +27,6 @@ pub record IsPlanOf (p : Program) (plan : PackPlan) : Type 0 where
   pub few : size_of (plain_plan plan) ≤ 8
   pub short : AllByRecursion (IsShortHome p.layout) (plain_plan plan)
   pub unit : plan.decimals ≡ pack_decimals p.layout (plain_plan plan)
-  pub pack : IsPackOf p (plain_plan plan)
 
 abbrev pub ArePlansOf : Program → List PackPlan → Type 0
 ArePlansOf p plans = AllByRecursion (IsPlanOf p) plans

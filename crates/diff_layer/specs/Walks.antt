@@ -1,5 +1,5 @@
 -- What an edge of a statement makes of the matrices of packs, and what it clears.
-use Rattle.std.specs.Prelude.{ℕ, ◌&&◌, if◌then◌else◌, Bool, true, List, [], ◌∷◌, ℤ, slice_get, Option, Some, None}
+use Rattle.std.specs.Prelude.{◌&&◌, if◌then◌else◌, Bool, true, List, [], ◌∷◌, ℤ, Option, Some, None}
 use Rattle.std.specs.Option.{option_map_or}
 use Rattle.cob_tree.specs.declared.fault.Kind.{Kind}
 use Rattle.cob_program.specs.Values.{◌>>=◌}
@@ -9,7 +9,6 @@ use Rattle.cob_edge_parts.specs.Parts.{Part}
 use Rattle.edge_amounts.specs.PartView.{edge_parts}
 use Rattle.interval_domain.specs.Known.{Known}
 use Rattle.cell_steps.specs.Seen.{Seen, beginning}
-use Rattle.cell_steps.specs.Stores.{keeps_receiver}
 use Rattle.cell_layer.specs.NumberedStatements.{act_in}
 use Rattle.cell_layer.specs.Walks.{step_small}
 use Rattle.diff_steps.specs.Packs.{Pack}
@@ -17,7 +16,6 @@ use Rattle.diff_steps.specs.Moments.{Bytes, Seen2, with_packs}
 use Rattle.diff_steps.specs.Steps.{all_closed, changed}
 use Rattle.diff_steps.specs.Edges.{beginning2, steps2, finished2}
 use Rattle.diff_steps.specs.Clearing.{clears_part2, clears_parts2}
-use Rattle.diff_layer.specs.Writing.{part_bytes}
 
 abbrev pub seen2 : List Bytes → List (List ℤ) → Seen2
 seen2 wrote ms = record { wrote = wrote; packs = ms }
@@ -43,30 +41,20 @@ module _ (p : Program) (packs : List Pack) (a : Act) (x : Action) where
   clears_all2 (y ∷ ys) s r fault =
       clears_part2 p packs a x y s r fault && option_map_or (λ t. clears_all2 ys t.0 t.1 fault) (step2_small y s r) true
 
--- ---- parts by their numbers
-
-module _ (p : Program) (packs : List Pack) (y : Stmt) (x : Action) where
-  abbrev pub step2_at : ℕ → Seen → Seen2 → Option (Seen × Seen2)
-  step2_at k s r = slice_get (edge_parts p y x) k >>= λ part. step2_small p packs (act_in y) x part s r
-
-  abbrev pub clears2_at : ℕ → Seen → Seen2 → Kind → Bool
-  clears2_at k s r fault =
-      option_map_or (λ part. clears_part2 p packs (act_in y) x part s r fault) (slice_get (edge_parts p y x) k) true
-
--- the bytes that the part with a number writes to
-abbrev pub bytes_at : Program → Stmt → Action → ℕ → List Bytes
-bytes_at p y x k = option_map_or (part_bytes (keeps_receiver (act_in y) x) p.layout) (slice_get (edge_parts p y x) k) []
-
 -- ---- the edge
 
 module _ (p : Program) (packs : List Pack) (y : Stmt) (x : Action) where
-  -- the matrices behind the edge; nothing where no run comes there
-  abbrev pub statement_walked : List Known → List (List ℤ) → Option (List (List ℤ))
-  statement_walked cells ms =
-      all_closed p cells packs ms >>= λ cs.
+  -- the same where the matrices are closed before the first part
+  abbrev pub closed_walked : List Known → List (List ℤ) → Option (List (List ℤ))
+  closed_walked cells cs =
       finished2 p packs (act_in y) x (steps2 p packs (act_in y) x (edge_parts p y x) (beginning cells) (beginning2 cs))
 
+  abbrev pub closed_clears : List Known → Kind → List (List ℤ) → Bool
+  closed_clears cells fault cs = clears_parts2 p packs (act_in y) x (edge_parts p y x) (beginning cells) (beginning2 cs) fault
+
+  -- the matrices behind the edge; nothing where no run comes there
+  abbrev pub statement_walked : List Known → List (List ℤ) → Option (List (List ℤ))
+  statement_walked cells ms = all_closed p cells packs ms >>= λ cs. closed_walked cells cs
+
   abbrev pub statement_clears2 : List Known → List (List ℤ) → Kind → Bool
-  statement_clears2 cells ms fault =
-      option_map_or (λ cs. clears_parts2 p packs (act_in y) x (edge_parts p y x) (beginning cells) (beginning2 cs) fault)
-      (all_closed p cells packs ms) true
+  statement_clears2 cells ms fault = option_map_or (closed_clears cells fault) (all_closed p cells packs ms) true

@@ -1,11 +1,10 @@
-//! The faults that what is known of cells and of differences before a part shows not to be met there.
-ghost use Rattle.std.specs.Prelude.{◌≡◌, ◌≤◌, ◌<◌, true, length, List, neg_ℤ, int_le, IfSome};
-ghost use Rattle.std.specs.List.{AllByRecursion};
+//! The kinds of faults that what is known of cells and of differences before a part shows not to be met there.
+ghost use Rattle.std.specs.Prelude.{◌≡◌, ◌≤◌, true, length, List, neg_ℤ, int_le, IfSome};
 ghost use Rattle.dec_num.specs.declared.types.Mode.TheVariants.{Trunc};
-ghost use Rattle.cob_program.specs.ActView.{plain_act, plain_stmt, plain_program};
+ghost use Rattle.cob_tree.specs.Kinds.{kinds_of};
 ghost use Rattle.cob_program.specs.Bounds.{is_small, is_small_atom};
 ghost use Rattle.cob_calc.specs.Contents.{bound_at};
-ghost use Rattle.edge_amounts.specs.PartView.{edge_parts, plain_part, plain_amount, plain_divisor};
+ghost use Rattle.edge_amounts.specs.PartView.{plain_part, plain_amount, plain_divisor};
 ghost use Rattle.diff_bounds.specs.Matrix.{IsMatrix};
 ghost use Rattle.cell_laws.specs.Sizes.{IsSmallPart, IsSmallStore};
 ghost use Rattle.sum_ranges.specs.Sizes.{IsSmallRange};
@@ -20,34 +19,34 @@ ghost use Rattle.cell_steps.specs.OwnRanges.{owns};
 ghost use Rattle.cell_steps.specs.Stores.{range_at};
 ghost use Rattle.cell_layer.specs.Kept.{seen};
 ghost use Rattle.cell_layer.specs.ProgramRows.{IsRowOf};
-ghost use Rattle.cell_layer.specs.NumberedStatements.{act_in};
-ghost use Rattle.cell_layer.specs.Walks.{CanStep};
-ghost use Rattle.cell_layer.specs.Edges.{CanWalk};
-ghost use Rattle.diff_steps.specs.Clearing.{some_pack};
+ghost use Rattle.cell_layer.specs.Walks.{with_taken_small, clears_small, CanStep};
+ghost use Rattle.cell_layer.specs.Works.{program_of as program_in, statement_of, act_of};
+ghost use Rattle.diff_steps.specs.Clearing.{some_pack, clears_part2};
 ghost use Rattle.diff_steps.specs.Moments.{Bytes};
 ghost use Rattle.diff_steps.specs.Packs.{size_of};
 ghost use Rattle.diff_layer.specs.PackWriting.{amount_items, are_written};
+ghost use Rattle.diff_layer.specs.Closed.{IsClosedRow};
 ghost use Rattle.diff_layer.specs.Clears.{divisor_apart, both_shown, range_shown, amount_shown, store_shown, count_shown, taken_shown, store_cleared, set_cleared, down_cleared, part_cleared, IsSetCount};
+ghost use Rattle.diff_layer.specs.Moments.{act_at, seen_at, packs_in, words_in, AreMatricesOf};
 ghost use Rattle.diff_layer.specs.Parts.{CanChange, IsOfEdge, IsStoreOf, IsWrittenTo};
 ghost use Rattle.diff_layer.specs.Plans.{plain_plan, plain_plans, IsPlanOf, ArePlansOf, matrices_for, IsRowFor};
-ghost use Rattle.diff_layer.specs.Walks.{seen2, clears2_at, statement_clears2};
+ghost use Rattle.diff_layer.specs.Views.{program_of, known_in};
+ghost use Rattle.diff_layer.specs.Walks.{seen2, closed_clears, statement_clears2};
 ghost use Rattle.diff_layer.specs.Writing.{edge_items};
 
 use crate::bounds::is_apart;
 use crate::closing::close_all;
 use crate::ends::{end_is_shown, high_end_fits, low_end_fits};
+use crate::moment::{Matrices, Moment, Slot};
 use crate::operands::has_operands;
+use crate::pack_edge::{PackEdge, PackState};
 use crate::plans::{PackPlan, view_of, words_for};
 use crate::sides::divisor_form;
 use crate::walking::step;
-use cell_layer::{Kept, KnownItems, clears_part, count_units, item_range, with_operands};
-use cob_program::{Act, Program, Stmt};
-use cob_runs::{Action, Cell};
-use cob_tree::Kind;
+use cell_layer::{Kept, KnownItems, cleared_by_part, count_units, item_range, with_operands};
+use cob_tree::{Kind, Kinds};
 use dec_num::Mode;
-use edge_amounts::{
-    Amount, Divisor, EdgePart, amount_from, is_remainder, part_at, part_count, receiver_at,
-};
+use edge_amounts::{Amount, Divisor, EdgePart, amount_from, is_remainder, receiver_at};
 use interval_domain::Interval;
 use sum_ranges::Ranged;
 use transfer_ranges::{AmountRange, Receiver, Taken, lowered};
@@ -58,52 +57,31 @@ const LARGEST: i128 = 999_999_999_999_999_999;
 // ---- divisors
 
 // whether the matrix of a pack shows that a divisor isn't 0
-fn is_apart_in(
-    program: &Program,
-    cells: &[Cell],
-    row: &[i128],
-    plan: &PackPlan,
-    m: &[i128],
-    divisor: Divisor,
-) -> bool
-    requires row { IsRowOf (plain_program program.now) cells.now row.now }
-    requires fits { CellsFit (owns (plain_program program.now)) (cells_of row.now) }
-    requires plan { IsPlanOf (plain_program program.now) plan.now }
-    requires small { is_small_atom (bound_at program.now.layout) (plain_divisor divisor) ≡ true }
+fn is_apart_in(items: &KnownItems, plan: &PackPlan, m: &[i128], divisor: Divisor) -> bool
+    requires fits { CellsFit (owns (program_of items.now)) (known_in items.now) }
+    requires plan { IsPlanOf (program_of items.now) plan.now }
+    requires small { is_small_atom (bound_at (program_of items.now).layout) (plain_divisor divisor) ≡ true }
     requires matrix { IsMatrix (size_of (plain_plan plan.now)) m.now }
-    ensures { result ≡ divisor_apart (plain_program program.now) (cells_of row.now) (plain_divisor divisor.entry) (plain_plan plan.now) m.now }
+    ensures { result ≡ divisor_apart (program_of items.now) (known_in items.now) (plain_divisor divisor.entry) (plain_plan plan.now) m.now }
 {
-    let items = KnownItems {
-        program,
-        cells,
-        row,
-    };
     let pack = view_of(plan);
-    is_apart(pack.cells.len(), m, divisor_form(&items, &pack, divisor))
+    is_apart(pack.cells.len(), m, divisor_form(items, &pack, divisor))
 }
 
-fn is_apart_in_some(
-    program: &Program,
-    cells: &[Cell],
-    row: &[i128],
-    plans: &[PackPlan],
-    out: &[i128],
-    divisor: Divisor,
-) -> bool
-    requires row { IsRowOf (plain_program program.now) cells.now row.now }
-    requires fits { CellsFit (owns (plain_program program.now)) (cells_of row.now) }
-    requires plans { ArePlansOf (plain_program program.now) plans.now }
-    requires small { is_small_atom (bound_at program.now.layout) (plain_divisor divisor) ≡ true }
+fn is_apart_in_some(items: &KnownItems, plans: &[PackPlan], out: &[i128], divisor: Divisor) -> bool
+    requires fits { CellsFit (owns (program_of items.now)) (known_in items.now) }
+    requires plans { ArePlansOf (program_of items.now) plans.now }
+    requires small { is_small_atom (bound_at (program_of items.now).layout) (plain_divisor divisor) ≡ true }
     requires matrices { IsRowFor plans.now out.now }
-    ensures { result ≡ some_pack (divisor_apart (plain_program program.now) (cells_of row.now) (plain_divisor divisor.entry))
+    ensures { result ≡ some_pack (divisor_apart (program_of items.now) (known_in items.now) (plain_divisor divisor.entry))
         (plain_plans plans.now) (matrices_for plans.now out.now) }
 {
     match plans {
         [] => false,
         [plan, plans @ ..] => {
             let (first, rest) = out.split_at(words_for(plan));
-            is_apart_in(program, cells, row, plan, first, divisor)
-                || is_apart_in_some(program, cells, row, plans, rest, divisor)
+            is_apart_in(items, plan, first, divisor)
+                || is_apart_in_some(items, plans, rest, divisor)
         }
     }
 }
@@ -112,170 +90,112 @@ fn is_apart_in_some(
 
 // whether both ends fit, each by the range or by a matrix
 fn ends_fit(
-    program: &Program,
-    cells: &[Cell],
-    row: &[i128],
-    plans: &[PackPlan],
-    out: &[i128],
+    moment: &Moment,
+    matrices: &Matrices,
     part: EdgePart,
-    kept: &Kept,
-    written: bool,
-    mode: Mode,
-    receiver: Receiver,
+    slot: Slot,
     high: bool,
     low: bool,
 ) -> bool
-    requires row { IsRowOf (plain_program program.now) cells.now row.now }
-    requires fits { CellsFit (owns (plain_program program.now)) (cells_of row.now) }
-    requires plans { ArePlansOf (plain_program program.now) plans.now }
-    requires can { CanChange (plain_program program.now) (cells_of row.now) kept.now.common (plain_part part) }
-    requires matrices { IsRowFor plans.now out.now }
-    requires digits { receiver.digits ≤ 18 }
-    requires scale { receiver.scale ≤ 18 }
-    ensures { (wrote : List Bytes) → IsWrittenTo program.now.layout wrote written (plain_part part.entry)
-        → result ≡ both_shown (plain_program program.now) (cells_of row.now) kept.now.common wrote (plain_part part.entry) mode receiver high low
-        (plain_plans plans.now) (matrices_for plans.now out.now) }
+    requires matrices { AreMatricesOf (program_of moment.now.items) matrices.now }
+    requires can { CanChange (program_of moment.now.items) (known_in moment.now.items) moment.now.kept.common (plain_part part) }
+    requires digits { slot.receiver.digits ≤ 18 }
+    requires scale { slot.receiver.scale ≤ 18 }
+    ensures { (wrote : List Bytes) → IsWrittenTo (program_of moment.now.items).layout wrote moment.now.written (plain_part part.entry)
+        → result ≡ both_shown (program_of moment.now.items) (known_in moment.now.items) moment.now.kept.common wrote (plain_part part.entry) slot.mode slot.receiver high low
+        (packs_in matrices.now) (words_in matrices.now) }
 {
-    (high
-        || end_is_shown(
-            program, cells, row, plans, out, part, kept, written, mode, receiver, false,
-        ))
-        && (low
-            || end_is_shown(
-                program, cells, row, plans, out, part, kept, written, mode, receiver, true,
-            ))
+    let plans = matrices.plans;
+    let words = matrices.words;
+    (high || end_is_shown(moment, plans, words, part, slot, false))
+        && (low || end_is_shown(moment, plans, words, part, slot, true))
 }
 
 // ---- stores
 
 // whether a decimal of a range fits
 fn decimal_fits(
-    program: &Program,
-    cells: &[Cell],
-    row: &[i128],
-    plans: &[PackPlan],
-    out: &[i128],
+    moment: &Moment,
+    matrices: &Matrices,
     part: EdgePart,
-    kept: &Kept,
-    written: bool,
-    mode: Mode,
-    receiver: Receiver,
+    slot: Slot,
     range: Ranged,
 ) -> bool
-    requires row { IsRowOf (plain_program program.now) cells.now row.now }
-    requires fits { CellsFit (owns (plain_program program.now)) (cells_of row.now) }
-    requires plans { ArePlansOf (plain_program program.now) plans.now }
-    requires can { CanChange (plain_program program.now) (cells_of row.now) kept.now.common (plain_part part) }
-    requires matrices { IsRowFor plans.now out.now }
-    requires receiver { IsReceiver receiver }
+    requires matrices { AreMatricesOf (program_of moment.now.items) matrices.now }
+    requires can { CanChange (program_of moment.now.items) (known_in moment.now.items) moment.now.kept.common (plain_part part) }
+    requires receiver { IsReceiver slot.receiver }
     requires range { IsSmallRange range }
-    ensures { (wrote : List Bytes) → IsWrittenTo program.now.layout wrote written (plain_part part.entry)
-        → result ≡ range_shown (plain_program program.now) (cells_of row.now) kept.now.common wrote (plain_part part.entry) mode receiver
-        (plain_plans plans.now) (matrices_for plans.now out.now) (near_range mode receiver.scale range) }
+    ensures { (wrote : List Bytes) → IsWrittenTo (program_of moment.now.items).layout wrote moment.now.written (plain_part part.entry)
+        → result ≡ range_shown (program_of moment.now.items) (known_in moment.now.items) moment.now.kept.common wrote (plain_part part.entry) slot.mode slot.receiver
+        (packs_in matrices.now) (words_in matrices.now) (near_range slot.mode slot.receiver.scale range) }
 {
-    let high = high_end_fits(mode, receiver, range);
-    let low = low_end_fits(mode, receiver, range);
-    ends_fit(
-        program, cells, row, plans, out, part, kept, written, mode, receiver, high, low,
-    )
+    let high = high_end_fits(slot.mode, slot.receiver, range);
+    let low = low_end_fits(slot.mode, slot.receiver, range);
+    ends_fit(moment, matrices, part, slot, high, low)
 }
 
 // whether a result fits that the first layer doesn't show to fit: a quotient has no form
 fn amount_fits(
-    program: &Program,
-    cells: &[Cell],
-    row: &[i128],
-    plans: &[PackPlan],
-    out: &[i128],
+    moment: &Moment,
+    matrices: &Matrices,
     part: EdgePart,
-    kept: &Kept,
-    written: bool,
-    mode: Mode,
-    receiver: Receiver,
+    slot: Slot,
     amount: Option<AmountRange>,
 ) -> bool
-    requires row { IsRowOf (plain_program program.now) cells.now row.now }
-    requires fits { CellsFit (owns (plain_program program.now)) (cells_of row.now) }
-    requires plans { ArePlansOf (plain_program program.now) plans.now }
-    requires can { CanChange (plain_program program.now) (cells_of row.now) kept.now.common (plain_part part) }
-    requires matrices { IsRowFor plans.now out.now }
-    requires receiver { IsReceiver receiver }
+    requires matrices { AreMatricesOf (program_of moment.now.items) matrices.now }
+    requires can { CanChange (program_of moment.now.items) (known_in moment.now.items) moment.now.kept.common (plain_part part) }
+    requires receiver { IsReceiver slot.receiver }
     requires small { IfSome amount IsSmallAmount }
-    ensures { (wrote : List Bytes) → IsWrittenTo program.now.layout wrote written (plain_part part.entry)
-        → result ≡ amount_shown (plain_program program.now) (cells_of row.now) kept.now.common wrote (plain_part part.entry) mode receiver
-        (plain_plans plans.now) (matrices_for plans.now out.now) amount }
+    ensures { (wrote : List Bytes) → IsWrittenTo (program_of moment.now.items).layout wrote moment.now.written (plain_part part.entry)
+        → result ≡ amount_shown (program_of moment.now.items) (known_in moment.now.items) moment.now.kept.common wrote (plain_part part.entry) slot.mode slot.receiver
+        (packs_in matrices.now) (words_in matrices.now) amount }
 {
     match amount {
         None => true,
-        Some(AmountRange::Decimal(range)) => decimal_fits(
-            program, cells, row, plans, out, part, kept, written, mode, receiver, range,
-        ),
+        Some(AmountRange::Decimal(range)) => decimal_fits(moment, matrices, part, slot, range),
         Some(AmountRange::Quotient { .. } | AmountRange::Remainder { .. }) => false,
     }
 }
 
 // what a receiver is to get
 fn amount_for(
-    program: &Program,
-    cells: &[Cell],
-    row: &[i128],
+    items: &KnownItems,
     place: u32,
     amount: Amount,
     common: Option<Taken>,
 ) -> Option<AmountRange>
-    requires row { IsRowOf (plain_program program.now) cells.now row.now }
-    requires own { is_small (bound_at program.now.layout place) ≡ true }
-    requires can { IfSome common (CanWork (plain_amount amount) (range_at (plain_program program.now) (cells_of row.now) place)) }
-    ensures { result ≡ found_amount common (plain_amount amount.entry) (range_at (plain_program program.now) (cells_of row.now) place) }
+    requires own { is_small (bound_at (program_of items.now).layout place) ≡ true }
+    requires can { IfSome common (CanWork (plain_amount amount) (range_at (program_of items.now) (known_in items.now) place)) }
+    ensures { result ≡ found_amount common (plain_amount amount.entry) (range_at (program_of items.now) (known_in items.now) place) }
 {
-    let own = item_range(program, cells, row, place);
+    let own = item_range(items.program, items.cells, items.row, place);
     amount_from(amount, own, common)
 }
 
-// whether a store fits that the first layer doesn't show to fit; no run comes to one whose operands have no range
-fn store_fits(
-    program: &Program,
-    cells: &[Cell],
-    row: &[i128],
-    act: &Act,
-    action: Action,
-    plans: &[PackPlan],
-    out: &[i128],
-    place: u32,
-    mode: Mode,
-    amount: Amount,
-    kept: &Kept,
-    written: bool,
-) -> bool
-    requires row { IsRowOf (plain_program program.now) cells.now row.now }
-    requires small { IsSmallStore (plain_program program.now) (plain_act act.now) action place (plain_amount amount) }
-    requires of_edge { IsStoreOf (plain_program program.now) (plain_act act.now) action (plain_amount amount) }
-    requires can { CanStep (plain_program program.now) (plain_act act.now) action (seen row.now kept.now) }
-    requires taken { kept.now.written ≡ true }
-    requires plans { ArePlansOf (plain_program program.now) plans.now }
-    requires matrices { IsRowFor plans.now out.now }
-    ensures { (wrote : List Bytes) → written ≡ are_written program.now.layout wrote (amount_items (plain_amount amount.entry))
-        → result ≡ store_shown (plain_program program.now) (cells_of row.now) kept.now.common wrote place mode (plain_amount amount.entry)
-        (plain_plans plans.now) (matrices_for plans.now out.now) }
+// whether a store fits that the first layer doesn't show to fit, where its operands are taken; no run comes to one whose
+// operands have no range
+fn store_fits(moment: &Moment, matrices: &Matrices, place: u32, mode: Mode, amount: Amount) -> bool
+    requires matrices { AreMatricesOf (program_of moment.now.items) matrices.now }
+    requires small { IsSmallStore (program_of moment.now.items) (act_at moment.now) moment.now.action place (plain_amount amount) }
+    requires of_edge { IsStoreOf (program_of moment.now.items) (act_at moment.now) moment.now.action (plain_amount amount) }
+    requires can { CanStep (program_of moment.now.items) (act_at moment.now) moment.now.action (seen_at moment.now) }
+    requires taken { moment.now.kept.written ≡ true }
+    ensures { (wrote : List Bytes) → moment.now.written ≡ are_written (program_of moment.now.items).layout wrote (amount_items (plain_amount amount.entry))
+        → result ≡ store_shown (program_of moment.now.items) (known_in moment.now.items) moment.now.kept.common wrote place mode (plain_amount amount.entry)
+        (packs_in matrices.now) (words_in matrices.now) }
 {
-    let items = KnownItems {
-        program,
-        cells,
-        row,
-    };
-    if !has_operands(&items, amount, written) {
+    let items = &moment.items;
+    if !has_operands(items, amount, moment.written) {
         return true;
     }
-    let found = amount_for(program, cells, row, place, amount, kept.common);
+    let found = amount_for(items, place, amount, moment.kept.common);
     let part = EdgePart::Store {
         item: place,
         mode,
         amount,
     };
-    let receiver = receiver_at(&program.layout, place);
-    amount_fits(
-        program, cells, row, plans, out, part, kept, written, mode, receiver, found,
-    )
+    let receiver = receiver_at(&items.program.layout, place);
+    amount_fits(moment, matrices, part, Slot { mode, receiver }, found)
 }
 
 // ---- counters
@@ -303,235 +223,164 @@ fn is_not_below(units: Interval) -> bool
 }
 
 // whether a number of an interval fits a counter
-fn counter_fits(
-    program: &Program,
-    cells: &[Cell],
-    row: &[i128],
-    plans: &[PackPlan],
-    out: &[i128],
-    part: EdgePart,
-    kept: &Kept,
-    written: bool,
-    units: Interval,
-) -> bool
-    requires row { IsRowOf (plain_program program.now) cells.now row.now }
-    requires fits { CellsFit (owns (plain_program program.now)) (cells_of row.now) }
-    requires plans { ArePlansOf (plain_program program.now) plans.now }
-    requires can { CanChange (plain_program program.now) (cells_of row.now) kept.now.common (plain_part part) }
-    requires matrices { IsRowFor plans.now out.now }
-    ensures { (wrote : List Bytes) → IsWrittenTo program.now.layout wrote written (plain_part part.entry)
-        → result ≡ range_shown (plain_program program.now) (cells_of row.now) kept.now.common wrote (plain_part part.entry) Trunc counter
-        (plain_plans plans.now) (matrices_for plans.now out.now) units }
+fn counter_fits(moment: &Moment, matrices: &Matrices, part: EdgePart, units: Interval) -> bool
+    requires matrices { AreMatricesOf (program_of moment.now.items) matrices.now }
+    requires can { CanChange (program_of moment.now.items) (known_in moment.now.items) moment.now.kept.common (plain_part part) }
+    ensures { (wrote : List Bytes) → IsWrittenTo (program_of moment.now.items).layout wrote moment.now.written (plain_part part.entry)
+        → result ≡ range_shown (program_of moment.now.items) (known_in moment.now.items) moment.now.kept.common wrote (plain_part part.entry) Trunc counter
+        (packs_in matrices.now) (words_in matrices.now) units }
 {
-    let receiver = counter();
+    let slot = Slot {
+        mode: Mode::Trunc,
+        receiver: counter(),
+    };
     let high = is_not_above(units);
     let low = is_not_below(units);
-    ends_fit(
-        program,
-        cells,
-        row,
-        plans,
-        out,
-        part,
-        kept,
-        written,
-        Mode::Trunc,
-        receiver,
-        high,
-        low,
-    )
+    ends_fit(moment, matrices, part, slot, high, low)
 }
 
 // whether what a counter is set to fits
-fn set_fits(
-    program: &Program,
-    cells: &[Cell],
-    row: &[i128],
-    plans: &[PackPlan],
-    out: &[i128],
-    part: EdgePart,
-    kept: &Kept,
-    written: bool,
-) -> bool
-    requires row { IsRowOf (plain_program program.now) cells.now row.now }
-    requires fits { CellsFit (owns (plain_program program.now)) (cells_of row.now) }
-    requires plans { ArePlansOf (plain_program program.now) plans.now }
-    requires can { CanChange (plain_program program.now) (cells_of row.now) kept.now.common (plain_part part) }
-    requires matrices { IsRowFor plans.now out.now }
-    ensures { (wrote : List Bytes) → IsWrittenTo program.now.layout wrote written (plain_part part.entry)
-        → result ≡ count_shown (plain_program program.now) (cells_of row.now) kept.now.common wrote (plain_part part.entry)
-        (plain_plans plans.now) (matrices_for plans.now out.now) }
+fn set_fits(moment: &Moment, matrices: &Matrices, part: EdgePart) -> bool
+    requires matrices { AreMatricesOf (program_of moment.now.items) matrices.now }
+    requires can { CanChange (program_of moment.now.items) (known_in moment.now.items) moment.now.kept.common (plain_part part) }
+    ensures { (wrote : List Bytes) → IsWrittenTo (program_of moment.now.items).layout wrote moment.now.written (plain_part part.entry)
+        → result ≡ count_shown (program_of moment.now.items) (known_in moment.now.items) moment.now.kept.common wrote (plain_part part.entry)
+        (packs_in matrices.now) (words_in matrices.now) }
 {
-    match kept.common {
+    match moment.kept.common {
         None => true,
-        Some(taken) => counter_fits(
-            program,
-            cells,
-            row,
-            plans,
-            out,
-            part,
-            kept,
-            written,
-            taken.top.units,
-        ),
+        Some(taken) => counter_fits(moment, matrices, part, taken.top.units),
     }
 }
 
-// whether a store fits, where its operands are taken
-fn taken_fits(
-    program: &Program,
-    cells: &[Cell],
-    row: &[i128],
-    act: &Act,
-    action: Action,
-    plans: &[PackPlan],
-    out: &[i128],
-    place: u32,
-    mode: Mode,
-    amount: Amount,
-    kept: &Kept,
-    written: bool,
-) -> bool
-    requires row { IsRowOf (plain_program program.now) cells.now row.now }
-    requires small { IsSmallStore (plain_program program.now) (plain_act act.now) action place (plain_amount amount) }
-    requires of_edge { IsStoreOf (plain_program program.now) (plain_act act.now) action (plain_amount amount) }
-    requires can { CanStep (plain_program program.now) (plain_act act.now) action (seen row.now kept.now) }
-    requires plans { ArePlansOf (plain_program program.now) plans.now }
-    requires matrices { IsRowFor plans.now out.now }
-    ensures { (wrote : List Bytes) → written ≡ are_written program.now.layout wrote (amount_items (plain_amount amount.entry))
-        → result ≡ taken_shown (plain_program program.now) (plain_plans plans.now) (plain_act act.now) action place mode (plain_amount amount.entry)
-        (seen row.now kept.now) (seen2 wrote (matrices_for plans.now out.now)) }
+// ---- where operands are taken
+
+// what is kept where the operands are taken
+fn taken(moment: &Moment) -> Kept
+    requires sum { has_small_sum (bound_at (program_of moment.now.items).layout) (act_at moment.now) ≡ true }
+    requires can { CanStep (program_of moment.now.items) (act_at moment.now) moment.now.action (seen_at moment.now) }
+    ensures same { seen moment.now.items.row.now result ≡ with_taken_small (program_of moment.now.items) (act_at moment.now) moment.now.action (seen_at moment.now) }
+    ensures written { result.written ≡ true }
+    ensures can { CanStep (program_of moment.now.items) (act_at moment.now) moment.now.action (seen moment.now.items.row.now result) }
 {
-    let moment = with_operands(program, cells, row, act, action, kept);
-    store_fits(
-        program, cells, row, act, action, plans, out, place, mode, amount, &moment, written,
+    let items = &moment.items;
+    with_operands(
+        items.program,
+        items.cells,
+        items.row,
+        moment.act,
+        moment.action,
+        &moment.kept,
     )
+}
+
+// whether a store fits, where its operands are taken
+fn taken_fits(moment: &Moment, matrices: &Matrices, place: u32, mode: Mode, amount: Amount) -> bool
+    requires matrices { AreMatricesOf (program_of moment.now.items) matrices.now }
+    requires small { IsSmallStore (program_of moment.now.items) (act_at moment.now) moment.now.action place (plain_amount amount) }
+    requires of_edge { IsStoreOf (program_of moment.now.items) (act_at moment.now) moment.now.action (plain_amount amount) }
+    requires can { CanStep (program_of moment.now.items) (act_at moment.now) moment.now.action (seen_at moment.now) }
+    ensures { (wrote : List Bytes) → moment.now.written ≡ are_written (program_of moment.now.items).layout wrote (amount_items (plain_amount amount.entry))
+        → result ≡ taken_shown (program_of moment.now.items) (packs_in matrices.now) (act_at moment.now) moment.now.action place mode (plain_amount amount.entry)
+        (seen_at moment.now) (seen2 wrote (words_in matrices.now)) }
+{
+    let items = &moment.items;
+    let moment = Moment {
+        items: KnownItems {
+            program: items.program,
+            cells: items.cells,
+            row: items.row,
+        },
+        act: moment.act,
+        action: moment.action,
+        kept: taken(moment),
+        written: moment.written,
+    };
+    store_fits(&moment, matrices, place, mode, amount)
 }
 
 // whether a store's fault is not met, where the first layer doesn't show it
 fn store_clears(
-    program: &Program,
-    cells: &[Cell],
-    row: &[i128],
-    act: &Act,
-    action: Action,
-    plans: &[PackPlan],
-    out: &[i128],
+    moment: &Moment,
+    matrices: &Matrices,
     place: u32,
     mode: Mode,
     amount: Amount,
-    kept: &Kept,
-    written: bool,
 ) -> bool
-    requires row { IsRowOf (plain_program program.now) cells.now row.now }
-    requires small { IsSmallStore (plain_program program.now) (plain_act act.now) action place (plain_amount amount) }
-    requires of_edge { IsStoreOf (plain_program program.now) (plain_act act.now) action (plain_amount amount) }
-    requires can { CanStep (plain_program program.now) (plain_act act.now) action (seen row.now kept.now) }
-    requires plans { ArePlansOf (plain_program program.now) plans.now }
-    requires matrices { IsRowFor plans.now out.now }
-    ensures { (wrote : List Bytes) → written ≡ are_written program.now.layout wrote (amount_items (plain_amount amount.entry))
-        → result ≡ store_cleared (plain_program program.now) (plain_plans plans.now) (plain_act act.now) action place mode (plain_amount amount.entry)
-        (seen row.now kept.now) (seen2 wrote (matrices_for plans.now out.now)) }
+    requires matrices { AreMatricesOf (program_of moment.now.items) matrices.now }
+    requires small { IsSmallStore (program_of moment.now.items) (act_at moment.now) moment.now.action place (plain_amount amount) }
+    requires of_edge { IsStoreOf (program_of moment.now.items) (act_at moment.now) moment.now.action (plain_amount amount) }
+    requires can { CanStep (program_of moment.now.items) (act_at moment.now) moment.now.action (seen_at moment.now) }
+    ensures { (wrote : List Bytes) → moment.now.written ≡ are_written (program_of moment.now.items).layout wrote (amount_items (plain_amount amount.entry))
+        → result ≡ store_cleared (program_of moment.now.items) (packs_in matrices.now) (act_at moment.now) moment.now.action place mode (plain_amount amount.entry)
+        (seen_at moment.now) (seen2 wrote (words_in matrices.now)) }
 {
     if is_remainder(amount) {
         return false;
     }
-    taken_fits(
-        program, cells, row, act, action, plans, out, place, mode, amount, kept, written,
-    )
+    taken_fits(moment, matrices, place, mode, amount)
 }
 
 // ---- parts
 
-fn set_clears(
-    program: &Program,
-    cells: &[Cell],
-    row: &[i128],
-    act: &Act,
-    action: Action,
-    part: EdgePart,
-    plans: &[PackPlan],
-    out: &[i128],
-    kept: &Kept,
-    written: bool,
-) -> bool
-    requires row { IsRowOf (plain_program program.now) cells.now row.now }
-    requires sum { has_small_sum (bound_at program.now.layout) (plain_act act.now) ≡ true }
-    requires can { CanStep (plain_program program.now) (plain_act act.now) action (seen row.now kept.now) }
+fn set_clears(moment: &Moment, matrices: &Matrices, part: EdgePart) -> bool
+    requires matrices { AreMatricesOf (program_of moment.now.items) matrices.now }
+    requires sum { has_small_sum (bound_at (program_of moment.now.items).layout) (act_at moment.now) ≡ true }
+    requires can { CanStep (program_of moment.now.items) (act_at moment.now) moment.now.action (seen_at moment.now) }
     requires sets { IsSetCount (plain_part part) }
-    requires plans { ArePlansOf (plain_program program.now) plans.now }
-    requires matrices { IsRowFor plans.now out.now }
-    ensures { (wrote : List Bytes) → IsWrittenTo program.now.layout wrote written (plain_part part.entry)
-        → result ≡ set_cleared (plain_program program.now) (plain_plans plans.now) (plain_act act.now) action (plain_part part.entry)
-        (seen row.now kept.now) (seen2 wrote (matrices_for plans.now out.now)) }
+    ensures { (wrote : List Bytes) → IsWrittenTo (program_of moment.now.items).layout wrote moment.now.written (plain_part part.entry)
+        → result ≡ set_cleared (program_of moment.now.items) (packs_in matrices.now) (act_at moment.now) moment.now.action (plain_part part.entry)
+        (seen_at moment.now) (seen2 wrote (words_in matrices.now)) }
 {
-    let moment = with_operands(program, cells, row, act, action, kept);
-    set_fits(program, cells, row, plans, out, part, &moment, written)
+    let items = &moment.items;
+    let moment = Moment {
+        items: KnownItems {
+            program: items.program,
+            cells: items.cells,
+            row: items.row,
+        },
+        act: moment.act,
+        action: moment.action,
+        kept: taken(moment),
+        written: moment.written,
+    };
+    set_fits(&moment, matrices, part)
 }
 
-fn down_clears(
-    program: &Program,
-    cells: &[Cell],
-    row: &[i128],
-    number: u32,
-    plans: &[PackPlan],
-    out: &[i128],
-    kept: &Kept,
-    written: bool,
-) -> bool
-    requires row { IsRowOf (plain_program program.now) cells.now row.now }
-    requires fits { CellsFit (owns (plain_program program.now)) (cells_of row.now) }
-    requires plans { ArePlansOf (plain_program program.now) plans.now }
-    requires matrices { IsRowFor plans.now out.now }
-    ensures { (wrote : List Bytes) → result ≡ down_cleared (plain_program program.now) (plain_plans plans.now) number
-        (seen row.now kept.now) (seen2 wrote (matrices_for plans.now out.now)) }
+fn down_clears(moment: &Moment, matrices: &Matrices, number: u32) -> bool
+    requires matrices { AreMatricesOf (program_of moment.now.items) matrices.now }
+    ensures { (wrote : List Bytes) → result ≡ down_cleared (program_of moment.now.items) (packs_in matrices.now) number
+        (seen_at moment.now) (seen2 wrote (words_in matrices.now)) }
 {
-    let units = lowered(count_units(program, cells, row, number));
-    let part = EdgePart::CountDown(number);
-    counter_fits(program, cells, row, plans, out, part, kept, written, units)
+    let items = &moment.items;
+    let units = lowered(count_units(items.program, items.cells, items.row, number));
+    counter_fits(moment, matrices, EdgePart::CountDown(number), units)
 }
 
 // whether the fault of a part is not met, where the first layer doesn't show it
-fn is_shown(
-    program: &Program,
-    cells: &[Cell],
-    row: &[i128],
-    act: &Act,
-    action: Action,
-    part: EdgePart,
-    plans: &[PackPlan],
-    out: &[i128],
-    kept: &Kept,
-    written: bool,
-    fault: Kind,
-) -> bool
-    requires row { IsRowOf (plain_program program.now) cells.now row.now }
-    requires small { IsSmallPart (plain_program program.now) (plain_act act.now) action (plain_part part) }
-    requires of_edge { IsOfEdge (plain_program program.now) (plain_act act.now) action (plain_part part) }
-    requires can { CanStep (plain_program program.now) (plain_act act.now) action (seen row.now kept.now) }
-    requires plans { ArePlansOf (plain_program program.now) plans.now }
-    requires matrices { IsRowFor plans.now out.now }
-    ensures { (wrote : List Bytes) → IsWrittenTo program.now.layout wrote written (plain_part part.entry)
-        → result ≡ part_cleared (plain_program program.now) (plain_plans plans.now) (plain_act act.now) action (plain_part part.entry)
-        (seen row.now kept.now) (seen2 wrote (matrices_for plans.now out.now)) fault }
+fn is_shown(moment: &Moment, matrices: &Matrices, part: EdgePart, fault: Kind) -> bool
+    requires matrices { AreMatricesOf (program_of moment.now.items) matrices.now }
+    requires small { IsSmallPart (program_of moment.now.items) (act_at moment.now) moment.now.action (plain_part part) }
+    requires of_edge { IsOfEdge (program_of moment.now.items) (act_at moment.now) moment.now.action (plain_part part) }
+    requires can { CanStep (program_of moment.now.items) (act_at moment.now) moment.now.action (seen_at moment.now) }
+    ensures { (wrote : List Bytes) → IsWrittenTo (program_of moment.now.items).layout wrote moment.now.written (plain_part part.entry)
+        → result ≡ part_cleared (program_of moment.now.items) (packs_in matrices.now) (act_at moment.now) moment.now.action (plain_part part.entry)
+        (seen_at moment.now) (seen2 wrote (words_in matrices.now)) fault }
 {
     match part {
         EdgePart::Divide(divisor) => match fault {
-            Kind::Zero => is_apart_in_some(program, cells, row, plans, out, divisor),
+            Kind::Zero => is_apart_in_some(&moment.items, matrices.plans, matrices.words, divisor),
             Kind::Size | Kind::Class | Kind::Truncation => false,
         },
-        EdgePart::Store { item, mode, amount } => store_clears(
-            program, cells, row, act, action, plans, out, item, mode, amount, kept, written,
-        ),
+        EdgePart::Store { item, mode, amount } => {
+            store_clears(moment, matrices, item, mode, amount)
+        }
         EdgePart::SetCount { .. } => match fault {
-            Kind::Size => set_clears(
-                program, cells, row, act, action, part, plans, out, kept, written,
-            ),
+            Kind::Size => set_clears(moment, matrices, part),
             Kind::Zero | Kind::Class | Kind::Truncation => false,
         },
         EdgePart::CountDown(number) => match fault {
-            Kind::Size => down_clears(program, cells, row, number, plans, out, kept, written),
+            Kind::Size => down_clears(moment, matrices, number),
             Kind::Zero | Kind::Class | Kind::Truncation => false,
         },
         EdgePart::Read(_)
@@ -543,100 +392,117 @@ fn is_shown(
     }
 }
 
-// whether the fault of the part with a number is not met
+// whether the fault of a part is not met
 fn clears(
-    program: &Program,
-    cells: &[Cell],
-    statement: &Stmt,
-    action: Action,
-    number: u32,
-    plans: &[PackPlan],
-    row: &[i128],
-    kept: &Kept,
-    written: bool,
-    out: &[i128],
+    moment: &Moment,
+    matrices: &Matrices,
+    part: EdgePart,
+    by_cells: Kinds,
     fault: Kind,
 ) -> bool
-    requires row { IsRowOf (plain_program program.now) cells.now row.now }
-    requires small { AllByRecursion (IsSmallPart (plain_program program.now) (act_in (plain_stmt statement.now)) action)
-        (edge_parts (plain_program program.now) (plain_stmt statement.now) action) }
-    requires of_edge { AllByRecursion (IsOfEdge (plain_program program.now) (act_in (plain_stmt statement.now)) action)
-        (edge_parts (plain_program program.now) (plain_stmt statement.now) action) }
-    requires can { CanStep (plain_program program.now) (act_in (plain_stmt statement.now)) action (seen row.now kept.now) }
-    requires within { number < length (edge_parts (plain_program program.now) (plain_stmt statement.now) action) }
-    requires plans { ArePlansOf (plain_program program.now) plans.now }
-    requires matrices { IsRowFor plans.now out.now }
-    ensures { (wrote : List Bytes) → written ≡ are_written program.now.layout wrote (edge_items (act_in (plain_stmt statement.now)) action)
-        → result ≡ clears2_at (plain_program program.now) (plain_plans plans.now) (plain_stmt statement.now) action number
-        (seen row.now kept.now) (seen2 wrote (matrices_for plans.now out.now)) fault }
+    requires matrices { AreMatricesOf (program_of moment.now.items) matrices.now }
+    requires small { IsSmallPart (program_of moment.now.items) (act_at moment.now) moment.now.action (plain_part part) }
+    requires of_edge { IsOfEdge (program_of moment.now.items) (act_at moment.now) moment.now.action (plain_part part) }
+    requires can { CanStep (program_of moment.now.items) (act_at moment.now) moment.now.action (seen_at moment.now) }
+    requires cells { by_cells ≡ kinds_of (clears_small (program_of moment.now.items) (act_at moment.now) moment.now.action (plain_part part) (seen_at moment.now)) }
+    ensures { (wrote : List Bytes) → moment.now.written ≡ are_written (program_of moment.now.items).layout wrote (edge_items (act_at moment.now) moment.now.action)
+        → result ≡ clears_part2 (program_of moment.now.items) (packs_in matrices.now) (act_at moment.now) moment.now.action (plain_part part.entry)
+        (seen_at moment.now) (seen2 wrote (words_in matrices.now)) fault }
 {
-    if clears_part(program, cells, statement, action, number, row, kept, fault) {
-        return true;
-    }
-    match part_at(program, statement, action, number) {
-        None => true,
-        Some(part) => is_shown(
-            program,
-            cells,
-            row,
-            &statement.act,
-            action,
-            part,
-            plans,
-            out,
-            kept,
-            written,
-            fault,
-        ),
+    by_cells.has(fault) || is_shown(moment, matrices, part, fault)
+}
+
+// the kinds of faults of a part that aren't met, by those that what is known of cells clears
+fn kinds_cleared(moment: &Moment, matrices: &Matrices, part: EdgePart, by_cells: Kinds) -> Kinds
+    requires matrices { AreMatricesOf (program_of moment.now.items) matrices.now }
+    requires small { IsSmallPart (program_of moment.now.items) (act_at moment.now) moment.now.action (plain_part part) }
+    requires of_edge { IsOfEdge (program_of moment.now.items) (act_at moment.now) moment.now.action (plain_part part) }
+    requires can { CanStep (program_of moment.now.items) (act_at moment.now) moment.now.action (seen_at moment.now) }
+    requires cells { by_cells ≡ kinds_of (clears_small (program_of moment.now.items) (act_at moment.now) moment.now.action (plain_part part) (seen_at moment.now)) }
+    ensures { (wrote : List Bytes) → moment.now.written ≡ are_written (program_of moment.now.items).layout wrote (edge_items (act_at moment.now) moment.now.action)
+        → result ≡ kinds_of (clears_part2 (program_of moment.now.items) (packs_in matrices.now) (act_at moment.now) moment.now.action (plain_part part.entry)
+        (seen_at moment.now) (seen2 wrote (words_in matrices.now))) }
+{
+    Kinds {
+        size: clears(moment, matrices, part, by_cells, Kind::Size),
+        truncation: clears(moment, matrices, part, by_cells, Kind::Truncation),
+        zero: clears(moment, matrices, part, by_cells, Kind::Zero),
+        class: clears(moment, matrices, part, by_cells, Kind::Class),
     }
 }
 
-/// Whether both layers show that no part of an edge of a statement meets such a fault. What it makes of the words on the
-/// way isn't told.
-pub fn packs_clear(
-    program: &Program,
-    cells: &[Cell],
-    statement: &Stmt,
-    action: Action,
-    plans: &[PackPlan],
-    row: &mut [i128],
-    out: &mut [i128],
-    fault: Kind,
-) -> bool
-    requires can { CanWalk (plain_program program.now) cells.now (plain_stmt statement.now) action row.old }
-    requires of_edge { AllByRecursion (IsOfEdge (plain_program program.now) (act_in (plain_stmt statement.now)) action)
-        (edge_parts (plain_program program.now) (plain_stmt statement.now) action) }
-    requires words { length row.old ≤ 1025 }
-    requires plans { ArePlansOf (plain_program program.now) plans.now }
-    requires matrices { IsRowFor plans.now out.old }
-    ensures { result ≡ statement_clears2 (plain_program program.now) (plain_plans plans.now) (plain_stmt statement.now) action
-        (cells_of row.old) (matrices_for plans.now out.old) fault }
+// the kinds of faults of a part of an edge that aren't met
+fn cleared(edge: &PackEdge, part: &EdgePart, row: &[i128], state: PackState, out: &[i128]) -> Kinds
+    requires row { IsRowOf (program_in edge.now.work.now) edge.now.cells.now row.now }
+    requires small { IsSmallPart (program_in edge.now.work.now) (act_of edge.now.work.now) edge.now.work.now.action (plain_part part.now) }
+    requires of_edge { IsOfEdge (program_in edge.now.work.now) (act_of edge.now.work.now) edge.now.work.now.action (plain_part part.now) }
+    requires can { CanStep (program_in edge.now.work.now) (act_of edge.now.work.now) edge.now.work.now.action (seen row.now state.kept) }
+    requires matrices { IsRowFor edge.now.plans.now out.now }
+    ensures { (wrote : List Bytes) → state.written ≡ are_written (program_in edge.now.work.now).layout wrote (edge_items (act_of edge.now.work.now) edge.now.work.now.action)
+        → result ≡ kinds_of (clears_part2 (program_in edge.now.work.now) (plain_plans edge.now.plans.now) (act_of edge.now.work.now) edge.now.work.now.action (plain_part part.now)
+        (seen row.now state.kept) (seen2 wrote (matrices_for edge.now.plans.now out.now))) }
 {
-    if !close_all(program, cells, plans, row, out) {
-        return true;
-    }
-    let mut kept = Kept::new();
-    let mut written = false;
-    for number in 0..part_count(program, statement, action) {
-        if !clears(
-            program, cells, statement, action, number, plans, row, &kept, written, out, fault,
-        ) {
-            return false;
-        }
-        if !step(
-            program,
-            cells,
-            statement,
-            action,
-            number,
-            plans,
+    let work = edge.work;
+    let moment = Moment {
+        items: KnownItems {
+            program: work.program,
+            cells: edge.cells,
             row,
-            &mut kept,
-            &mut written,
-            out,
-        ) {
-            return true;
+        },
+        act: &work.statement.act,
+        action: work.action,
+        kept: state.kept,
+        written: state.written,
+    };
+    let matrices = Matrices {
+        plans: edge.plans,
+        words: out,
+    };
+    let by_cells = cleared_by_part(edge.cells, work, *part, row, &state.kept);
+    kinds_cleared(&moment, &matrices, *part, by_cells)
+}
+
+// the kinds that all parts of an edge clear, where the matrices are closed
+fn cleared_closed(edge: &PackEdge, row: &mut [i128], before: &mut [i128], out: &mut [i128]) -> Kinds
+    requires row { IsRowOf (program_in edge.now.work.now) edge.now.cells.now row.old }
+    requires fits { CellsFit (owns (program_in edge.now.work.now)) (cells_of row.old) }
+    requires room { length before.old ≡ length row.old }
+    requires matrices { IsClosedRow (program_in edge.now.work.now) (cells_of row.old) edge.now.plans.now out.old }
+    ensures { result ≡ kinds_of (λ fault. closed_clears (program_in edge.now.work.now) (plain_plans edge.now.plans.now) (statement_of edge.now.work.now) edge.now.work.now.action
+        (cells_of row.old) fault (matrices_for edge.now.plans.now out.old)) }
+{
+    let mut state = PackState {
+        kept: Kept::new(),
+        written: false,
+    };
+    let mut all = Kinds::all();
+    let parts = edge.work.parts.as_slice();
+    for part in parts {
+        all = all.both(cleared(edge, part, row, state, out));
+        if !step(edge, part, row, before, &mut state, out) {
+            return all;
         }
     }
-    true
+    all
+}
+
+/// The kinds of faults that both layers show no part of an edge to meet, beside room for a row. What it makes of the words
+/// on the way isn't told.
+pub fn packs_cleared(
+    edge: &PackEdge,
+    row: &mut [i128],
+    before: &mut [i128],
+    out: &mut [i128],
+) -> Kinds
+    requires row { IsRowOf (program_in edge.now.work.now) edge.now.cells.now row.old }
+    requires fits { CellsFit (owns (program_in edge.now.work.now)) (cells_of row.old) }
+    requires room { length before.old ≡ length row.old }
+    requires matrices { IsRowFor edge.now.plans.now out.old }
+    ensures { result ≡ kinds_of (statement_clears2 (program_in edge.now.work.now) (plain_plans edge.now.plans.now) (statement_of edge.now.work.now) edge.now.work.now.action
+        (cells_of row.old) (matrices_for edge.now.plans.now out.old)) }
+{
+    if !close_all(edge.work.program, edge.cells, edge.plans, row, out) {
+        return Kinds::all();
+    }
+    cleared_closed(edge, row, before, out)
 }

@@ -1,8 +1,8 @@
 //! Matrices lowered to what is known of their cells, and closed.
-ghost use Rattle.std.specs.Prelude.{◌≡◌, ◌-◌, ◌^◌, ◌≤◌, length, IsTrue, Some, None, if◌then◌else◌};
+ghost use Rattle.std.specs.Prelude.{◌≡◌, ◌-◌, ◌^◌, ◌≤◌, length, List, IsTrue, Some, None, if◌then◌else◌};
 ghost use Rattle.cob_program.specs.ActView.{plain_program};
 ghost use Rattle.diff_bounds.specs.Matrix.{IsMatrix};
-ghost use Rattle.interval_domain.specs.Known.{IsOrdered};
+ghost use Rattle.interval_domain.specs.Known.{Known, IsOrdered};
 ghost use Rattle.interval_domain.specs.Elements.{CellsFit};
 ghost use Rattle.interval_domain.specs.Rows.{cells_of};
 ghost use Rattle.cob_graph.specs.Homes.{homes_of};
@@ -91,22 +91,21 @@ fn close(program: &Program, cells: &[Cell], plan: &PackPlan, row: &[i128], m: &m
 }
 
 /// Lowers a matrix to what is known of its cells and closes it, where a part has made it of one that was closed by what
-/// was known of cells before the part.
+/// was known of cells.
 pub(crate) fn close_again(
     program: &Program,
     cells: &[Cell],
     plan: &PackPlan,
-    before: &[i128],
     row: &[i128],
     last: &[i128],
     m: &mut [i128],
 ) -> bool
     requires row { IsRowOf (plain_program program.now) cells.now row.now }
-    requires fits { CellsFit (owns (plain_program program.now)) (cells_of before.now) }
-    requires fit { CellsFit (owns (plain_program program.now)) (cells_of row.now) }
+    requires fits { CellsFit (owns (plain_program program.now)) (cells_of row.now) }
     requires plan { IsPlanOf (plain_program program.now) plan.now }
     requires last { IsMatrix (size_of (plain_plan plan.now)) last.now }
-    requires closed { IsClosedBy (plain_program program.now) (cells_of before.now) (plain_plan plan.now) last.now }
+    requires closed { (known : List Known) × CellsFit (owns (plain_program program.now)) known
+        × IsClosedBy (plain_program program.now) known (plain_plan plan.now) last.now }
     requires matrix { IsMatrix (size_of (plain_plan plan.now)) m.old }
     ensures value { put_closed program.now.layout (homes_of (plain_program program.now)) (cells_of row.now) (plain_plan plan.now) m.old
         ≡ (if result then Some m.new else None) }

@@ -15,10 +15,11 @@ ghost use Rattle.diff_layer.specs.PackWriting.{sender_items, are_written};
 ghost use Rattle.diff_layer.specs.Changes.{cell_assigned};
 
 use crate::images::assign_or_forget;
+use crate::moment::Moment;
 use crate::pack::{PackView, cell_in};
 use crate::pack_counters::lowered_form;
 use crate::senders::set_form;
-use cell_layer::{Kept, KnownItems};
+use cell_layer::KnownItems;
 use cob_data::Sender;
 use cob_graph::Home;
 use diff_bounds::Lin;
@@ -38,24 +39,28 @@ fn set_cell(pack: &PackView, m: &mut [i128], statement: u32, form: Option<Lin>)
 
 /// Makes of a pack's matrix what the setting of a counter makes of it.
 pub(crate) fn set_count(
-    items: &KnownItems,
+    moment: &Moment,
     pack: &PackView,
     m: &mut [i128],
     statement: u32,
     sender: &Sender,
-    kept: &Kept,
-    written: bool,
 )
     requires m { IsMatrix (length pack.now.cells.now) m.old }
-    requires unit { HasUnit (program_of items.now).layout pack.now }
-    requires top { IfSome kept.now.common HasSmallTop }
-    ensures value { (wrote : List Bytes) → written ≡ are_written (program_of items.now).layout wrote (sender_items sender.now)
+    requires unit { HasUnit (program_of moment.now.items).layout pack.now }
+    requires top { IfSome moment.now.kept.common HasSmallTop }
+    ensures value { (wrote : List Bytes) → moment.now.written ≡ are_written (program_of moment.now.items).layout wrote (sender_items sender.now)
         → m.new ≡ cell_assigned (length pack.now.cells.now)
-        (forms.set_form (program_of items.now) (plain_pack pack.now) (taken_at (known_in items.now) kept.now.common) wrote sender.now)
+        (forms.set_form (program_of moment.now.items) (plain_pack pack.now) (taken_at (known_in moment.now.items) moment.now.kept.common) wrote sender.now)
         (cell_of (plain_pack pack.now) (of_count statement)) m.old }
     ensures matrix { IsMatrix (length pack.now.cells.now) m.new }
 {
-    let form = set_form(items, pack, sender, kept.common, written);
+    let form = set_form(
+        &moment.items,
+        pack,
+        sender,
+        moment.kept.common,
+        moment.written,
+    );
     set_cell(pack, m, statement, form);
 }
 

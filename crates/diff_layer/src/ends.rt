@@ -1,17 +1,12 @@
 //! The ends of what a receiver gets, by the first layer and by the matrices.
 ghost use Rattle.std.specs.Prelude.{◌≡◌, ◌≤◌, ◌<◌, ◌≤ℤ◌, ◌^◌, ◌||◌, length, List, pos, neg_ℤ, int_le, unsigned_abs, Option, Some, IfSome};
 ghost use Rattle.std.specs.Option.{option_map_or};
-ghost use Rattle.cob_program.specs.ActView.{plain_program};
 ghost use Rattle.edge_amounts.specs.PartView.{plain_part};
 ghost use Rattle.diff_bounds.specs.Matrix.{IsMatrix};
 ghost use Rattle.diff_bounds.specs.declared.form.Lin.{Lin};
 ghost use Rattle.sum_ranges.specs.Sizes.{IsSmallRange};
 ghost use Rattle.transfer_ranges.specs.ResultRanges.{most, near_range};
 ghost use Rattle.transfer_ranges.specs.Sizes.{IsReceiver};
-ghost use Rattle.interval_domain.specs.Elements.{CellsFit};
-ghost use Rattle.interval_domain.specs.Rows.{cells_of};
-ghost use Rattle.cell_steps.specs.OwnRanges.{owns};
-ghost use Rattle.cell_layer.specs.ProgramRows.{IsRowOf};
 ghost use Rattle.diff_steps.specs.Clearing.{high_fits, low_fits, some_pack, high_shown, low_shown};
 ghost use Rattle.diff_steps.specs.Moments.{Bytes};
 ghost use Rattle.diff_steps.specs.Packs.{Pack, size_of, pack_decimals};
@@ -23,14 +18,12 @@ ghost use Rattle.diff_layer.specs.Parts.{CanChange, IsWrittenTo};
 ghost use Rattle.diff_layer.specs.Plans.{plain_plan, plain_plans, IsPlanOf, ArePlansOf, matrices_for, IsRowFor};
 
 use crate::amounts::amount_form;
+use crate::moment::{Moment, Slot};
 use crate::pack::PackView;
 use crate::pack_counters::lowered_form;
 use crate::plans::{PackPlan, view_of, words_for};
 use crate::receivers::{shows_high, shows_low};
 use crate::senders::set_form;
-use cell_layer::{Kept, KnownItems};
-use cob_program::Program;
-use cob_runs::Cell;
 use dec_num::{Fit, Mode, Scaled, fit};
 use diff_bounds::Lin;
 use edge_amounts::EdgePart;
@@ -40,25 +33,20 @@ use transfer_ranges::Receiver;
 // ---- by the matrices
 
 // the form of what a receiver gets, over a pack
-fn form_for(
-    items: &KnownItems,
-    pack: &PackView,
-    part: EdgePart,
-    kept: &Kept,
-    written: bool,
-) -> Option<Lin>
-    requires unit { HasUnit (program_of items.now).layout pack.now }
-    requires fits { CellsFit (owns (program_of items.now)) (known_in items.now) }
-    requires can { CanChange (program_of items.now) (known_in items.now) kept.now.common (plain_part part) }
-    ensures value { (wrote : List Bytes) → IsWrittenTo (program_of items.now).layout wrote written (plain_part part.entry)
-        → result ≡ part_form (program_of items.now) (known_in items.now) kept.now.common wrote (plain_part part.entry) (plain_pack pack.now) }
+fn form_for(moment: &Moment, pack: &PackView, part: EdgePart) -> Option<Lin>
+    requires unit { HasUnit (program_of moment.now.items).layout pack.now }
+    requires can { CanChange (program_of moment.now.items) (known_in moment.now.items) moment.now.kept.common (plain_part part) }
+    ensures value { (wrote : List Bytes) → IsWrittenTo (program_of moment.now.items).layout wrote moment.now.written (plain_part part.entry)
+        → result ≡ part_form (program_of moment.now.items) (known_in moment.now.items) moment.now.kept.common wrote (plain_part part.entry) (plain_pack pack.now) }
     ensures of_pack { IfSome result (IsFormOf (length pack.now.cells.now)) }
 {
+    let items = &moment.items;
+    let common = moment.kept.common;
     match part {
         EdgePart::Store { item, amount, .. } => {
-            amount_form(items, pack, item, amount, kept.common, written)
+            amount_form(items, pack, item, amount, common, moment.written)
         }
-        EdgePart::SetCount { count, .. } => set_form(items, pack, count, kept.common, written),
+        EdgePart::SetCount { count, .. } => set_form(items, pack, count, common, moment.written),
         EdgePart::CountDown(number) => lowered_form(items, pack, number),
         EdgePart::Read(_)
         | EdgePart::Unread
@@ -74,104 +62,74 @@ fn end_fits(
     size: usize,
     m: &[i128],
     form: Option<Lin>,
-    mode: Mode,
-    receiver: Receiver,
+    slot: Slot,
     decimals: u32,
     low: bool,
 ) -> bool
     requires size { size ≤ 8 }
     requires m { IsMatrix size m.now }
     requires form { IfSome form (IsFormOf size) }
-    requires digits { receiver.digits ≤ 18 }
-    requires scale { receiver.scale ≤ 18 }
+    requires digits { slot.receiver.digits ≤ 18 }
+    requires scale { slot.receiver.scale ≤ 18 }
     requires decimals { decimals ≤ 18 }
-    ensures { result ≡ end_in_pack size decimals m.now form mode receiver low }
+    ensures { result ≡ end_in_pack size decimals m.now form slot.mode slot.receiver low }
 {
     if low {
-        shows_low(size, m, form, mode, receiver, decimals)
+        shows_low(size, m, form, slot.mode, slot.receiver, decimals)
     } else {
-        shows_high(size, m, form, mode, receiver, decimals)
+        shows_high(size, m, form, slot.mode, slot.receiver, decimals)
     }
 }
 
 // whether the matrix of a pack shows that an end of what the receiver gets fits it
 fn pack_shows(
-    program: &Program,
-    cells: &[Cell],
-    row: &[i128],
+    moment: &Moment,
     plan: &PackPlan,
     m: &[i128],
     part: EdgePart,
-    kept: &Kept,
-    written: bool,
-    mode: Mode,
-    receiver: Receiver,
+    slot: Slot,
     low: bool,
 ) -> bool
-    requires row { IsRowOf (plain_program program.now) cells.now row.now }
-    requires fits { CellsFit (owns (plain_program program.now)) (cells_of row.now) }
-    requires plan { IsPlanOf (plain_program program.now) plan.now }
-    requires can { CanChange (plain_program program.now) (cells_of row.now) kept.now.common (plain_part part) }
+    requires plan { IsPlanOf (program_of moment.now.items) plan.now }
+    requires can { CanChange (program_of moment.now.items) (known_in moment.now.items) moment.now.kept.common (plain_part part) }
     requires matrix { IsMatrix (size_of (plain_plan plan.now)) m.now }
-    requires digits { receiver.digits ≤ 18 }
-    requires scale { receiver.scale ≤ 18 }
-    ensures { (wrote : List Bytes) → IsWrittenTo program.now.layout wrote written (plain_part part.entry)
-        → result ≡ end_in_pack (size_of (plain_plan plan.now)) (pack_decimals program.now.layout (plain_plan plan.now)) m.now
-        (part_form (plain_program program.now) (cells_of row.now) kept.now.common wrote (plain_part part.entry) (plain_plan plan.now)) mode receiver low }
+    requires digits { slot.receiver.digits ≤ 18 }
+    requires scale { slot.receiver.scale ≤ 18 }
+    ensures { (wrote : List Bytes) → IsWrittenTo (program_of moment.now.items).layout wrote moment.now.written (plain_part part.entry)
+        → result ≡ end_in_pack (size_of (plain_plan plan.now)) (pack_decimals (program_of moment.now.items).layout (plain_plan plan.now)) m.now
+        (part_form (program_of moment.now.items) (known_in moment.now.items) moment.now.kept.common wrote (plain_part part.entry) (plain_plan plan.now))
+        slot.mode slot.receiver low }
 {
-    let items = KnownItems {
-        program,
-        cells,
-        row,
-    };
     let pack = view_of(plan);
-    let form = form_for(&items, &pack, part, kept, written);
-    end_fits(
-        pack.cells.len(),
-        m,
-        form,
-        mode,
-        receiver,
-        plan.decimals,
-        low,
-    )
+    let form = form_for(moment, &pack, part);
+    end_fits(pack.cells.len(), m, form, slot, plan.decimals, low)
 }
 
 /// Whether the matrix of some pack shows that an end of what the receiver of a part gets fits it: the low end, or the high
 /// one.
 pub(crate) fn end_is_shown(
-    program: &Program,
-    cells: &[Cell],
-    row: &[i128],
+    moment: &Moment,
     plans: &[PackPlan],
     out: &[i128],
     part: EdgePart,
-    kept: &Kept,
-    written: bool,
-    mode: Mode,
-    receiver: Receiver,
+    slot: Slot,
     low: bool,
 ) -> bool
-    requires row { IsRowOf (plain_program program.now) cells.now row.now }
-    requires fits { CellsFit (owns (plain_program program.now)) (cells_of row.now) }
-    requires plans { ArePlansOf (plain_program program.now) plans.now }
-    requires can { CanChange (plain_program program.now) (cells_of row.now) kept.now.common (plain_part part) }
+    requires plans { ArePlansOf (program_of moment.now.items) plans.now }
+    requires can { CanChange (program_of moment.now.items) (known_in moment.now.items) moment.now.kept.common (plain_part part) }
     requires matrices { IsRowFor plans.now out.now }
-    requires digits { receiver.digits ≤ 18 }
-    requires scale { receiver.scale ≤ 18 }
-    ensures { (wrote : List Bytes) → IsWrittenTo program.now.layout wrote written (plain_part part.entry)
-        → result ≡ some_end (plain_program program.now) (cells_of row.now) kept.now.common wrote (plain_part part.entry) mode receiver low
-        (plain_plans plans.now) (matrices_for plans.now out.now) }
+    requires digits { slot.receiver.digits ≤ 18 }
+    requires scale { slot.receiver.scale ≤ 18 }
+    ensures { (wrote : List Bytes) → IsWrittenTo (program_of moment.now.items).layout wrote moment.now.written (plain_part part.entry)
+        → result ≡ some_end (program_of moment.now.items) (known_in moment.now.items) moment.now.kept.common wrote (plain_part part.entry)
+        slot.mode slot.receiver low (plain_plans plans.now) (matrices_for plans.now out.now) }
 {
     match plans {
         [] => false,
         [plan, plans @ ..] => {
             let (first, rest) = out.split_at(words_for(plan));
-            pack_shows(
-                program, cells, row, plan, first, part, kept, written, mode, receiver, low,
-            ) || end_is_shown(
-                program, cells, row, plans, rest, part, kept, written, mode, receiver, low,
-            )
+            pack_shows(moment, plan, first, part, slot, low)
+                || end_is_shown(moment, plans, rest, part, slot, low)
         }
     }
 }

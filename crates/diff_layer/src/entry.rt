@@ -14,10 +14,11 @@ ghost use Rattle.diff_steps.specs.Edges.{no_bounds, entry_packs};
 ghost use Rattle.diff_bounds.specs.PackRows.{words_of, width_of, row_of};
 ghost use Rattle.diff_layer.specs.Plans.{plain_plans, ArePlansOf};
 ghost use Rattle.diff_layer.specs.Edges.{free_word};
+ghost use Rattle.diff_layer.specs.Views.{program_of};
 
 use crate::closing::close_all;
 use crate::plans::PackPlan;
-use cell_layer::entry_row;
+use cell_layer::{KnownItems, entry_row};
 use cob_program::Program;
 use cob_runs::Cell;
 use diff_bounds::{NONE, set_least, width_of, words_of};
@@ -63,25 +64,22 @@ fn set_free(sizes: &[usize], row: &mut [i128])
 
 // lowers the row that bounds nothing to what is known of cells where a run begins
 fn set_entry(
-    program: &Program,
-    cells: &[Cell],
+    items: &KnownItems,
     plans: &[PackPlan],
     sizes: &[usize],
     thresholds: &[Vec<i128>],
-    row: &[i128],
     out: &mut [i128],
 )
-    requires row { row.now ≡ known_row (entry_cells (plain_program program.now)) }
-    requires cells { cells.now ≡ cells_of (plain_program program.now) }
-    requires fits { CellsFit (owns (plain_program program.now)) (entry_cells (plain_program program.now)) }
-    requires plans { ArePlansOf (plain_program program.now) plans.now }
+    requires row { items.now.row.now ≡ known_row (entry_cells (program_of items.now)) }
+    requires fits { CellsFit (owns (program_of items.now)) (entry_cells (program_of items.now)) }
+    requires plans { ArePlansOf (program_of items.now) plans.now }
     requires sizes { sizes.now ≡ map size_of (plain_plans plans.now) }
     requires listed { length thresholds.now ≡ length plans.now }
     requires width { length out.old ≡ width_of sizes.now }
-    ensures { out.new ≡ row_of (entry_packs (plain_program program.now) (plain_plans plans.now) (entry_cells (plain_program program.now))) }
+    ensures { out.new ≡ row_of (entry_packs (program_of items.now) (plain_plans plans.now) (entry_cells (program_of items.now))) }
 {
     set_free(sizes, out);
-    if !close_all(program, cells, plans, row, out) {
+    if !close_all(items.program, items.cells, plans, items.row, out) {
         set_least(sizes, thresholds, out);
     }
 }
@@ -108,14 +106,11 @@ pub fn entry_words(
 {
     let row = entry_row(alloc, program, cells)?;
     let mut words = vec![in alloc; 0; width_of(sizes)]?;
-    set_entry(
+    let items = KnownItems {
         program,
         cells,
-        plans,
-        sizes,
-        thresholds,
-        row.as_slice(),
-        words.as_mut_slice(),
-    );
+        row: row.as_slice(),
+    };
+    set_entry(&items, plans, sizes, thresholds, words.as_mut_slice());
     Ok(words)
 }

@@ -7,6 +7,7 @@ ghost use Rattle.diff_layer.specs.LayerLaws.{flows_by};
 
 use crate::edges::passes_edge;
 use crate::layer::DiffLayer;
+use crate::pack_works::PackWorks;
 use cell_layer::{edge_with, is_marked};
 use diff_bounds::set_least;
 use dom_laws::{Rows, Steps, System};
@@ -43,21 +44,17 @@ impl<'a, R: Rows> System for DiffLayer<'a, R> {
     fn post<L: Ledger>(&self, edge: u32, from: &[i128], out: &mut [i128], steps: &mut Steps<L>) {
         steps.tick();
         out.copy_from_slice(from);
-        let edge = edge_with(self.graph.edges.get(), edge);
-        let passes = passes_edge(
-            self.program,
-            self.graph,
-            self.statements.as_slice(),
-            self.plans.as_slice(),
-            edge,
-            self.facts.row(edge.from),
-            out,
-        );
+        let source = edge_with(self.graph.edges.get(), edge).from;
+        let edges = PackWorks {
+            works: &self.works,
+            plans: self.plans.as_slice(),
+        };
+        let passes = passes_edge(&edges, edge as usize - 1, self.facts.row(source), out);
         if !passes {
             set_least(self.sizes.as_slice(), self.thresholds, out);
         }
     }
 
-    ghost flows = { λ s. flows_by (plain_program s.program.now) s.graph.now s.statements.items s.held s.packs.now s.cells
+    ghost flows = { λ s. flows_by (plain_program s.program.now) s.graph.now s.works s.held s.packs.now s.cells
         s.thresholds.now s.listed (R.row_at s.facts.now) s.known };
 }

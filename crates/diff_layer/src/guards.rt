@@ -14,20 +14,19 @@ ghost use Rattle.diff_steps.specs.Guards as guards;
 ghost use Rattle.diff_layer.specs.Views.{plain_pack, item_cell, HasUnit, program_of, known_in};
 ghost use Rattle.diff_layer.specs.Changes.{guard_changed};
 
+use crate::orders::Outcome;
 use crate::pack::PackView;
 use crate::sides::{are_fine, difference_form};
 use cell_layer::KnownItems;
 use cob_program::{Sum, Test};
-use cob_tree::Rel;
 
 fn relate(
     items: &KnownItems,
     pack: &PackView,
     m: &mut [i128],
     left: &Sum,
-    rel: Rel,
     right: &Sum,
-    wanted: bool,
+    outcome: Outcome,
 )
     requires m { IsMatrix (length pack.now.cells.now) m.old }
     requires unit { HasUnit (program_of items.now).layout pack.now }
@@ -35,12 +34,12 @@ fn relate(
     requires left { is_small_sum (bound_at (program_of items.now).layout) (plain_sum left.now) ≡ true }
     requires right { is_small_sum (bound_at (program_of items.now).layout) (plain_sum right.now) ≡ true }
     ensures value { m.new ≡ guards.related pack.now.decimals (item_cell pack.now) (range_at (program_of items.now) (known_in items.now))
-        (length pack.now.cells.now) (plain_sum left.now) rel (plain_sum right.now) wanted m.old }
+        (length pack.now.cells.now) (plain_sum left.now) outcome.rel (plain_sum right.now) outcome.holds m.old }
     ensures matrix { IsMatrix (length pack.now.cells.now) m.new }
 {
     let fine = are_fine(items, pack, left, right);
     let form = difference_form(items, pack, left, right);
-    crate::orders::relate(pack.cells.len(), m, fine, form, rel, wanted);
+    crate::orders::relate(pack.cells.len(), m, fine, form, outcome);
 }
 
 /// Makes of a pack's matrix what a test with such an outcome leaves of it.
@@ -54,7 +53,13 @@ pub(crate) fn guard(items: &KnownItems, pack: &PackView, m: &mut [i128], test: &
     ensures matrix { IsMatrix (length pack.now.cells.now) m.new }
 {
     match test {
-        Test::Number { left, rel, right } => relate(items, pack, m, left, *rel, right, wanted),
+        Test::Number { left, rel, right } => {
+            let outcome = Outcome {
+                rel: *rel,
+                holds: wanted,
+            };
+            relate(items, pack, m, left, right, outcome)
+        }
         Test::Text { .. } | Test::Member { .. } | Test::Numeric(_) | Test::Always => {}
     }
 }

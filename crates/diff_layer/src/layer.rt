@@ -18,9 +18,9 @@ ghost use Rattle.cob_graph.specs.Limits.{most_cells, most_nodes};
 use crate::entry::entry_words;
 use crate::planning::{plans_of, sizes_of};
 use crate::plans::PackPlan;
-use cell_layer::{has_few_parts, heads_of};
+use cell_layer::{EdgeWorks, heads_of};
 use cob_graph::Graph;
-use cob_program::{Program, Stmt};
+use cob_program::Program;
 use diff_bounds::Pack;
 use dom_laws::Rows;
 use std::alloc::{AllocError, Global};
@@ -34,14 +34,14 @@ pub struct DiffLayer<'a, R: Rows> {
     pub packs: &'a [Pack],
     pub thresholds: &'a [Vec<i128>],
     pub facts: &'a R,
-    pub(crate) statements: Vec<&'a Stmt>,
+    pub(crate) works: EdgeWorks<'a>,
     // each pack's cells, and how many it has
     pub(crate) plans: Vec<PackPlan>,
     pub(crate) sizes: Vec<usize>,
     // whether an edge goes back to a node, for each node
     pub(crate) heads: Vec<bool>,
     pub(crate) entry: Vec<i128>,
-    ghost held: { ∥ IsHeld (plain_program program.now) graph.now statements.items ∥₁ },
+    ghost held: { ∥ IsHeld (plain_program program.now) graph.now works ∥₁ },
     ghost cells: { ∥ ArePacksOfCells (length graph.now.cells) packs.now ∥₁ },
     ghost ends: { ∥ AllByRecursion AreThresholds (lists_of thresholds.now) ∥₁ },
     ghost lists: { ∥ AllByRecursion (λ list. length list.items ≤ 2048) thresholds.now ∥₁ },
@@ -62,8 +62,7 @@ pub struct DiffLayer<'a, R: Rows> {
 
 impl<'a, R: Rows> DiffLayer<'a, R> {
     /// The layer over a program's graph, beside rows of the first layer for its nodes. Each pack has at most 8 cells, by
-    /// their numbers from 1 in rising order, and a list of thresholds. An edge with 2^32 - 1 parts or more counts as want
-    /// of memory.
+    /// their numbers from 1 in rising order, and a list of thresholds.
     pub fn new(
         alloc: Global,
         program: &'a Program,
@@ -88,10 +87,8 @@ impl<'a, R: Rows> DiffLayer<'a, R> {
         ensures thresholds { IfOk result (λ layer. layer.thresholds.now ≡ thresholds.now) }
         ensures facts { IfOk result (λ layer. layer.facts.now ≡ facts.now) }
     {
+        let works = EdgeWorks::new(alloc, program, graph)?;
         let statements = program.statements(alloc)?;
-        if !has_few_parts(program, graph, statements.as_slice()) {
-            return Err(AllocError);
-        }
         let plans = plans_of(alloc, program, statements.as_slice(), packs)?;
         let sizes = sizes_of(alloc, packs)?;
         let heads = heads_of(alloc, graph.nodes.get().len() as u32, graph.edges.get())?;
@@ -109,7 +106,7 @@ impl<'a, R: Rows> DiffLayer<'a, R> {
             packs,
             thresholds,
             facts,
-            statements,
+            works,
             plans,
             sizes,
             heads,

@@ -40,26 +40,33 @@ fn demand_zero(size: usize, m: &mut [i128], fine: bool, form: Option<Lin>)
     lower_to(size, m, other);
 }
 
+/// Which orders of two sums are left.
+#[derive(Clone, Copy)]
+pub struct Orders {
+    pub below: bool,
+    pub even: bool,
+    pub above: bool,
+}
+
+/// A relation, and whether it is to hold or not.
+#[derive(Clone, Copy)]
+pub struct Outcome {
+    pub rel: Rel,
+    pub holds: bool,
+}
+
 /// Lowers the words by which orders of two sums are left, where the form is the difference of the first and the second.
 /// Both are whole numbers of the pack's unit where they are `fine`, so that a difference below 0 is at most -1.
-pub fn order(
-    size: usize,
-    m: &mut [i128],
-    fine: bool,
-    form: Option<Lin>,
-    below: bool,
-    even: bool,
-    above: bool,
-)
+pub fn order(size: usize, m: &mut [i128], fine: bool, form: Option<Lin>, left: Orders)
     requires size { size ≤ 8 }
     requires m { IsMatrix size m.old }
     requires form { IfSome form (IsFormOf size) }
-    ensures value { m.new ≡ ordered size fine form below even above m.old }
+    ensures value { m.new ≡ ordered size fine form left.below left.even left.above m.old }
     ensures matrix { IsMatrix size m.new }
 {
-    match (below, even, above) {
-        (true, _, false) => demand_if(size, m, at_most(fine, even, form)),
-        (false, _, true) => demand_if(size, m, at_most(fine, even, turned(form))),
+    match (left.below, left.even, left.above) {
+        (true, _, false) => demand_if(size, m, at_most(fine, left.even, form)),
+        (false, _, true) => demand_if(size, m, at_most(fine, left.even, turned(form))),
         (false, true, false) => demand_zero(size, m, fine, form),
         _ => {}
     }
@@ -86,17 +93,19 @@ fn leaves_above(rel: Rel, wanted: bool) -> bool
     matches!(rel, Rel::Greater | Rel::AtLeast) == wanted
 }
 
-/// Lowers the words by a relation of two sums that has an outcome.
-pub fn relate(size: usize, m: &mut [i128], fine: bool, form: Option<Lin>, rel: Rel, wanted: bool)
+/// Lowers the words by an outcome of a relation of two sums.
+pub fn relate(size: usize, m: &mut [i128], fine: bool, form: Option<Lin>, outcome: Outcome)
     requires size { size ≤ 8 }
     requires m { IsMatrix size m.old }
     requires form { IfSome form (IsFormOf size) }
-    ensures value { m.new ≡ ordered size fine form (is_wanted wanted (holds rel below_it)) (is_wanted wanted (holds rel equal_to_it))
-        (is_wanted wanted (holds rel above_it)) m.old }
+    ensures value { m.new ≡ ordered size fine form (is_wanted outcome.holds (holds outcome.rel below_it))
+        (is_wanted outcome.holds (holds outcome.rel equal_to_it)) (is_wanted outcome.holds (holds outcome.rel above_it)) m.old }
     ensures matrix { IsMatrix size m.new }
 {
-    let below = leaves_below(rel, wanted);
-    let even = leaves_equal(rel, wanted);
-    let above = leaves_above(rel, wanted);
-    order(size, m, fine, form, below, even, above);
+    let left = Orders {
+        below: leaves_below(outcome.rel, outcome.holds),
+        even: leaves_equal(outcome.rel, outcome.holds),
+        above: leaves_above(outcome.rel, outcome.holds),
+    };
+    order(size, m, fine, form, left);
 }

@@ -8,9 +8,9 @@ ghost use Rattle.diff_layer.specs.Receiving.{stored_at};
 use super::bounds::known_of_amount;
 use super::forms::{turned, widened};
 use super::images::{assign_or_forget, forget_cell, lower_to};
-use dec_num::Mode;
+use super::moment::Slot;
 use diff_bounds::{Known, Lin, error_of};
-use transfer_ranges::{AmountRange, Receiver};
+use transfer_ranges::AmountRange;
 
 // stores a value that is 0: by the form or by the negated one, whichever says more
 fn store_either(size: usize, m: &mut [i128], to: usize, form: Option<Lin>)
@@ -80,56 +80,53 @@ pub fn store_value(
     }
 }
 
-/// Stores a form, cut or rounded, at a cell whose unit is so many of the pack's.
-pub fn store_form(
-    size: usize,
-    m: &mut [i128],
-    to: usize,
-    signed: bool,
-    mode: Mode,
-    unit: i128,
-    known: Known,
-    form: &Lin,
-)
-    requires size { size ≤ 8 }
-    requires m { IsMatrix size m.old }
-    requires first { 1 ≤ to }
-    requires last { to ≤ size }
-    requires unit { pos 0 ≤ℤ unit }
-    requires form { IsFormOf size form.now }
-    ensures value { m.new ≡ form_stored size to signed mode (unsigned_abs unit) known form.now m.old }
-    ensures matrix { IsMatrix size m.new }
-{
-    let stored = widened(form, error_of(known, mode, unit));
-    store_value(size, m, to, signed, known, stored);
+/// A cell that gets a value: its place among the pack's cells, from 1 on, and how many of the pack's units are one of its
+/// own.
+#[derive(Clone, Copy)]
+pub struct Target {
+    pub place: usize,
+    pub unit: i128,
 }
 
-/// Stores an amount at a cell of a receiver whose unit is so many of the pack's: a form of the amount, by what is
-/// surely known of its range. Where there is no form, nothing is known of the cell behind it.
+/// Stores a form, cut or rounded, at a cell.
+pub fn store_form(size: usize, m: &mut [i128], target: Target, slot: Slot, known: Known, form: &Lin)
+    requires size { size ≤ 8 }
+    requires m { IsMatrix size m.old }
+    requires first { 1 ≤ target.place }
+    requires last { target.place ≤ size }
+    requires unit { pos 0 ≤ℤ target.unit }
+    requires form { IsFormOf size form.now }
+    ensures value { m.new ≡ form_stored size target.place slot.receiver.signed slot.mode (unsigned_abs target.unit) known form.now m.old }
+    ensures matrix { IsMatrix size m.new }
+{
+    let stored = widened(form, error_of(known, slot.mode, target.unit));
+    store_value(size, m, target.place, slot.receiver.signed, known, stored);
+}
+
+/// Stores an amount at a cell: a form of the amount, by what is surely known of its range. Where there is no form, nothing
+/// is known of the cell behind it.
 pub fn store_at(
     size: usize,
     m: &mut [i128],
-    to: usize,
+    target: Target,
     form: Option<Lin>,
-    receiver: Receiver,
-    mode: Mode,
-    unit: i128,
+    slot: Slot,
     amount: Option<AmountRange>,
 )
     requires size { size ≤ 8 }
     requires m { IsMatrix size m.old }
-    requires first { 1 ≤ to }
-    requires last { to ≤ size }
+    requires first { 1 ≤ target.place }
+    requires last { target.place ≤ size }
     requires form { IfSome form (IsFormOf size) }
-    requires unit { pos 0 ≤ℤ unit }
-    ensures value { m.new ≡ stored_at size to receiver mode (unsigned_abs unit) amount form m.old }
+    requires unit { pos 0 ≤ℤ target.unit }
+    ensures value { m.new ≡ stored_at size target.place slot.receiver slot.mode (unsigned_abs target.unit) amount form m.old }
     ensures matrix { IsMatrix size m.new }
 {
     match form {
         Some(form) => {
-            let known = known_of_amount(size, m, &form, receiver.scale, amount);
-            store_form(size, m, to, receiver.signed, mode, unit, known, &form);
+            let known = known_of_amount(size, m, &form, slot.receiver.scale, amount);
+            store_form(size, m, target, slot, known, &form);
         }
-        None => forget_cell(size, m, to),
+        None => forget_cell(size, m, target.place),
     }
 }

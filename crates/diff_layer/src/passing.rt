@@ -6,25 +6,24 @@ ghost use Rattle.cob_program.specs.ActView.{plain_program};
 ghost use Rattle.edge_amounts.specs.PartView.{plain_part};
 ghost use Rattle.diff_bounds.specs.Matrix.{IsMatrix};
 ghost use Rattle.cob_graph.specs.Graphs.{cells_of as program_cells};
-ghost use Rattle.interval_domain.specs.Elements.{CellsFit};
 ghost use Rattle.interval_domain.specs.Rows.{IsReached, cells_of};
 ghost use Rattle.edge_amounts.specs.Numbers.{number_of};
 ghost use Rattle.cob_graph.specs.Homes.{homes_of};
-ghost use Rattle.cell_steps.specs.OwnRanges.{owns};
 ghost use Rattle.cell_layer.specs.Kept.{latest_of};
-ghost use Rattle.cell_layer.specs.ProgramRows.{known_in, IsCellNumber, IsRowOf};
+ghost use Rattle.cell_layer.specs.ProgramRows.{known_in, IsCellNumber};
 ghost use Rattle.diff_steps.specs.Matrices.{put_closed};
 ghost use Rattle.diff_steps.specs.Moments.{Bytes};
 ghost use Rattle.diff_steps.specs.Packs.{size_of};
 ghost use Rattle.diff_steps.specs.Steps.{each_pack, all_closed};
 ghost use Rattle.diff_layer.specs.Closed.{IsClosedBy, IsClosedRow, IsKnownAlike, IsIdle};
 ghost use Rattle.diff_layer.specs.Parts.{CanChange, IsWrittenTo, plan_changed};
+ghost use Rattle.diff_layer.specs.Passed.{program_in, known_before, known_behind};
 ghost use Rattle.diff_layer.specs.Plans.{plain_plan, plain_plans, IsPlanOf, ArePlansOf, matrices_for};
 
 use crate::changing::change_plan;
 use crate::closing::close_again;
+use crate::passed::Passed;
 use crate::plans::{PackPlan, words_for};
-use cell_layer::Kept;
 use cob_graph::Home;
 use cob_program::Program;
 use cob_runs::Cell;
@@ -77,158 +76,92 @@ fn is_numbered_alike(before: &[i128], row: &[i128], number: Option<usize>) -> bo
     }
 }
 
-// whether two rows say the same of a cell of a pack
-fn is_known_alike(
-    program: &Program,
-    cells: &[Cell],
-    before: &[i128],
-    row: &[i128],
-    cell: &Home,
-) -> bool
-    requires before { IsRowOf (plain_program program.now) cells.now before.now }
-    requires row { IsRowOf (plain_program program.now) cells.now row.now }
-    ensures { IsTrue result → IsKnownAlike (plain_program program.now) (cells_of before.now) (cells_of row.now) cell.now }
+// whether the rows before the part and behind it say the same of a cell of a pack
+fn is_known_alike(passed: &Passed, cell: &Home) -> bool
+    ensures { IsTrue result → IsKnownAlike (program_in passed.now) (known_before passed.now) (known_behind passed.now) cell.now }
 {
-    is_numbered_alike(before, row, number_of(program, cells, *cell))
+    let items = &passed.moment.items;
+    is_numbered_alike(
+        items.row,
+        passed.row,
+        number_of(items.program, items.cells, *cell),
+    )
 }
 
-fn are_known_alike(
-    program: &Program,
-    cells: &[Cell],
-    before: &[i128],
-    row: &[i128],
-    pack: &[Home],
-) -> bool
-    requires before { IsRowOf (plain_program program.now) cells.now before.now }
-    requires row { IsRowOf (plain_program program.now) cells.now row.now }
-    ensures { IsTrue result → AllByRecursion (IsKnownAlike (plain_program program.now) (cells_of before.now) (cells_of row.now)) pack.now }
+fn are_known_alike(passed: &Passed, pack: &[Home]) -> bool
+    ensures { IsTrue result → AllByRecursion (IsKnownAlike (program_in passed.now) (known_before passed.now) (known_behind passed.now)) pack.now }
 {
     match pack {
         [] => true,
-        [cell, pack @ ..] => {
-            is_known_alike(program, cells, before, row, cell)
-                && are_known_alike(program, cells, before, row, pack)
-        }
+        [cell, pack @ ..] => is_known_alike(passed, cell) && are_known_alike(passed, pack),
     }
 }
 
 // ---- packs
 
 // whether neither the words of a pack have changed nor what is known of its cells
-fn is_unchanged(
-    program: &Program,
-    cells: &[Cell],
-    plan: &PackPlan,
-    before: &[i128],
-    row: &[i128],
-    last: &[i128],
-    m: &[i128],
-) -> bool
-    requires before { IsRowOf (plain_program program.now) cells.now before.now }
-    requires row { IsRowOf (plain_program program.now) cells.now row.now }
+fn is_unchanged(passed: &Passed, plan: &PackPlan, last: &[i128], m: &[i128]) -> bool
     ensures words { IsTrue result → last.now ≡ m.now }
-    ensures known { IsTrue result → AllByRecursion (IsKnownAlike (plain_program program.now) (cells_of before.now) (cells_of row.now)) (plain_plan plan.now) }
+    ensures known { IsTrue result → AllByRecursion (IsKnownAlike (program_in passed.now) (known_before passed.now) (known_behind passed.now)) (plain_plan plan.now) }
 {
-    is_same(last, m) && are_known_alike(program, cells, before, row, plan.cells.as_slice())
+    is_same(last, m) && are_known_alike(passed, plan.cells.as_slice())
 }
 
 // closes what a part has made of a matrix that was closed before it
-fn close_behind(
-    program: &Program,
-    cells: &[Cell],
-    plan: &PackPlan,
-    before: &[i128],
-    row: &[i128],
-    last: &[i128],
-    m: &mut [i128],
-) -> bool
-    requires before { IsRowOf (plain_program program.now) cells.now before.now }
-    requires row { IsRowOf (plain_program program.now) cells.now row.now }
-    requires fits { CellsFit (owns (plain_program program.now)) (cells_of before.now) }
-    requires fit { CellsFit (owns (plain_program program.now)) (cells_of row.now) }
-    requires plan { IsPlanOf (plain_program program.now) plan.now }
+fn close_behind(passed: &Passed, plan: &PackPlan, last: &[i128], m: &mut [i128]) -> bool
+    requires plan { IsPlanOf (program_in passed.now) plan.now }
     requires last { IsMatrix (size_of (plain_plan plan.now)) last.now }
-    requires closed { IsClosedBy (plain_program program.now) (cells_of before.now) (plain_plan plan.now) last.now }
+    requires closed { IsClosedBy (program_in passed.now) (known_before passed.now) (plain_plan plan.now) last.now }
     requires matrix { IsMatrix (size_of (plain_plan plan.now)) m.old }
-    ensures value { put_closed program.now.layout (homes_of (plain_program program.now)) (cells_of row.now) (plain_plan plan.now) m.old
+    ensures value { put_closed (program_in passed.now).layout (homes_of (program_in passed.now)) (known_behind passed.now) (plain_plan plan.now) m.old
         ≡ (if result then Some m.new else None) }
     ensures width { length m.new ≡ length m.old }
     ensures matrix { IsTrue result → IsMatrix (size_of (plain_plan plan.now)) m.new }
-    ensures stays { IsTrue result → IsClosedBy (plain_program program.now) (cells_of row.now) (plain_plan plan.now) m.new }
+    ensures stays { IsTrue result → IsClosedBy (program_in passed.now) (known_behind passed.now) (plain_plan plan.now) m.new }
 {
-    is_unchanged(program, cells, plan, before, row, last, m)
-        || close_again(program, cells, plan, before, row, last, m)
+    let items = &passed.moment.items;
+    is_unchanged(passed, plan, last, m)
+        || close_again(items.program, items.cells, plan, passed.row, last, m)
 }
 
 // leads the matrix of a pack over the part
-fn pass_pack(
-    program: &Program,
-    cells: &[Cell],
-    part: EdgePart,
-    before: &[i128],
-    row: &[i128],
-    kept: &Kept,
-    written: bool,
-    plan: &PackPlan,
-    m: &mut [i128],
-) -> bool
-    requires before { IsRowOf (plain_program program.now) cells.now before.now }
-    requires row { IsRowOf (plain_program program.now) cells.now row.now }
-    requires fits { CellsFit (owns (plain_program program.now)) (cells_of before.now) }
-    requires fit { CellsFit (owns (plain_program program.now)) (cells_of row.now) }
-    requires plan { IsPlanOf (plain_program program.now) plan.now }
-    requires can { CanChange (plain_program program.now) (cells_of before.now) kept.now.common (plain_part part) }
+fn pass_pack(passed: &Passed, part: EdgePart, plan: &PackPlan, m: &mut [i128]) -> bool
+    requires plan { IsPlanOf (program_in passed.now) plan.now }
+    requires can { CanChange (program_in passed.now) (known_before passed.now) passed.now.moment.kept.common (plain_part part) }
     requires matrix { IsMatrix (size_of (plain_plan plan.now)) m.old }
-    requires closed { IsClosedBy (plain_program program.now) (cells_of before.now) (plain_plan plan.now) m.old }
-    ensures value { (wrote : List Bytes) → IsWrittenTo program.now.layout wrote written (plain_part part.entry)
-        → put_closed program.now.layout (homes_of (plain_program program.now)) (cells_of row.now) (plain_plan plan.now)
-        (plan_changed (plain_program program.now) (cells_of before.now) kept.now.common (latest_of kept.now) wrote (plain_part part.entry) (plain_plan plan.now) m.old)
+    requires closed { IsClosedBy (program_in passed.now) (known_before passed.now) (plain_plan plan.now) m.old }
+    ensures value { (wrote : List Bytes) → IsWrittenTo (program_in passed.now).layout wrote passed.now.moment.written (plain_part part.entry)
+        → put_closed (program_in passed.now).layout (homes_of (program_in passed.now)) (known_behind passed.now) (plain_plan plan.now)
+        (plan_changed (program_in passed.now) (known_before passed.now) passed.now.moment.kept.common (latest_of passed.now.moment.kept) wrote
+        (plain_part part.entry) (plain_plan plan.now) m.old)
         ≡ (if result then Some m.new else None) }
     ensures width { length m.new ≡ length m.old }
     ensures matrix { IsTrue result → IsMatrix (size_of (plain_plan plan.now)) m.new }
-    ensures stays { IsTrue result → IsClosedBy (plain_program program.now) (cells_of row.now) (plain_plan plan.now) m.new }
+    ensures stays { IsTrue result → IsClosedBy (program_in passed.now) (known_behind passed.now) (plain_plan plan.now) m.new }
 {
     let mut room = [0; 81];
     let last = &mut room[..m.len()];
     last.copy_from_slice(m);
-    change_plan(program, cells, before, plan, m, part, kept, written);
-    close_behind(program, cells, plan, before, row, last, m)
+    change_plan(&passed.moment, plan, m, part);
+    close_behind(passed, plan, last, m)
 }
 
-fn pass_packs(
-    program: &Program,
-    cells: &[Cell],
-    part: EdgePart,
-    before: &[i128],
-    row: &[i128],
-    kept: &Kept,
-    written: bool,
-    plans: &[PackPlan],
-    out: &mut [i128],
-) -> bool
-    requires before { IsRowOf (plain_program program.now) cells.now before.now }
-    requires row { IsRowOf (plain_program program.now) cells.now row.now }
-    requires fits { CellsFit (owns (plain_program program.now)) (cells_of before.now) }
-    requires fit { CellsFit (owns (plain_program program.now)) (cells_of row.now) }
-    requires plans { ArePlansOf (plain_program program.now) plans.now }
-    requires can { CanChange (plain_program program.now) (cells_of before.now) kept.now.common (plain_part part) }
-    requires matrices { IsClosedRow (plain_program program.now) (cells_of before.now) plans.now out.old }
-    ensures closed { (wrote : List Bytes) → IsWrittenTo program.now.layout wrote written (plain_part part.entry)
-        → all_closed (plain_program program.now) (cells_of row.now) (plain_plans plans.now)
-        (each_pack (plan_changed (plain_program program.now) (cells_of before.now) kept.now.common (latest_of kept.now) wrote (plain_part part.entry))
+fn pass_packs(passed: &Passed, part: EdgePart, plans: &[PackPlan], out: &mut [i128]) -> bool
+    requires plans { ArePlansOf (program_in passed.now) plans.now }
+    requires can { CanChange (program_in passed.now) (known_before passed.now) passed.now.moment.kept.common (plain_part part) }
+    requires matrices { IsClosedRow (program_in passed.now) (known_before passed.now) plans.now out.old }
+    ensures closed { (wrote : List Bytes) → IsWrittenTo (program_in passed.now).layout wrote passed.now.moment.written (plain_part part.entry)
+        → all_closed (program_in passed.now) (known_behind passed.now) (plain_plans plans.now)
+        (each_pack (plan_changed (program_in passed.now) (known_before passed.now) passed.now.moment.kept.common (latest_of passed.now.moment.kept) wrote (plain_part part.entry))
         (plain_plans plans.now) (matrices_for plans.now out.old))
         ≡ (if result then Some (matrices_for plans.now out.new) else None) }
-    ensures matrices { IsTrue result → IsClosedRow (plain_program program.now) (cells_of row.now) plans.now out.new }
+    ensures matrices { IsTrue result → IsClosedRow (program_in passed.now) (known_behind passed.now) plans.now out.new }
 {
     match plans {
         [] => true,
         [plan, plans @ ..] => {
             let (first, rest) = out.split_at_mut(words_for(plan));
-            pass_pack(
-                program, cells, part, before, row, kept, written, plan, first,
-            ) && pass_packs(
-                program, cells, part, before, row, kept, written, plans, rest,
-            )
+            pass_pack(passed, part, plan, first) && pass_packs(passed, part, plans, rest)
         }
     }
 }
@@ -261,33 +194,18 @@ fn is_untouched(part: EdgePart, before: &[i128], row: &[i128]) -> bool
     is_idle(part) && is_same(before, row)
 }
 
-/// Leads the matrices over a part that the row has passed, by what is known of cells before it and behind it. Answers
-/// false where a cycle is negative behind it; the words then aren't told.
-pub(crate) fn pass(
-    program: &Program,
-    cells: &[Cell],
-    part: EdgePart,
-    before: &[i128],
-    row: &[i128],
-    kept: &Kept,
-    written: bool,
-    plans: &[PackPlan],
-    out: &mut [i128],
-) -> bool
-    requires before { IsRowOf (plain_program program.now) cells.now before.now }
-    requires row { IsRowOf (plain_program program.now) cells.now row.now }
-    requires fits { CellsFit (owns (plain_program program.now)) (cells_of before.now) }
-    requires fit { CellsFit (owns (plain_program program.now)) (cells_of row.now) }
-    requires plans { ArePlansOf (plain_program program.now) plans.now }
-    requires can { CanChange (plain_program program.now) (cells_of before.now) kept.now.common (plain_part part) }
-    requires matrices { IsClosedRow (plain_program program.now) (cells_of before.now) plans.now out.old }
-    ensures closed { (wrote : List Bytes) → IsWrittenTo program.now.layout wrote written (plain_part part.entry)
-        → all_closed (plain_program program.now) (cells_of row.now) (plain_plans plans.now)
-        (each_pack (plan_changed (plain_program program.now) (cells_of before.now) kept.now.common (latest_of kept.now) wrote (plain_part part.entry))
+/// Leads the matrices over a part that the row has passed. Answers false where a cycle is negative behind it; the words
+/// then aren't told.
+pub(crate) fn pass(passed: &Passed, part: EdgePart, plans: &[PackPlan], out: &mut [i128]) -> bool
+    requires plans { ArePlansOf (program_in passed.now) plans.now }
+    requires can { CanChange (program_in passed.now) (known_before passed.now) passed.now.moment.kept.common (plain_part part) }
+    requires matrices { IsClosedRow (program_in passed.now) (known_before passed.now) plans.now out.old }
+    ensures closed { (wrote : List Bytes) → IsWrittenTo (program_in passed.now).layout wrote passed.now.moment.written (plain_part part.entry)
+        → all_closed (program_in passed.now) (known_behind passed.now) (plain_plans plans.now)
+        (each_pack (plan_changed (program_in passed.now) (known_before passed.now) passed.now.moment.kept.common (latest_of passed.now.moment.kept) wrote (plain_part part.entry))
         (plain_plans plans.now) (matrices_for plans.now out.old))
         ≡ (if result then Some (matrices_for plans.now out.new) else None) }
-    ensures matrices { IsTrue result → IsClosedRow (plain_program program.now) (cells_of row.now) plans.now out.new }
+    ensures matrices { IsTrue result → IsClosedRow (program_in passed.now) (known_behind passed.now) plans.now out.new }
 {
-    is_untouched(part, before, row)
-        || pass_packs(program, cells, part, before, row, kept, written, plans, out)
+    is_untouched(part, passed.moment.items.row, passed.row) || pass_packs(passed, part, plans, out)
 }

@@ -8,9 +8,7 @@ ghost use Rattle.diff_bounds.specs.Matrix.{IsMatrix};
 ghost use Rattle.transfer_ranges.specs.Receivers.{receiver_of};
 ghost use Rattle.edge_amounts.specs.Small.{is_small_amount};
 ghost use Rattle.edge_amounts.specs.Working.{CanWork};
-ghost use Rattle.interval_domain.specs.Elements.{CellsFit};
 ghost use Rattle.cob_graph.specs.declared.homes.Home.TheVariants.{Item as of_item};
-ghost use Rattle.cell_steps.specs.OwnRanges.{owns};
 ghost use Rattle.cell_steps.specs.Stores.{range_at};
 ghost use Rattle.cell_layer.specs.Kept.{latest_of};
 ghost use Rattle.diff_steps.specs.Forms as forms;
@@ -24,10 +22,10 @@ ghost use Rattle.diff_layer.specs.Changes.{decimal_in, cell_stored, fitting_stor
 use crate::amounts::amount_form;
 use crate::cells::unit_of;
 use crate::gone::{Gone, forget};
+use crate::moment::{Moment, Slot};
 use crate::operands::has_operands;
 use crate::pack::{PackView, cell_in};
-use crate::pack_stores::store_at;
-use cell_layer::{Kept, KnownItems};
+use crate::pack_stores::{Target, store_at};
 use cob_graph::Home;
 use dec_num::Mode;
 use diff_bounds::set_least_matrix;
@@ -46,44 +44,54 @@ fn decimal_in(worked: Option<Taken>) -> Option<AmountRange>
 
 // what the receiver's cell gets
 fn store_cell(
-    items: &KnownItems,
+    moment: &Moment,
     pack: &PackView,
     m: &mut [i128],
     place: u32,
     mode: Mode,
     amount: Amount,
-    kept: &Kept,
-    written: bool,
 )
     requires m { IsMatrix (length pack.now.cells.now) m.old }
-    requires unit { HasUnit (program_of items.now).layout pack.now }
-    requires fits { CellsFit (owns (program_of items.now)) (known_in items.now) }
-    requires own { is_small (bound_at (program_of items.now).layout place) ≡ true }
-    requires sum { is_small_amount (bound_at (program_of items.now).layout) (plain_amount amount) ≡ true }
-    requires top { IfSome kept.now.common HasSmallTop }
-    requires can { IfSome kept.now.common (CanWork (plain_amount amount) (range_at (program_of items.now) (known_in items.now) place)) }
-    ensures value { (wrote : List Bytes) → written ≡ are_written (program_of items.now).layout wrote (amount_items (plain_amount amount.entry))
-        → m.new ≡ cell_stored (length pack.now.cells.now) (receiver_of (form_at (program_of items.now).layout place)) mode
-        (10 ^ (pack.now.decimals - decimals_of (program_of items.now).layout (of_item place))) (decimal_in kept.now.result)
-        (forms.amount_form (program_of items.now) (plain_pack pack.now) (taken_at (known_in items.now) kept.now.common) wrote place (plain_amount amount.entry))
+    requires unit { HasUnit (program_of moment.now.items).layout pack.now }
+    requires own { is_small (bound_at (program_of moment.now.items).layout place) ≡ true }
+    requires sum { is_small_amount (bound_at (program_of moment.now.items).layout) (plain_amount amount) ≡ true }
+    requires top { IfSome moment.now.kept.common HasSmallTop }
+    requires can { IfSome moment.now.kept.common (CanWork (plain_amount amount) (range_at (program_of moment.now.items) (known_in moment.now.items) place)) }
+    ensures value { (wrote : List Bytes) → moment.now.written ≡ are_written (program_of moment.now.items).layout wrote (amount_items (plain_amount amount.entry))
+        → m.new ≡ cell_stored (length pack.now.cells.now) (receiver_of (form_at (program_of moment.now.items).layout place)) mode
+        (10 ^ (pack.now.decimals - decimals_of (program_of moment.now.items).layout (of_item place))) (decimal_in moment.now.kept.result)
+        (forms.amount_form (program_of moment.now.items) (plain_pack pack.now) (taken_at (known_in moment.now.items) moment.now.kept.common) wrote place (plain_amount amount.entry))
         (cell_of (plain_pack pack.now) (of_item place)) m.old }
     ensures matrix { IsMatrix (length pack.now.cells.now) m.new }
 {
     match cell_in(pack, Home::Item(place)) {
         None => {}
         Some(cell) => {
-            let form = amount_form(items, pack, place, amount, kept.common, written);
-            let receiver = receiver_at(&items.program.layout, place);
-            let unit = unit_of(&items.program.layout, pack.decimals, Home::Item(place));
+            let form = amount_form(
+                &moment.items,
+                pack,
+                place,
+                amount,
+                moment.kept.common,
+                moment.written,
+            );
+            let receiver = receiver_at(&moment.items.program.layout, place);
+            let unit = unit_of(
+                &moment.items.program.layout,
+                pack.decimals,
+                Home::Item(place),
+            );
+            let target = Target {
+                place: cell + 1,
+                unit,
+            };
             store_at(
                 pack.cells.len(),
                 m,
-                cell + 1,
+                target,
                 form,
-                receiver,
-                mode,
-                unit,
-                decimal_in(kept.result),
+                Slot { mode, receiver },
+                decimal_in(moment.kept.result),
             );
         }
     }
@@ -92,30 +100,32 @@ fn store_cell(
 // ---- packs
 
 fn store_fitting(
-    items: &KnownItems,
+    moment: &Moment,
     pack: &PackView,
     m: &mut [i128],
     place: u32,
     mode: Mode,
     amount: Amount,
-    kept: &Kept,
-    written: bool,
 )
     requires m { IsMatrix (length pack.now.cells.now) m.old }
-    requires unit { HasUnit (program_of items.now).layout pack.now }
-    requires fits { CellsFit (owns (program_of items.now)) (known_in items.now) }
-    requires own { is_small (bound_at (program_of items.now).layout place) ≡ true }
-    requires sum { is_small_amount (bound_at (program_of items.now).layout) (plain_amount amount) ≡ true }
-    requires top { IfSome kept.now.common HasSmallTop }
-    requires can { IfSome kept.now.common (CanWork (plain_amount amount) (range_at (program_of items.now) (known_in items.now) place)) }
-    ensures value { (wrote : List Bytes) → written ≡ are_written (program_of items.now).layout wrote (amount_items (plain_amount amount.entry))
-        → m.new ≡ fitting_stored (program_of items.now) (known_in items.now) kept.now.common (decimal_in kept.now.result) wrote
+    requires unit { HasUnit (program_of moment.now.items).layout pack.now }
+    requires own { is_small (bound_at (program_of moment.now.items).layout place) ≡ true }
+    requires sum { is_small_amount (bound_at (program_of moment.now.items).layout) (plain_amount amount) ≡ true }
+    requires top { IfSome moment.now.kept.common HasSmallTop }
+    requires can { IfSome moment.now.kept.common (CanWork (plain_amount amount) (range_at (program_of moment.now.items) (known_in moment.now.items) place)) }
+    ensures value { (wrote : List Bytes) → moment.now.written ≡ are_written (program_of moment.now.items).layout wrote (amount_items (plain_amount amount.entry))
+        → m.new ≡ fitting_stored (program_of moment.now.items) (known_in moment.now.items) moment.now.kept.common (decimal_in moment.now.kept.result) wrote
         (plain_pack pack.now) (length pack.now.cells.now) pack.now.decimals place mode (plain_amount amount.entry) m.old }
     ensures matrix { IsMatrix (length pack.now.cells.now) m.new }
 {
-    if has_operands(items, amount, written) {
-        store_cell(items, pack, m, place, mode, amount, kept, written);
-        forget(&items.program.layout, Gone::Others(place), pack.cells, m);
+    if has_operands(&moment.items, amount, moment.written) {
+        store_cell(moment, pack, m, place, mode, amount);
+        forget(
+            &moment.items.program.layout,
+            Gone::Others(place),
+            pack.cells,
+            m,
+        );
     } else {
         set_least_matrix(pack.cells.len(), m);
     }
@@ -123,30 +133,32 @@ fn store_fitting(
 
 /// Makes of a pack's matrix what a store makes of it, where operands are taken and what the store may do is kept.
 pub(crate) fn store(
-    items: &KnownItems,
+    moment: &Moment,
     pack: &PackView,
     m: &mut [i128],
     place: u32,
     mode: Mode,
     amount: Amount,
-    kept: &Kept,
-    written: bool,
 )
     requires m { IsMatrix (length pack.now.cells.now) m.old }
-    requires unit { HasUnit (program_of items.now).layout pack.now }
-    requires fits { CellsFit (owns (program_of items.now)) (known_in items.now) }
-    requires own { is_small (bound_at (program_of items.now).layout place) ≡ true }
-    requires sum { is_small_amount (bound_at (program_of items.now).layout) (plain_amount amount) ≡ true }
-    requires top { IfSome kept.now.common HasSmallTop }
-    requires can { IfSome kept.now.common (CanWork (plain_amount amount) (range_at (program_of items.now) (known_in items.now) place)) }
-    ensures value { (wrote : List Bytes) → written ≡ are_written (program_of items.now).layout wrote (amount_items (plain_amount amount.entry))
-        → m.new ≡ store_changed (program_of items.now) (known_in items.now) kept.now.common (latest_of kept.now) wrote
+    requires unit { HasUnit (program_of moment.now.items).layout pack.now }
+    requires own { is_small (bound_at (program_of moment.now.items).layout place) ≡ true }
+    requires sum { is_small_amount (bound_at (program_of moment.now.items).layout) (plain_amount amount) ≡ true }
+    requires top { IfSome moment.now.kept.common HasSmallTop }
+    requires can { IfSome moment.now.kept.common (CanWork (plain_amount amount) (range_at (program_of moment.now.items) (known_in moment.now.items) place)) }
+    ensures value { (wrote : List Bytes) → moment.now.written ≡ are_written (program_of moment.now.items).layout wrote (amount_items (plain_amount amount.entry))
+        → m.new ≡ store_changed (program_of moment.now.items) (known_in moment.now.items) moment.now.kept.common (latest_of moment.now.kept) wrote
         (plain_pack pack.now) (length pack.now.cells.now) pack.now.decimals place mode (plain_amount amount.entry) m.old }
     ensures matrix { IsMatrix (length pack.now.cells.now) m.new }
 {
-    if !kept.may_fail {
-        store_fitting(items, pack, m, place, mode, amount, kept, written);
-    } else if kept.may_fit {
-        forget(&items.program.layout, Gone::Lost(place), pack.cells, m);
+    if !moment.kept.may_fail {
+        store_fitting(moment, pack, m, place, mode, amount);
+    } else if moment.kept.may_fit {
+        forget(
+            &moment.items.program.layout,
+            Gone::Lost(place),
+            pack.cells,
+            m,
+        );
     }
 }

@@ -8,6 +8,6 @@ use Rattle.diff_layer.proofs.changing.change.Goals as goal
 pub returns-in-CountDown-clause-value : goal.returns-in-CountDown-clause-value
 returns-in-CountDown-clause-value c wrote written =
     let x = c.args in
-    c.count_down.ensures.value x.kept.now.common wrote
-    ∙ sym (ap (λ y. part_changed (program_of x.items.now) (known_in x.items.now) x.kept.now.common (latest_of x.kept.now) wrote (plain_pack x.pack.now)
+    c.count_down.ensures.value x.moment.now.kept.common wrote
+    ∙ sym (ap (λ y. part_changed (program_of x.moment.now.items) (known_in x.moment.now.items) x.moment.now.kept.common (latest_of x.moment.now.kept) wrote (plain_pack x.pack.now)
     (length x.pack.now.cells.now) x.pack.now.decimals (plain_part y) x.m.now) c.in-CountDown.is)

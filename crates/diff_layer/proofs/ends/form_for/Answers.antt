@@ -7,5 +7,5 @@ use Rattle.diff_layer.proofs.ends.form_for.Goals as goal
 pub returns-in-CountDown-clause-value : goal.returns-in-CountDown-clause-value
 returns-in-CountDown-clause-value c wrote written =
     let x = c.args in
-    c.lowered_form.ensures.value x.kept.now.common wrote
-    ∙ sym (ap (λ y. part_form (program_of x.items.now) (known_in x.items.now) x.kept.now.common wrote (plain_part y) (plain_pack x.pack.now)) c.in-CountDown.is)
+    c.lowered_form.ensures.value x.moment.now.kept.common wrote
+    ∙ sym (ap (λ y. part_form (program_of x.moment.now.items) (known_in x.moment.now.items) x.moment.now.kept.common wrote (plain_part y) (plain_pack x.pack.now)) c.in-CountDown.is)

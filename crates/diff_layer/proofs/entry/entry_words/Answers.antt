@@ -1,7 +1,7 @@
-use Rattle.std.proofs.Common.{◌∙◌, arith}
+use Rattle.std.proofs.Common.{◌∙◌, arith, rules}
 use Rattle.cob_program.specs.ActView.{plain_program}
 use Rattle.diff_layer.specs.Plans.{plain_plans}
-use Rattle.diff_layer.proofs.Beginning.{plans_are_few}
+use Rattle.diff_layer.proofs.Beginning.{plans_are_few, is_row_of}
 use Rattle.diff_layer.proofs.Sizes.{small_in}
 use Rattle.diff_layer.proofs.Steps.{written_back}
 use Rattle.diff_layer.proofs.entry.entry_words.Goals as goal
@@ -10,6 +10,11 @@ pub width_of-requires-clause-small : goal.width_of-requires-clause-small
 width_of-requires-clause-small c =
     let a = c.args in
     small_in a.sizes.now (plain_plans a.plans.now) c.requires.sizes (plans_are_few (plain_program a.program.now) a.plans.now c.requires.plans)
+
+pub invariant_of-items : goal.invariant_of-items
+invariant_of-items c =
+    let a = c.args in
+    record { row_of = is_row_of (plain_program a.program.now) c.as_slice.result.now (search rules) c.requires.fits a.cells.now c.requires.cells }
 
 pub returns : goal.returns
 returns c =

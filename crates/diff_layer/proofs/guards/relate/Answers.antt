@@ -9,6 +9,6 @@ pub returns-clause-value : goal.returns-clause-value
 returns-clause-value c =
     let x = c.args in
     c.relate.ensures.value
-    ∙ related_is (item_cell x.pack.now) (range_at (program_of x.items.now) (known_in x.items.now)) (length x.pack.now.cells.now) (plain_sum x.left.now) x.rel
-    (plain_sum x.right.now) x.wanted x.m.now _ _ c.are_fine-fine.result c.difference_form-form.result c.requires.unit c.are_fine-fine.ensures
+    ∙ related_is (item_cell x.pack.now) (range_at (program_of x.items.now) (known_in x.items.now)) (length x.pack.now.cells.now) (plain_sum x.left.now) x.outcome.rel
+    (plain_sum x.right.now) x.outcome.holds x.m.now _ _ c.are_fine-fine.result c.difference_form-form.result c.requires.unit c.are_fine-fine.ensures
     c.difference_form-form.ensures.value

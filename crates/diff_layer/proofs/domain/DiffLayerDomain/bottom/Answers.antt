@@ -12,7 +12,7 @@ set_least-requires-clause-small g c =
     let s = c.args.self.now in
     let packs = packs_of (plain_program s.program.now) s.packs.now in
     let same : c.as_slice.result.now ≡ sizes_of packs = c.as_slice.ensures.value ∙ s.sized in
-    let its = its_packs (plain_program s.program.now) s.graph.now s.statements.items s.held s.packs.now s.cells s.thresholds.now s.listed in
+    let its = its_packs (plain_program s.program.now) s.graph.now s.works s.held s.packs.now s.cells s.thresholds.now s.listed in
     small_in c.as_slice.result.now packs same its.few
 
 pub set_least-requires-clause-width : goal.set_least-requires-clause-width

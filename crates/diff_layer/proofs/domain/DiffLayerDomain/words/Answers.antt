@@ -15,7 +15,7 @@ width_of-requires-clause-small g c =
     let s = c.args.self.now in
     let packs = packs_of (plain_program s.program.now) s.packs.now in
     let same : c.as_slice.result.now ≡ sizes_of packs = c.as_slice.ensures.value ∙ s.sized in
-    let its = its_packs (plain_program s.program.now) s.graph.now s.statements.items s.held s.packs.now s.cells s.thresholds.now s.listed in
+    let its = its_packs (plain_program s.program.now) s.graph.now s.works s.held s.packs.now s.cells s.thresholds.now s.listed in
     small_in c.as_slice.result.now packs same its.few
 
 pub returns : goal.returns
@@ -23,6 +23,6 @@ returns g c =
     let s = c.args.self.now in
     let packs = packs_of (plain_program s.program.now) s.packs.now in
     let same : c.as_slice.result.now ≡ sizes_of packs = c.as_slice.ensures.value ∙ s.sized in
-    let its = its_packs (plain_program s.program.now) s.graph.now s.statements.items s.held s.packs.now s.cells s.thresholds.now s.listed in
+    let its = its_packs (plain_program s.program.now) s.graph.now s.works s.held s.packs.now s.cells s.thresholds.now s.listed in
     c.width_of.ensures.value ∙ ap width_of same
     ∙ sym (width_is (sizes_of packs) (lists_of s.thresholds.now) (its.listed ∙ sym (length-map packs size_of)))

@@ -1,4 +1,4 @@
-use Rattle.std.proofs.Common.{◌≡◌, ◌≤◌, ◌∙◌, length, sym, ap, subst}
+use Rattle.std.proofs.Common.{◌≤◌, ◌∙◌, length, sym, ap, subst}
 use Rattle.std.specs.List.{All}
 use Rattle.cob_program.specs.ActView.{plain_program}
 use Rattle.cob_program.specs.Statements.{plain_references}
@@ -12,7 +12,7 @@ use Rattle.diff_steps.specs.Edges.{entry_packs}
 use Rattle.diff_bounds.specs.PackRows.{row_of}
 use Rattle.diff_layer.specs.Plans.{plain_plans, ArePlansOf}
 use Rattle.pack_laws.specs.Layer.{sizes_of}
-use Rattle.pack_laws.specs.Packs.{packs_of, ArePacksOfCells}
+use Rattle.pack_laws.specs.Packs.{ArePacksOfCells}
 use Rattle.diff_layer.specs.LayerLaws.{cells_for_homes}
 use Rattle.diff_layer.proofs.Layers.{are_plans}
 use Rattle.diff_layer.proofs.Rows.{same_sizes}
@@ -24,9 +24,9 @@ plans_of-requires-clause-packs g c =
     let p = plain_program c.args.program.now in
     let graph = c.args.graph.now in
     let source = c.requires.source in
-    let ss = c.in_ok-statements.statements.items in
-    let held = held_by p graph source ss c.in_ok-statements.ensures (c.has_few_parts.ensures.0 c.if-not-has_few_parts.false) in
-    subst (λ n. ArePacksOfCells n c.args.packs.now) (cells_for_homes p graph ss held) c.requires.packs
+    let works = c.in_ok-works.works in
+    let held = held_by p graph source works (ap plain_program c.in_ok-works.ensures.program) c.in_ok-works.ensures.graph in
+    subst (λ n. ArePacksOfCells n c.args.packs.now) (cells_for_homes p graph works held) c.requires.packs
 
 pub heads_of-requires-clause-first : goal.heads_of-requires-clause-first
 heads_of-requires-clause-first g c =
@@ -69,11 +69,11 @@ entry_words-requires-clause-plans g c =
     let p = plain_program c.args.program.now in
     let graph = c.args.graph.now in
     let source = c.requires.source in
-    let ss = c.in_ok-statements.statements.items in
-    let held = held_by p graph source ss c.in_ok-statements.ensures (c.has_few_parts.ensures.0 c.if-not-has_few_parts.false) in
+    let works = c.in_ok-works.works in
+    let held = held_by p graph source works (ap plain_program c.in_ok-works.ensures.program) c.in_ok-works.ensures.graph in
     let plans = c.in_ok-plans.plans.items in
-    subst (ArePlansOf p) (sym c.as_slice-3.ensures.value)
-    (are_plans p graph ss held c.args.packs.now ∣ c.requires.packs ∣₁ c.args.thresholds.now c.requires.listed plans c.in_ok-plans.ensures.packs
+    subst (ArePlansOf p) (sym c.as_slice-2.ensures.value)
+    (are_plans p graph works held c.args.packs.now ∣ c.requires.packs ∣₁ c.args.thresholds.now c.requires.listed plans c.in_ok-plans.ensures.packs
     ∣ c.in_ok-plans.ensures.units ∣₁)
 
 pub entry_words-requires-clause-sizes : goal.entry_words-requires-clause-sizes
@@ -82,16 +82,16 @@ entry_words-requires-clause-sizes g c =
     let graph = c.args.graph.now in
     let source = c.requires.source in
     let plans = c.in_ok-plans.plans.items in
-    c.as_slice-4.ensures.value ∙ c.in_ok-sizes.ensures ∙ same_sizes (homes_of p) c.args.packs.now
-    ∙ ap sizes_of (sym (ap plain_plans c.as_slice-3.ensures.value ∙ c.in_ok-plans.ensures.packs))
+    c.as_slice-3.ensures.value ∙ c.in_ok-sizes.ensures ∙ same_sizes (homes_of p) c.args.packs.now
+    ∙ ap sizes_of (sym (ap plain_plans c.as_slice-2.ensures.value ∙ c.in_ok-plans.ensures.packs))
 
 pub invariant_of-result : goal.invariant_of-result
 invariant_of-result g c =
     let p = plain_program c.args.program.now in
     let graph = c.args.graph.now in
     let source = c.requires.source in
-    let ss = c.in_ok-statements.statements.items in
-    let held = held_by p graph source ss c.in_ok-statements.ensures (c.has_few_parts.ensures.0 c.if-not-has_few_parts.false) in
+    let works = c.in_ok-works.works in
+    let held = held_by p graph source works (ap plain_program c.in_ok-works.ensures.program) c.in_ok-works.ensures.graph in
     record {
       held = held;
       cells = ∣ c.requires.packs ∣₁;
@@ -105,18 +105,15 @@ invariant_of-result g c =
       sized = c.in_ok-sizes.ensures ∙ same_sizes (homes_of p) c.args.packs.now;
       marked = c.in_ok-heads.ensures ∙ ap (λ nodes. heads_of (length nodes) c.get-2.result.now) c.get.ensures ∙ ap (heads_of (length graph.nodes)) c.get-2.ensures;
       begun = c.in_ok-entry.ensures
-          ∙ ap (λ packs. row_of (entry_packs p packs (entry_cells p))) (ap plain_plans c.as_slice-3.ensures.value ∙ c.in_ok-plans.ensures.packs);
+          ∙ ap (λ packs. row_of (entry_packs p packs (entry_cells p))) (ap plain_plans c.as_slice-2.ensures.value ∙ c.in_ok-plans.ensures.packs);
       few = c.requires.few;
       words = c.requires.cells;
       nodes = c.requires.nodes;
       edges = few_edges p graph source c.requires.nodes;
     }
 
-pub has_few_parts-requires-clause-listed : goal.has_few_parts-requires-clause-listed
-has_few_parts-requires-clause-listed g c = ap plain_references c.as_slice.ensures.value ∙ c.in_ok-statements.ensures
-
 pub plans_of-requires-clause-statements : goal.plans_of-requires-clause-statements
-plans_of-requires-clause-statements g c = ap plain_references c.as_slice-2.ensures.value ∙ c.in_ok-statements.ensures
+plans_of-requires-clause-statements g c = ap plain_references c.as_slice.ensures.value ∙ c.in_ok-statements.ensures
 
 pub entry_words-requires-clause-few : goal.entry_words-requires-clause-few
 entry_words-requires-clause-few g c = subst (λ cells. length cells ≤ most_cells) (sym c.get-3.ensures) c.requires.cells
@@ -124,9 +121,9 @@ entry_words-requires-clause-few g c = subst (λ cells. length cells ≤ most_cel
 pub entry_words-requires-clause-packs : goal.entry_words-requires-clause-packs
 entry_words-requires-clause-packs g c =
     let same = as_many (homes_of (plain_program c.args.program.now)) c.args.packs.now c.in_ok-plans.plans.items c.in_ok-plans.ensures.packs in
-    subst (λ n. n ≤ 32) (sym (ap length c.as_slice-3.ensures.value ∙ same)) c.requires.few
+    subst (λ n. n ≤ 32) (sym (ap length c.as_slice-2.ensures.value ∙ same)) c.requires.few
 
 pub entry_words-requires-clause-listed : goal.entry_words-requires-clause-listed
 entry_words-requires-clause-listed g c =
     let same = as_many (homes_of (plain_program c.args.program.now)) c.args.packs.now c.in_ok-plans.plans.items c.in_ok-plans.ensures.packs in
-    c.requires.listed ∙ sym (ap length c.as_slice-3.ensures.value ∙ same)
+    c.requires.listed ∙ sym (ap length c.as_slice-2.ensures.value ∙ same)
