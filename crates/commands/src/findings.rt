@@ -44,7 +44,8 @@ fn texts_of(alloc: Global, laid: &Laid, found: &Found) -> Result<Findings, Stop>
         (IsFinding [] (analysis (plain_program laid.now.program) laid.now.graph (view found.now.cert)))
         (λ stop. stop ≡ Stop.Memory) }
 {
-    let report = Answer::Report(alarms_of(alloc, &laid.program, &found.pairs)?);
+    let alarms = alarms_of(alloc, &laid.program, &found.pairs)?;
+    let report = Answer::Report(alarms);
     let certificate = print(alloc, &found.cert)?;
     let text = answer_text(alloc, &report)?;
     Ok(Findings {

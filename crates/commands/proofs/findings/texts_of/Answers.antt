@@ -11,8 +11,8 @@ pub returns : goal.returns
 returns c =
     let p = plain_program c.args.laid.now.program in
     let a = analysis p c.args.laid.now.graph (view c.args.found.now.cert) in
-    let same : Report c.in_ok-alarms_of.alarms.items ≡ report_of a =
-    ap Report (c.in_ok-alarms_of.ensures ∙ ap (alarms_of p) (c.deref.ensures.value ∙ c.requires.pairs)) in
+    let same : Report c.in_ok-alarms.alarms.items ≡ report_of a =
+    ap Report (c.in_ok-alarms.ensures ∙ ap (alarms_of p) (c.deref.ensures.value ∙ c.requires.pairs)) in
     record {
       found = c.requires.found;
       certificate = c.in_ok-certificate.ensures;
