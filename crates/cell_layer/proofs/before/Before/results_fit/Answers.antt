@@ -9,12 +9,12 @@ use Rattle.transfer_ranges.specs.declared.amounts.Receiver.{Receiver}
 use Rattle.transfer_ranges.specs.Receivers.{receiver_of}
 use Rattle.transfer_ranges.specs.ResultRanges.{may_fail}
 use Rattle.cell_steps.specs.Operands.{amount_of}
-use Rattle.cell_layer.proofs.part_clearing.results_fit.Goals as goal
+use Rattle.cell_layer.proofs.before.Before.results_fit.Goals as goal
 
 pub returns : goal.returns
 returns c =
     let x = c.args in
     let fits : Receiver → Ranged → Bool = λ r own. option_map_or (λ t. option_map_or (λ m. not (may_fail x.mode r m)) (amount_of (plain_amount x.amount) own t) true) x.common true in
     c.operands_fit.ensures
-    ∙ (ap (λ (r : Receiver). fits r c.item_range-own.result) c.receiver_at.ensures
-    ∙ ap (λ (own : Ranged). fits (receiver_of (form_at (plain_program x.program.now).layout x.place)) own) c.item_range-own.ensures)
+    ∙ (ap (λ (r : Receiver). fits r c.item_range-own.result) c.receiver_at-receiver.ensures
+    ∙ ap (λ (own : Ranged). fits (receiver_of (form_at (plain_program x.self.now.program.now).layout x.place)) own) c.item_range-own.ensures)
