@@ -44,7 +44,6 @@ use Rattle.cell_laws.proofs.ResultsFit.{result_fits, count_fits}
 use Rattle.cell_laws.proofs.PartsRise.{FitBelow, FitBelowIf, stored_known_fits, read_cells_below, guarded_below, counted_below}
 use Rattle.cell_laws.proofs.ResultLawsHold.{rising}
 use Rattle.cell_laws.specs.Sizes.{sends_small, IsSmallStore, IsSmallPart}
-use Rattle.cell_layer.specs.Kept.{step_at}
 use Rattle.cell_layer.specs.NumberedStatements.{act_in}
 use Rattle.cell_layer.specs.Walks.{if_sent_small, trimmed, with_taken_small, step_small, CanStep}
 use Rattle.cell_layer.proofs.RangeBounds.{ranges_are_bounded}
@@ -222,20 +221,3 @@ module _ (p : Program) (a : Act) (x : Action) where
       let down = lowered (units_of p.layout (homes_of p) s.cells (of_count n)) in
       known_can (of_count n) s (count_range down) can (count_fits rising down)
   goes_on (guard_count n wanted) s can = with_others s (counted_cells p n wanted s.cells) can (counted_below p rising n wanted s.cells s.cells (itself p s.cells can.fits))
-
-module _ (p : Program) (y : Stmt) (x : Action) where
-  among : (ys : Option Part) (s : Seen) → CanStep p (act_in y) x s → IfSome (ys >>= λ part. step_small p (act_in y) x part s) (CanStep p (act_in y) x)
-  among None s can = tt
-  among (Some part) s can = goes_on p (act_in y) x part s can
-
-  -- behind a part that is passed
-  pub walks_on : (k : ℕ) (s t : Seen) → CanStep p (act_in y) x s → step_at p y x k s ≡ Some t → CanStep p (act_in y) x t
-  walks_on k s t can e =
-      subst (λ (o : Option Seen). IfSome o (CanStep p (act_in y) x)) e (among (slice_get (edge_parts p y x) k) s can)
-
--- behind a part of a work that is passed
-pub walked_part : (p : Program) (x : Action) (s : declared_stmt.Stmt) (y : Part) (u t : Seen) → CanStep p (act_in (plain_stmt s)) x u →
-    step_small p (plain_act (out-Stmt s).act) x y u ≡ Some t → CanStep p (act_in (plain_stmt s)) x t
-walked_part p x s y u t can e =
-    subst (λ (o : Option Seen). IfSome o (CanStep p (act_in (plain_stmt s)) x)) (ap (λ a. step_small p a x y u) (act_same s) ∙ e)
-    (goes_on p (act_in (plain_stmt s)) x y u can)
