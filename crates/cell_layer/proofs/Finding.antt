@@ -1,7 +1,6 @@
 -- The statement that an edge leaves, found by its number.
 use Rattle.std.proofs.Common.{◌≡◌, ◌≤◌, ◌<◌, inl, inr, true, ℕ, zero, suc, ◌+◌, ◌-◌, ◌^◌, take, List, [], ◌∷◌, length, Option, Some, None, refl, sym, ap, subst, ◌∙◌, arith}
 use Rattle.std.specs.Prelude.{slice_index_or}
-use Rattle.std.specs.Borrow.{Bor}
 use Rattle.std.specs.List.{All, AllByRecursion}
 use Rattle.std.specs.Option.{option_map_or}
 use Rattle.std.proofs.Props.{props}
@@ -10,10 +9,8 @@ use Rattle.std.proofs.lemmas.List.{take_all}
 use Rattle.std.proofs.lemmas.List.Elements.{All-head, All-tail, All-more}
 use Rattle.std.proofs.lemmas.Option.{same_Some, none-some}
 use Rattle.cob_tree.specs.declared.fault.Kind.{Kind}
-use Rattle.cob_program.specs.declared.act.Stmt as declared_stmt
-use Rattle.cob_program.specs.ActView.{plain_stmt}
 use Rattle.cob_program.specs.Act.{Stmt, MkStmt, Act, Program}
-use Rattle.cob_program.specs.Statements.{program_statements, plain_references}
+use Rattle.cob_program.specs.Statements.{program_statements}
 use Rattle.cob_runs.specs.Effects.{act_at}
 use Rattle.cob_graph.specs.declared.graph.Edge.{Edge}
 use Rattle.cob_graph.specs.declared.graph.Graph.{Graph}
@@ -28,50 +25,40 @@ use Rattle.cell_laws.specs.Layer.{left, edge_cells, edge_clears}
 use Rattle.cell_laws.specs.Sizes.{IsSmallPart}
 use Rattle.cell_laws.proofs.Small.{edges_are_small_of_sources}
 use Rattle.cell_layer.specs.NumberedStatements.{number_in, act_in}
-use Rattle.cell_layer.specs.Statements.{IsNumbered}
+use Rattle.edge_amounts.specs.declared.statement_tests.StatementTests.{StatementTests}
+use Rattle.cell_layer.specs.Statements.{stated, stated_in}
 use Rattle.cell_layer.specs.Edges.{statement_post, statement_clears}
 use Rattle.cell_layer.specs.Works.{IsLeft}
 
 -- ---- in lists
 
-pub found_at : (P : Stmt → Type 0) (ss : List (Bor declared_stmt.Stmt)) (k : ℕ) (s : Bor declared_stmt.Stmt) → AllByRecursion P (plain_references ss) →
-    k < length ss → slice_index_or ss k s ≡ s → P (plain_stmt s.now)
+pub found_at : (P : Stmt → Type 0) (ss : List StatementTests) (k : ℕ) (s : StatementTests) → AllByRecursion P (stated_in ss) →
+    k < length ss → slice_index_or ss k s ≡ s → P (stated s)
 found_at P [] k s all within is = absurd (omega (arith, within))
-found_at P (t ∷ ss) zero s all within is = subst (λ (u : Bor declared_stmt.Stmt). P (plain_stmt u.now)) is all.0
+found_at P (t ∷ ss) zero s all within is = subst (λ (u : StatementTests). P (stated u)) is all.0
 found_at P (t ∷ ss) (suc k) s all within is = found_at P ss k s all.1 (omega (arith, within)) is
 
 -- what is listed has the number of one of them
-not_listed : (n : ℕ) (a : Act) (ss : List (Bor declared_stmt.Stmt)) → All (λ s. ¬ number_in (plain_stmt s.now) ≡ n) ss →
-    IsIn n a (plain_references ss) → ⊥
+not_listed : (n : ℕ) (a : Act) (ss : List StatementTests) → All (λ s. ¬ number_in (stated s) ≡ n) ss →
+    IsIn n a (stated_in ss) → ⊥
 not_listed n a [] none is = is
 not_listed n a (s ∷ ss) none is =
-    by_stmt (plain_stmt s.now) (All-head (λ t. ¬ number_in (plain_stmt t.now) ≡ n) s ss none) is
-    (λ k. not_listed n a ss (All-tail (λ t. ¬ number_in (plain_stmt t.now) ≡ n) s ss none) k)
+    by_stmt (stated s) (All-head (λ t. ¬ number_in (stated t) ≡ n) s ss none) is
+    (λ k. not_listed n a ss (All-tail (λ t. ¬ number_in (stated t) ≡ n) s ss none) k)
   where
-    by_stmt : (y : Stmt) → ¬ number_in y ≡ n → IsIn n a (y ∷ plain_references ss) → (IsIn n a (plain_references ss) → ⊥) → ⊥
+    by_stmt : (y : Stmt) → ¬ number_in y ≡ n → IsIn n a (y ∷ stated_in ss) → (IsIn n a (stated_in ss) → ⊥) → ⊥
     by_stmt (MkStmt m line b) other (inl here) rest = other (sym here.0)
     by_stmt (MkStmt m line b) other (inr later) rest = rest later
 
-module _ (p : Program) (g : Graph) (x : Edge) (ss : List (Bor declared_stmt.Stmt)) (whole : IsWellFormed p)
-    (listed : plain_references ss ≡ program_statements p) where
-  act_found : (y : Stmt) → IsFound p y → number_in y ≡ left g x → act_at p (left g x) ≡ Some (act_in y)
-  act_found (MkStmt n line a) found is = ap (act_at p) (sym is) ∙ found
-
-  none_found : (o : Option Act) → act_at p (left g x) ≡ o → All (λ s. ¬ number_in (plain_stmt s.now) ≡ left g x) ss → o ≡ None
+module _ (p : Program) (g : Graph) (x : Edge) (ss : List StatementTests) (whole : IsWellFormed p)
+    (listed : stated_in ss ≡ program_statements p) where
+  none_found : (o : Option Act) → act_at p (left g x) ≡ o → All (λ s. ¬ number_in (stated s) ≡ left g x) ss → o ≡ None
   none_found None e none = refl
   none_found (Some a) e none =
       absurd (not_listed (left g x) a ss none (subst (IsIn (left g x) a) (sym listed) (found_is_listed p (left g x) a e)))
 
-  pub is_left_none : All (λ s. ¬ number_in (plain_stmt s.now) ≡ left g x) ss → IsLeft p g x None
+  pub is_left_none : All (λ s. ¬ number_in (stated s) ≡ left g x) ss → IsLeft p g x None
   is_left_none none = record { act = none_found (act_at p (left g x)) refl none; number = tt }
-
-  pub is_left_some : (s : Bor declared_stmt.Stmt) → IsNumbered ss (left g x) s → IsLeft p g x (Some (plain_stmt s.now))
-  is_left_some s (contained, is) =
-      let all = subst (AllByRecursion (IsFound p)) (sym listed) (listed_is_found p whole) in
-      record {
-        act = act_found (plain_stmt s.now) (found_at (IsFound p) ss contained.0 s all contained.1 contained.2) is;
-        number = is;
-      }
 
 -- ---- what edges are by it
 

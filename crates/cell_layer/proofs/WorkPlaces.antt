@@ -10,14 +10,13 @@ use Rattle.std.proofs.lemmas.List.{get_or_append_left, length-append}
 use Rattle.std.proofs.lemmas.List.Elements.{All-get_or, All-push}
 use Rattle.std.proofs.lemmas.Option.{slice_get_past, slice_get_read, slice_get_within, get_or_from_slice_get}
 use Rattle.std.proofs.Math.Seq.{get_or-append_seam}
-use Rattle.cob_program.specs.declared.act.Stmt as declared_stmt
-use Rattle.cob_program.specs.ActView.{plain_stmt}
 use Rattle.cob_program.specs.Act.{Stmt, MkStmt, Program}
-use Rattle.cob_program.specs.Statements.{program_statements, plain_references}
+use Rattle.cob_program.specs.Statements.{program_statements}
 use Rattle.cob_program.specs.Values.{◌>>=◌}
 use Rattle.cob_runs.specs.Effects.{act_at}
 use Rattle.cob_graph.specs.declared.graph.Edge.{Edge}
 use Rattle.cob_graph.specs.declared.graph.Graph.{Graph}
+use Rattle.edge_amounts.specs.declared.statement_tests.StatementTests.{StatementTests}
 use Rattle.edge_amounts.specs.declared.work.EdgeWork.{EdgeWork}
 use Rattle.graph_runs.specs.Places.{no_edge}
 use Rattle.graph_runs.specs.Sources.{IsSourceGraph}
@@ -25,6 +24,7 @@ use Rattle.data_laws.specs.Statements.{IsFound}
 use Rattle.data_laws.proofs.Listed.{listed_is_found}
 use Rattle.cell_laws.specs.Layer.{left}
 use Rattle.cell_layer.specs.NumberedStatements.{number_in, act_in}
+use Rattle.cell_layer.specs.Statements.{stated, stated_in}
 use Rattle.cell_layer.specs.Works.{program_of, statement_of, act_of, IsWorkOf, StandsAt, IsPlaceOf, AreFirstPlaces, ArePlaces, IsOfProgram, HasMore}
 use Rattle.cell_layer.proofs.Finding.{found_at, is_left_none}
 
@@ -33,28 +33,27 @@ use Rattle.cell_layer.proofs.Finding.{found_at, is_left_none}
 found_by : (p : Program) (y : Stmt) → IsFound p y → act_at p (number_in y) ≡ Some (act_in y)
 found_by p (MkStmt n line a) found = found
 
-pub found_if : (p : Program) (works : List EdgeWork) (w : EdgeWork) (b : Bool) → ∥ All (IsOfProgram p) works ∥₁ →
-    ∥ All (IsOfProgram p) (works ++ w ∷ []) ∥₁ → ∥ All (IsOfProgram p) (if b then works ++ w ∷ [] else works) ∥₁
-found_if p works w true before behind = behind
-found_if p works w false before behind = before
+one_more_found : (p : Program) (works : List EdgeWork) (w : EdgeWork) → ∥ All (IsOfProgram p) works ∥₁ → ∥ IsOfProgram p w ∥₁ →
+    ∥ All (IsOfProgram p) (works ++ w ∷ []) ∥₁
+one_more_found p works w all here = ∥∥₁_elim all ∥∥₁_prop (λ each. ∥∥₁_elim here ∥∥₁_prop (λ of. ∣ All-push (IsOfProgram p) works w each of ∣₁))
 
-module _ (p : Program) (g : Graph) (source : ∥ IsSourceGraph p g ∥₁) (ss : List (Bor declared_stmt.Stmt))
-    (listed : ∥ plain_references ss ≡ program_statements p ∥₁) where
-  pub one_more_found : (works : List EdgeWork) (w : EdgeWork) (s : Bor declared_stmt.Stmt) → Contains ss s → program_of w ≡ p →
-      statement_of w ≡ plain_stmt s.now → ∥ All (IsOfProgram p) works ∥₁ → ∥ All (IsOfProgram p) (works ++ w ∷ []) ∥₁
-  one_more_found works w s contained same is all =
-      ∥∥₁_elim source ∥∥₁_prop (λ h. ∥∥₁_elim listed ∥∥₁_prop (λ l. ∥∥₁_elim all ∥∥₁_prop (λ each.
+pub found_if : (p : Program) (works : List EdgeWork) (w : EdgeWork) (b : Bool) → ∥ All (IsOfProgram p) works ∥₁ → ∥ IsOfProgram p w ∥₁ →
+    ∥ All (IsOfProgram p) (if b then works ++ w ∷ [] else works) ∥₁
+found_if p works w true all here = one_more_found p works w all here
+found_if p works w false all here = all
+
+module _ (p : Program) (g : Graph) (source : ∥ IsSourceGraph p g ∥₁) (ss : List StatementTests)
+    (listed : ∥ stated_in ss ≡ program_statements p ∥₁) where
+  pub of_program : (w : EdgeWork) (s : StatementTests) → Contains ss s → program_of w ≡ p → statement_of w ≡ stated s → ∥ IsOfProgram p w ∥₁
+  of_program w s contained same is =
+      ∥∥₁_elim source ∥∥₁_prop (λ h. ∥∥₁_elim listed ∥∥₁_prop (λ l.
       let found =
       found_at (IsFound p) ss contained.0 s (subst (AllByRecursion (IsFound p)) (sym l) (listed_is_found p h.whole)) contained.1 contained.2 in
-      ∣ All-push (IsOfProgram p) works w each
-      (record {
-        program = same;
-        found = subst (λ y. act_at p (number_in y) ≡ Some (act_in y)) (sym is) (found_by p (plain_stmt s.now) found);
-      }) ∣₁)))
+      ∣ record { program = same; found = subst (λ y. act_at p (number_in y) ≡ Some (act_in y)) (sym is) (found_by p (stated s) found) } ∣₁))
 
   -- ---- places of an edge
 
-  pub no_place : (works : List EdgeWork) (x : Edge) → All (λ s. ¬ number_in (plain_stmt s.now) ≡ left g x) ss → ∥ IsPlaceOf p g works x None ∥₁
+  pub no_place : (works : List EdgeWork) (x : Edge) → All (λ s. ¬ number_in (stated s) ≡ left g x) ss → ∥ IsPlaceOf p g works x None ∥₁
   no_place works x none =
       ∥∥₁_elim source ∥∥₁_prop (λ h. ∥∥₁_elim listed ∥∥₁_prop (λ l.
       ∣ record { within = tt; work = record { left = is_left_none p g x ss h.whole l none; program = tt; action = tt } } ∣₁))

@@ -1,10 +1,17 @@
 -- Statements by their numbers.
-use Rattle.std.specs.Prelude.{◌≡◌, ℕ, List, Contains}
-use Rattle.std.specs.Borrow.{Bor}
-use Rattle.cob_program.specs.declared.act.Stmt as declared_stmt
+use Rattle.std.specs.Prelude.{◌≡◌, ℕ, List, map, Contains}
 use Rattle.cob_program.specs.ActView.{plain_stmt}
+use Rattle.cob_program.specs.Act.{Stmt}
+use Rattle.edge_amounts.specs.declared.statement_tests.StatementTests.{StatementTests}
 use Rattle.cell_layer.specs.NumberedStatements.{number_in}
 
+-- a statement whose simple conditions are listed
+abbrev pub stated : StatementTests → Stmt
+stated s = plain_stmt s.statement.now
+
+abbrev pub stated_in : List StatementTests → List Stmt
+stated_in ss = map stated ss
+
 -- one of the statements, with the number
-abbrev pub IsNumbered : List (Bor declared_stmt.Stmt) → ℕ → Bor declared_stmt.Stmt → Type 0
-IsNumbered statements number s = Contains statements s × (number_in (plain_stmt s.now) ≡ number)
+abbrev pub IsNumbered : List StatementTests → ℕ → StatementTests → Type 0
+IsNumbered statements number s = Contains statements s × (number_in (stated s) ≡ number)

@@ -5,7 +5,7 @@ ghost use Rattle.cob_program.specs.Bounds.{is_small_atom};
 ghost use Rattle.cob_calc.specs.Contents.{bound_at};
 ghost use Rattle.cob_edge_parts.specs.Parts.{has_phrase};
 ghost use Rattle.sum_ranges.specs.SumRanges.{atom_range};
-ghost use Rattle.sum_ranges.specs.Vanishing.{holds_zero};
+ghost use Rattle.sum_ranges.specs.Vanishing.{holds_zero, may_be_zero};
 ghost use Rattle.edge_amounts.specs.PartView.{plain_divisor};
 ghost use Rattle.interval_domain.specs.Elements.{CellsFit};
 ghost use Rattle.interval_domain.specs.Rows.{cells_of};
@@ -13,12 +13,12 @@ ghost use Rattle.cell_steps.specs.OwnRanges.{owns};
 ghost use Rattle.cell_steps.specs.Steps.{can_divide, after_divide};
 ghost use Rattle.cell_steps.specs.Stores.{range_at};
 ghost use Rattle.cell_layer.specs.ProgramRows.{IsRowOf};
-ghost use Rattle.cell_layer.specs.Kept.{seen, latest_of};
+ghost use Rattle.cell_layer.specs.RowWalks.{program_in, act_done, moment, latest_in, CanGoOn, GoesOn};
 
-use crate::kept::Kept;
+use crate::row_walk::Walk;
 use crate::sums::{divisor_range, holds_zero, may_be_zero};
 use cob_program::{Act, Program};
-use cob_runs::{Action, Cell};
+use cob_runs::Cell;
 use edge_amounts::{Divisor, has_phrase, is_handled};
 use sum_ranges::Ranged;
 
@@ -32,31 +32,43 @@ fn can_divide(range: Option<Ranged>) -> bool
     }
 }
 
-/// Divides: on an edge of size errors the divisor may be 0, on others it isn't.
-pub(crate) fn divide(
-    program: &Program,
-    cells: &[Cell],
-    row: &[i128],
-    act: &Act,
-    action: Action,
-    divisor: Divisor,
-    kept: &mut Kept,
-) -> bool
-    requires row { IsRowOf (plain_program program.now) cells.now row.now }
-    requires fits { CellsFit (owns (plain_program program.now)) (cells_of row.now) }
-    requires small { is_small_atom (bound_at program.now.layout) (plain_divisor divisor) ≡ true }
-    ensures on { result ≡ true → after_divide (plain_program program.now) (plain_act act.now) action (plain_divisor divisor.entry) (seen row.now kept.old)
-        ≡ Some (seen row.now kept.new) }
-    ensures off { result ≡ false → after_divide (plain_program program.now) (plain_act act.now) action (plain_divisor divisor.entry) (seen row.now kept.old)
-        ≡ None }
-    ensures latest { latest_of kept.new ≡ latest_of kept.old }
-{
-    if is_handled(act, action) {
-        let vanishes = may_be_zero(program, cells, row, divisor);
-        kept.may_zero = kept.may_zero || vanishes;
-        true
-    } else {
-        can_divide(divisor_range(program, cells, row, divisor))
+impl<'a> Walk<'a> {
+    // the range of a divisor; nothing where one in it is 0 alone
+    fn range_of(&self, divisor: Divisor) -> Option<Ranged>
+        requires can { CanGoOn self.now }
+        requires small { is_small_atom (bound_at (program_in self.now).layout) (plain_divisor divisor) ≡ true }
+        ensures { result ≡ atom_range (range_at (program_in self.now) (cells_of self.now.row.now)) (plain_divisor divisor.entry) }
+    {
+        divisor_range(self.program, self.cells, self.row, divisor)
+    }
+
+    // whether a divisor may be 0, or one that stands in it
+    fn may_vanish(&self, divisor: Divisor) -> bool
+        requires can { CanGoOn self.now }
+        requires small { is_small_atom (bound_at (program_in self.now).layout) (plain_divisor divisor) ≡ true }
+        ensures { result ≡ may_be_zero (range_at (program_in self.now) (cells_of self.now.row.now)) (plain_divisor divisor.entry) }
+    {
+        may_be_zero(self.program, self.cells, self.row, divisor)
+    }
+
+    /// Divides: on an edge of size errors the divisor may be 0, on others it isn't.
+    pub fn divide(&mut self, divisor: Divisor) -> bool
+        requires can { CanGoOn self.old }
+        requires small { is_small_atom (bound_at (program_in self.old).layout) (plain_divisor divisor) ≡ true }
+        ensures goes_on { GoesOn self.old self.new }
+        ensures on { result ≡ true → after_divide (program_in self.old) (act_done self.old) self.old.action (plain_divisor divisor.entry) (moment self.old)
+            ≡ Some (moment self.new) }
+        ensures off { result ≡ false → after_divide (program_in self.old) (act_done self.old) self.old.action (plain_divisor divisor.entry) (moment self.old)
+            ≡ None }
+        ensures latest { latest_in self.new ≡ latest_in self.old }
+    {
+        if is_handled(self.act, self.action) {
+            let vanishes = self.may_vanish(divisor);
+            self.kept.may_zero = self.kept.may_zero || vanishes;
+            true
+        } else {
+            can_divide(self.range_of(divisor))
+        }
     }
 }
 

@@ -12,8 +12,8 @@ ghost use Rattle.cell_layer.specs.NumberedStatements.{act_in};
 ghost use Rattle.cell_layer.specs.Walks.{step_small, CanStep};
 ghost use Rattle.cell_layer.specs.Works.{program_of, act_of};
 
-use crate::each_part::pass_part;
 use crate::kept::Kept;
+use crate::row_walk::Walk;
 use cob_program::{Program, Stmt};
 use cob_runs::{Action, Cell};
 use edge_amounts::{EdgePart, EdgeWork, part_at, part_count};
@@ -23,31 +23,6 @@ pub fn parts(program: &Program, statement: &Stmt, action: Action) -> u32
     ensures { result ≡ min (length (edge_parts (plain_program program.now) (plain_stmt statement.now) action)) (2 ^ 32 - 1) }
 {
     part_count(program, statement, action)
-}
-
-fn step(
-    program: &Program,
-    cells: &[Cell],
-    statement: &Stmt,
-    action: Action,
-    part: u32,
-    row: &mut [i128],
-    kept: &mut Kept,
-) -> bool
-    requires row { IsRowOf (plain_program program.now) cells.now row.old }
-    requires small { AllByRecursion (IsSmallPart (plain_program program.now) (act_in (plain_stmt statement.now)) action)
-        (edge_parts (plain_program program.now) (plain_stmt statement.now) action) }
-    requires small_cells { has_small_cells (plain_program program.now) ≡ true }
-    requires can { CanStep (plain_program program.now) (act_in (plain_stmt statement.now)) action (seen row.old kept.old) }
-    ensures on { result ≡ true → step_at (plain_program program.now) (plain_stmt statement.now) action part (seen row.old kept.old) ≡ Some (seen row.new kept.new) }
-    ensures off { result ≡ false → step_at (plain_program program.now) (plain_stmt statement.now) action part (seen row.old kept.old) ≡ None }
-    ensures row { IsRowOf (plain_program program.now) cells.now row.new }
-    ensures latest { latest_of kept.new ≡ latest_at (plain_program program.now) (plain_stmt statement.now) action part (seen row.old kept.old) (latest_of kept.old) }
-{
-    match part_at(program, statement, action, part) {
-        None => false,
-        Some(found) => pass_part(program, cells, row, &statement.act, action, found, kept),
-    }
 }
 
 /// Makes of a row what the part with a number makes of it, which counts from 0. Answers false where no run passes the part;
@@ -73,7 +48,22 @@ pub fn walk(
     ensures latest { latest_of kept.new ≡ latest_at (plain_program program.now) (plain_stmt statement.now) action part (seen row.old kept.old) (latest_of kept.old) }
     ensures can { result ≡ true → CanStep (plain_program program.now) (act_in (plain_stmt statement.now)) action (seen row.new kept.new) }
 {
-    step(program, cells, statement, action, part, row, kept)
+    match part_at(program, statement, action, part) {
+        None => false,
+        Some(found) => {
+            let mut walk = Walk {
+                program,
+                cells,
+                act: &statement.act,
+                action,
+                row,
+                kept: *kept,
+            };
+            let passed = walk.pass(found);
+            *kept = walk.kept;
+            passed
+        }
+    }
 }
 
 /// Makes of a row what a part of an edge makes of it. Answers false where no run passes the part; what is left of the row
@@ -98,13 +88,15 @@ pub fn walk_part(
         (seen row.old kept.old) (latest_of kept.old) }
     ensures can { result ≡ true → CanStep (program_of work.now) (act_of work.now) work.now.action (seen row.new kept.new) }
 {
-    pass_part(
-        work.program,
+    let mut walk = Walk {
+        program: work.program,
         cells,
+        act: &work.statement.act,
+        action: work.action,
         row,
-        &work.statement.act,
-        work.action,
-        part,
-        kept,
-    )
+        kept: *kept,
+    };
+    let passed = walk.pass(part);
+    *kept = walk.kept;
+    passed
 }

@@ -7,6 +7,7 @@
 //! cells are of, and tells the ranges of items, of sums and of senders, and what a read, a test or a counter leaves of it.
 #![tactic(auto)]
 
+mod before;
 mod clearing;
 mod counters;
 mod counting;
@@ -28,6 +29,7 @@ mod layer;
 mod part_clearing;
 mod pictures;
 mod reads;
+mod row_walk;
 mod scales;
 mod sharing;
 mod statements;

@@ -14,6 +14,7 @@ ghost use Rattle.edge_amounts.specs.PartView.{plain_amount, plain_part};
 ghost use Rattle.transfer_ranges.specs.Receivers.{receiver_of};
 ghost use Rattle.transfer_ranges.specs.ResultRanges.{may_fail};
 ghost use Rattle.transfer_ranges.specs.Sizes.{IsReceiver, IsSmallAmount};
+ghost use Rattle.edge_amounts.specs.Small.{has_small_sum};
 ghost use Rattle.edge_amounts.specs.Working.{CanWork, amount_from};
 ghost use Rattle.interval_domain.specs.Elements.{CellsFit};
 ghost use Rattle.interval_domain.specs.Rows.{cells_of};
@@ -23,17 +24,18 @@ ghost use Rattle.cell_steps.specs.Operands.{amount_of};
 ghost use Rattle.cell_steps.specs.Stores.{range_at};
 ghost use Rattle.cell_laws.specs.Sizes.{IsSmallPart, IsSmallStore};
 ghost use Rattle.cell_layer.specs.ProgramRows.{IsRowOf};
-ghost use Rattle.cell_layer.specs.Kept.{seen};
-ghost use Rattle.cell_layer.specs.Walks.{clears_small, CanStep};
+ghost use Rattle.cell_layer.specs.Kept.{seen, latest_of};
+ghost use Rattle.cell_layer.specs.Walks.{with_taken_small, clears_small, CanStep};
 ghost use Rattle.cell_layer.specs.Works.{program_of, act_of};
 
+use crate::before::Before;
 use crate::counters::count_is_known;
 use crate::counting::{count_down_fits, count_fits};
 use crate::dividing::divisor_clears;
 use crate::items::{item_is_numeric, item_range};
 use crate::kept::{Kept, taken};
-use cob_program::{Act, Factor, Part, Program, Sum};
-use cob_runs::{Action, Cell};
+use cob_program::{Factor, Part, Sum};
+use cob_runs::Cell;
 use cob_tree::{Kind, Kinds};
 use dec_num::Mode;
 use edge_amounts::{Amount, EdgePart, EdgeWork, amount_of, has_phrase, receiver_at};
@@ -132,127 +134,98 @@ fn operands_fit(
     }
 }
 
-fn results_fit(
-    program: &Program,
-    cells: &[Cell],
-    row: &[i128],
-    place: u32,
-    mode: Mode,
-    amount: Amount,
-    common: Option<Taken>,
-) -> bool
-    requires row { IsRowOf (plain_program program.now) cells.now row.now }
-    requires fits { CellsFit (owns (plain_program program.now)) (cells_of row.now) }
-    requires own { is_small (bound_at program.now.layout place) ≡ true }
-    requires receiver { IsReceiver (receiver_of (form_at program.now.layout place)) }
-    requires can { IfSome common (CanWork (plain_amount amount) (range_at (plain_program program.now) (cells_of row.now) place)) }
-    requires small { IfSome (amount_from common (plain_amount amount) (range_at (plain_program program.now) (cells_of row.now) place)) IsSmallAmount }
-    ensures { result ≡ option_map_or
-        (λ c. option_map_or (λ r. not (may_fail mode (receiver_of (form_at program.now.layout place)) r))
-        (amount_of (plain_amount amount.entry) (range_at (plain_program program.now) (cells_of row.now) place) c) true)
-        common true }
-{
-    let own = item_range(program, cells, row, place);
-    operands_fit(
-        amount,
-        own,
-        common,
-        receiver_at(&program.layout, place),
-        mode,
-    )
-}
-
-// Whether each result fits, once operands are taken.
-fn all_fit(
-    program: &Program,
-    cells: &[Cell],
-    row: &[i128],
-    act: &Act,
-    action: Action,
-    place: u32,
-    mode: Mode,
-    amount: Amount,
-    kept: Kept,
-) -> bool
-    requires row { IsRowOf (plain_program program.now) cells.now row.now }
-    requires small { IsSmallStore (plain_program program.now) (plain_act act.now) action place (plain_amount amount) }
-    requires can { CanStep (plain_program program.now) (plain_act act.now) action (seen row.now kept) }
-    requires written { kept.written ≡ true }
-    ensures { result ≡ all_fit (plain_program program.now) (plain_act act.now) action (seen row.now kept) place mode (plain_amount amount.entry) }
-{
-    has_quotient(amount) && results_fit(program, cells, row, place, mode, amount, kept.common)
-}
-
-// a misfit is handled where there is a phrase for it
-fn store_cleared(
-    program: &Program,
-    cells: &[Cell],
-    row: &[i128],
-    act: &Act,
-    action: Action,
-    place: u32,
-    mode: Mode,
-    amount: Amount,
-    kept: Kept,
-) -> Kinds
-    requires row { IsRowOf (plain_program program.now) cells.now row.now }
-    requires small { IsSmallStore (plain_program program.now) (plain_act act.now) action place (plain_amount amount) }
-    requires can { CanStep (plain_program program.now) (plain_act act.now) action (seen row.now kept) }
-    ensures { result ≡ kinds_of (clears_small (plain_program program.now) (plain_act act.now) action
-        (part.store place mode (plain_amount amount.entry)) (seen row.now kept)) }
-{
-    if has_phrase(act) {
-        return Kinds::all();
+impl<'a> Before<'a> {
+    // Whether each result fits, by these operands.
+    fn results_fit(&self, place: u32, mode: Mode, amount: Amount, common: Option<Taken>) -> bool
+        requires fits { CellsFit (owns (plain_program self.now.program.now)) (cells_of self.now.row.now) }
+        requires own { is_small (bound_at (plain_program self.now.program.now).layout place) ≡ true }
+        requires receiver { IsReceiver (receiver_of (form_at (plain_program self.now.program.now).layout place)) }
+        requires can { IfSome common (CanWork (plain_amount amount) (range_at (plain_program self.now.program.now) (cells_of self.now.row.now) place)) }
+        requires small { IfSome (amount_from common (plain_amount amount) (range_at (plain_program self.now.program.now) (cells_of self.now.row.now) place)) IsSmallAmount }
+        ensures { result ≡ option_map_or
+            (λ c. option_map_or (λ r. not (may_fail mode (receiver_of (form_at (plain_program self.now.program.now).layout place)) r))
+            (amount_of (plain_amount amount.entry) (range_at (plain_program self.now.program.now) (cells_of self.now.row.now) place) c) true)
+            common true }
+    {
+        let own = item_range(self.program, self.cells, self.row, place);
+        let receiver = receiver_at(&self.program.layout, place);
+        operands_fit(amount, own, common, receiver, mode)
     }
-    let moment = taken(program, cells, row, act, action, kept);
-    let fits = all_fit(
-        program, cells, row, act, action, place, mode, amount, moment,
-    );
-    cleared_where(amount, fits)
-}
 
-// ---- all parts
+    /// What is kept once operands are taken, right before the first part that writes.
+    pub fn with_operands(&self) -> Kept
+        requires sum { has_small_sum (bound_at (plain_program self.now.program.now).layout) (plain_act self.now.act.now) ≡ true }
+        requires can { CanStep (plain_program self.now.program.now) (plain_act self.now.act.now) self.now.action (seen self.now.row.now self.now.kept) }
+        ensures same { seen self.now.row.now result ≡ with_taken_small (plain_program self.now.program.now) (plain_act self.now.act.now) self.now.action (seen self.now.row.now self.now.kept) }
+        ensures written { result.written ≡ true }
+        ensures latest { latest_of result ≡ latest_of self.now.kept }
+        ensures can { CanStep (plain_program self.now.program.now) (plain_act self.now.act.now) self.now.action (seen self.now.row.now result) }
+    {
+        taken(
+            self.program,
+            self.cells,
+            self.row,
+            self.act,
+            self.action,
+            self.kept,
+        )
+    }
 
-fn part_cleared(
-    program: &Program,
-    cells: &[Cell],
-    row: &[i128],
-    act: &Act,
-    action: Action,
-    part: EdgePart,
-    kept: Kept,
-) -> Kinds
-    requires row { IsRowOf (plain_program program.now) cells.now row.now }
-    requires small { IsSmallPart (plain_program program.now) (plain_act act.now) action (plain_part part) }
-    requires can { CanStep (plain_program program.now) (plain_act act.now) action (seen row.now kept) }
-    ensures { result ≡ kinds_of (clears_small (plain_program program.now) (plain_act act.now) action (plain_part part.entry) (seen row.now kept)) }
-{
-    let all = Kinds::all();
-    match part {
-        EdgePart::Read(place) => {
-            all.put(Kind::Class, item_is_numeric(program, cells, row, place))
+    // Whether a store's results fit, once operands are taken.
+    fn all_fit(&self, place: u32, mode: Mode, amount: Amount, moment: Kept) -> bool
+        requires small { IsSmallStore (plain_program self.now.program.now) (plain_act self.now.act.now) self.now.action place (plain_amount amount) }
+        requires can { CanStep (plain_program self.now.program.now) (plain_act self.now.act.now) self.now.action (seen self.now.row.now moment) }
+        requires written { moment.written ≡ true }
+        ensures { result ≡ all_fit (plain_program self.now.program.now) (plain_act self.now.act.now) self.now.action (seen self.now.row.now moment) place mode (plain_amount amount.entry) }
+    {
+        has_quotient(amount) && self.results_fit(place, mode, amount, moment.common)
+    }
+
+    // A misfit is handled where there is a phrase for it.
+    fn store_cleared(&self, place: u32, mode: Mode, amount: Amount) -> Kinds
+        requires small { IsSmallStore (plain_program self.now.program.now) (plain_act self.now.act.now) self.now.action place (plain_amount amount) }
+        requires can { CanStep (plain_program self.now.program.now) (plain_act self.now.act.now) self.now.action (seen self.now.row.now self.now.kept) }
+        ensures { result ≡ kinds_of (clears_small (plain_program self.now.program.now) (plain_act self.now.act.now) self.now.action
+            (part.store place mode (plain_amount amount.entry)) (seen self.now.row.now self.now.kept)) }
+    {
+        if has_phrase(self.act) {
+            return Kinds::all();
         }
-        EdgePart::Unread => all.put(Kind::Class, false),
-        EdgePart::Divide(divisor) => {
-            all.put(
+        let moment = self.with_operands();
+        cleared_where(amount, self.all_fit(place, mode, amount, moment))
+    }
+
+    /// The kinds of faults that no run meets at a part.
+    pub fn cleared(&self, part: EdgePart) -> Kinds
+        requires small { IsSmallPart (plain_program self.now.program.now) (plain_act self.now.act.now) self.now.action (plain_part part) }
+        requires can { CanStep (plain_program self.now.program.now) (plain_act self.now.act.now) self.now.action (seen self.now.row.now self.now.kept) }
+        ensures { result ≡ kinds_of (clears_small (plain_program self.now.program.now) (plain_act self.now.act.now) self.now.action (plain_part part.entry) (seen self.now.row.now self.now.kept)) }
+    {
+        let all = Kinds::all();
+        match part {
+            EdgePart::Read(place) => all.put(
+                Kind::Class,
+                item_is_numeric(self.program, self.cells, self.row, place),
+            ),
+            EdgePart::Unread => all.put(Kind::Class, false),
+            EdgePart::Divide(divisor) => all.put(
                 Kind::Zero,
-                divisor_clears(program, cells, row, act, divisor),
-            )
+                divisor_clears(self.program, self.cells, self.row, self.act, divisor),
+            ),
+            EdgePart::Store { item, mode, amount } => self.store_cleared(item, mode, amount),
+            EdgePart::ReadCount(number) => all.put(
+                Kind::Class,
+                count_is_known(self.program, self.cells, self.row, number),
+            ),
+            EdgePart::SetCount { .. } => {
+                all.put(Kind::Size, count_fits(self.with_operands().common))
+            }
+            EdgePart::CountDown(number) => all.put(
+                Kind::Size,
+                count_down_fits(self.program, self.cells, self.row, number),
+            ),
+            EdgePart::Bytes { .. } | EdgePart::Guard { .. } | EdgePart::GuardCount { .. } => all,
         }
-        EdgePart::Store { item, mode, amount } => store_cleared(
-            program, cells, row, act, action, item, mode, amount, kept,
-        ),
-        EdgePart::ReadCount(number) => {
-            all.put(Kind::Class, count_is_known(program, cells, row, number))
-        }
-        EdgePart::SetCount { .. } => {
-            let moment = taken(program, cells, row, act, action, kept);
-            all.put(Kind::Size, count_fits(moment.common))
-        }
-        EdgePart::CountDown(number) => {
-            all.put(Kind::Size, count_down_fits(program, cells, row, number))
-        }
-        EdgePart::Bytes { .. } | EdgePart::Guard { .. } | EdgePart::GuardCount { .. } => all,
     }
 }
 
@@ -270,13 +243,13 @@ pub fn cleared_by_part(
     ensures { result ≡ kinds_of (clears_small (program_of work.now) (act_of work.now) work.now.action (plain_part part.entry)
         (seen row.now kept.now)) }
 {
-    part_cleared(
-        work.program,
+    let before = Before {
+        program: work.program,
         cells,
+        act: &work.statement.act,
+        action: work.action,
         row,
-        &work.statement.act,
-        work.action,
-        part,
-        *kept,
-    )
+        kept: *kept,
+    };
+    before.cleared(part)
 }

@@ -1,24 +1,25 @@
 //! Works in the making, shared by edges that do the same.
-ghost use Rattle.std.specs.Prelude.{◌≡◌, IsTrue, IfOk, IfSome, Contains};
+ghost use Rattle.std.specs.Prelude.{◌≡◌, IsTrue, IfOk, IfSome};
 ghost use Rattle.std.specs.List.{All};
-ghost use Rattle.cob_program.specs.ActView.{plain_program, plain_stmt};
-ghost use Rattle.cob_program.specs.Statements.{program_statements, plain_references};
+ghost use Rattle.cob_program.specs.ActView.{plain_program};
+ghost use Rattle.cob_program.specs.Statements.{program_statements};
 ghost use Rattle.graph_runs.specs.Sources.{IsSourceGraph};
 ghost use Rattle.cell_laws.specs.Layer.{left};
 ghost use Rattle.cell_layer.specs.NumberedStatements.{number_in};
-ghost use Rattle.cell_layer.specs.Works.{IsOfProgram, IsPlaceOf, StandsAt, HasMore};
+ghost use Rattle.cell_layer.specs.Statements.{stated_in};
+ghost use Rattle.cell_layer.specs.Works.{statement_of, IsOfProgram, IsPlaceOf, StandsAt, HasMore};
 
 use crate::guesses::Guesses;
-use crate::statements::{left_number, number_of, statement_with};
+use crate::statements::{left_number, number_of, statement_with, tests_of};
 use cob_graph::{Edge, Graph};
-use cob_program::{Program, Stmt};
+use cob_program::Program;
 use cob_runs::Action;
-use edge_amounts::EdgeWork;
+use edge_amounts::{EdgeWork, StatementTests};
 use std::alloc::{AllocError, Global};
 
 // whether a work is that of the statement with the number, by the action
 fn is_of(work: &EdgeWork, number: u32, action: Action) -> bool
-    ensures { IsTrue result → (number_in (plain_stmt work.now.statement.now) ≡ number) × (work.now.action ≡ action) }
+    ensures { IsTrue result → (number_in (statement_of work.now) ≡ number) × (work.now.action ≡ action) }
 {
     number_of(work.statement) == number && work.action == action
 }
@@ -28,11 +29,11 @@ fn is_of(work: &EdgeWork, number: u32, action: Action) -> bool
 pub(crate) struct Sharing<'a> {
     program: &'a Program,
     graph: &'a Graph,
-    statements: Vec<&'a Stmt>,
+    statements: Vec<StatementTests<'a>>,
     guesses: Guesses,
     pub works: Vec<EdgeWork<'a>>,
     ghost source: { ∥ IsSourceGraph (plain_program program.now) graph.now ∥₁ },
-    ghost listed: { ∥ plain_references statements.items ≡ program_statements (plain_program program.now) ∥₁ },
+    ghost listed: { ∥ stated_in statements.items ≡ program_statements (plain_program program.now) ∥₁ },
     ghost found: { ∥ All (IsOfProgram (plain_program program.now)) works.items ∥₁ },
 }
 
@@ -47,7 +48,8 @@ impl<'a> Sharing<'a> {
         ensures program { IfOk result (λ sharing. sharing.program.now ≡ program.now) }
         ensures graph { IfOk result (λ sharing. sharing.graph.now ≡ graph.now) }
     {
-        let statements = program.statements(alloc)?;
+        let listed = program.statements(alloc)?;
+        let statements = tests_of(alloc, listed.as_slice())?;
         let guesses = Guesses::new(alloc, statements.len())?;
         Ok(Sharing {
             program,
@@ -71,24 +73,18 @@ impl<'a> Sharing<'a> {
         }
     }
 
-    // makes a work of a statement
-    fn add(
-        &mut self,
-        alloc: Global,
-        statement: &'a Stmt,
-        action: Action,
-    ) -> Result<usize, AllocError>
-        requires { Contains self.old.statements.items statement }
+    // takes a work of the statement with the number in
+    fn add(&mut self, number: u32, work: EdgeWork<'a>) -> Result<usize, AllocError>
+        requires of_program { ∥ IsOfProgram (plain_program self.old.program.now) work ∥₁ }
         ensures program { self.new.program.now ≡ self.old.program.now }
         ensures graph { self.new.graph.now ≡ self.old.graph.now }
         ensures more { IfOk result (λ _. HasMore self.old.works.items self.new.works.items) }
-        ensures place { IfOk result (StandsAt self.new.works.items (number_in (plain_stmt statement.now)) action) }
+        ensures place { IfOk result (StandsAt self.new.works.items (number_in (statement_of work.entry)) work.entry.action) }
         ensures found { ∥ All (IsOfProgram (plain_program self.old.program.now)) self.new.works.items ∥₁ }
     {
         let place = self.works.len();
-        let work = EdgeWork::new(alloc, self.program, statement, action)?;
         self.works.push(work)?;
-        self.guesses.add(statement.number, place)?;
+        self.guesses.add(number, place)?;
         Ok(place)
     }
 
@@ -106,7 +102,10 @@ impl<'a> Sharing<'a> {
             return Ok(Some(place));
         }
         match statement_with(self.statements.as_slice(), number) {
-            Some(statement) => Ok(Some(self.add(alloc, statement, edge.action)?)),
+            Some(tests) => {
+                let work = EdgeWork::among(alloc, self.program, tests, edge.action)?;
+                Ok(Some(self.add(number, work)?))
+            }
             None => Ok(None),
         }
     }

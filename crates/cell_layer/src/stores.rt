@@ -21,15 +21,16 @@ ghost use Rattle.cell_steps.specs.Operands.{is_remainder};
 ghost use Rattle.cell_steps.specs.Stores.{range_at, keeps_receiver, may_vanish, stored, stored_known, stored_cells, stored_element};
 ghost use Rattle.cell_laws.specs.Sizes.{IsSmallStore};
 ghost use Rattle.cell_layer.specs.ProgramRows.{IsRowOf};
-ghost use Rattle.cell_layer.specs.Kept.{seen, latest_of, kept_or_new};
+ghost use Rattle.cell_layer.specs.Kept.{kept_or_new};
 ghost use Rattle.cell_layer.specs.Latest.{ranges_of, outcome};
-ghost use Rattle.cell_layer.specs.Walks.{CanStep};
+ghost use Rattle.cell_layer.specs.RowWalks.{program_in, act_done, moment, latest_in, CanGoOn, GoesOn};
 
 use crate::forgetting::forget_beside;
 use crate::items::item_range;
 use crate::kept::Kept;
 use crate::knowing::{known_of_item, set_item};
 use crate::pictures::item_at;
+use crate::row_walk::Walk;
 use cob_data::Layout;
 use cob_program::{Act, Program};
 use cob_runs::{Action, Cell};
@@ -152,25 +153,6 @@ fn put(
 
 // ---- what is stored
 
-// What the receiver is to get.
-fn amount_for(
-    program: &Program,
-    cells: &[Cell],
-    row: &[i128],
-    place: u32,
-    amount: Amount,
-    common: Option<Taken>,
-) -> Option<AmountRange>
-    requires row { IsRowOf (plain_program program.now) cells.now row.now }
-    requires fits { CellsFit (owns (plain_program program.now)) (cells_of row.now) }
-    requires own { is_small (bound_at program.now.layout place) ≡ true }
-    requires can { IfSome common (CanWork (plain_amount amount) (range_at (plain_program program.now) (cells_of row.now) place)) }
-    ensures { result ≡ amount_from common (plain_amount amount.entry) (range_at (plain_program program.now) (cells_of row.now) place) }
-{
-    let own = item_range(program, cells, row, place);
-    amount_from(amount, own, common)
-}
-
 // What a store of it may do.
 fn stored_at(layout: &Layout, place: u32, mode: Mode, amount: Option<AmountRange>) -> Stored
     requires receiver { IsReceiver (receiver_of (form_at layout.now place)) }
@@ -232,36 +214,39 @@ fn units_on(act: &Act, action: Action, units: Option<Interval>) -> Option<Interv
     }
 }
 
-/// Stores an amount, once operands are taken.
-pub(crate) fn store(
-    program: &Program,
-    cells: &[Cell],
-    row: &mut [i128],
-    act: &Act,
-    action: Action,
-    place: u32,
-    mode: Mode,
-    amount: Amount,
-    kept: &mut Kept,
-) -> bool
-    requires row { IsRowOf (plain_program program.now) cells.now row.old }
-    requires small { IsSmallStore (plain_program program.now) (plain_act act.now) action place (plain_amount amount) }
-    requires can { CanStep (plain_program program.now) (plain_act act.now) action (seen row.old kept.old) }
-    requires written { kept.old.written ≡ true }
-    ensures on { result ≡ true → stored (plain_program program.now) (plain_act act.now) action (seen row.old kept.old) place mode (plain_amount amount.entry)
-        ≡ Some (seen row.new kept.new) }
-    ensures off { result ≡ false → stored (plain_program program.now) (plain_act act.now) action (seen row.old kept.old) place mode (plain_amount amount.entry)
-        ≡ None }
-    ensures row { IsRowOf (plain_program program.now) cells.now row.new }
-    ensures latest { latest_of kept.new ≡ outcome (plain_program program.now) (plain_act act.now) action (seen row.old kept.old) place mode (plain_amount amount.entry) }
-{
-    let found = amount_for(program, cells, row, place, amount, kept.common);
-    let value = stored_at(&program.layout, place, mode, found);
-    let keeps = may_keep_own(act, action, amount, value.may_fail, *kept);
-    let units = units_on(act, action, value.units);
-    kept.result = result_of(found);
-    kept.may_fail = keeps;
-    kept.may_fit = units.is_some();
-    kept.any_fail = kept.any_fail || keeps;
-    put(program, cells, row, place, keeps, units)
+impl<'a> Walk<'a> {
+    // What the receiver is to get.
+    fn amount_for(&self, place: u32, amount: Amount) -> Option<AmountRange>
+        requires fits { CellsFit (owns (program_in self.now)) (cells_of self.now.row.now) }
+        requires own { is_small (bound_at (program_in self.now).layout place) ≡ true }
+        requires can { IfSome self.now.kept.common (CanWork (plain_amount amount) (range_at (program_in self.now) (cells_of self.now.row.now) place)) }
+        ensures { result ≡ amount_from self.now.kept.common (plain_amount amount.entry) (range_at (program_in self.now) (cells_of self.now.row.now) place) }
+    {
+        let own = item_range(self.program, self.cells, self.row, place);
+        amount_from(amount, own, self.kept.common)
+    }
+
+    /// Stores an amount, once operands are taken.
+    pub fn store(&mut self, place: u32, mode: Mode, amount: Amount) -> bool
+        requires small { IsSmallStore (program_in self.old) (act_done self.old) self.old.action place (plain_amount amount) }
+        requires can { CanGoOn self.old }
+        requires written { self.old.kept.written ≡ true }
+        ensures goes_on { GoesOn self.old self.new }
+        ensures on { result ≡ true → stored (program_in self.old) (act_done self.old) self.old.action (moment self.old) place mode (plain_amount amount.entry)
+            ≡ Some (moment self.new) }
+        ensures off { result ≡ false → stored (program_in self.old) (act_done self.old) self.old.action (moment self.old) place mode (plain_amount amount.entry)
+            ≡ None }
+        ensures latest { latest_in self.new ≡ outcome (program_in self.old) (act_done self.old) self.old.action (moment self.old) place mode (plain_amount amount.entry) }
+    {
+        let kept = self.kept;
+        let found = self.amount_for(place, amount);
+        let value = stored_at(&self.program.layout, place, mode, found);
+        let keeps = may_keep_own(self.act, self.action, amount, value.may_fail, kept);
+        let units = units_on(self.act, self.action, value.units);
+        self.kept.result = result_of(found);
+        self.kept.may_fail = keeps;
+        self.kept.may_fit = units.is_some();
+        self.kept.any_fail = kept.any_fail || keeps;
+        put(self.program, self.cells, self.row, place, keeps, units)
+    }
 }

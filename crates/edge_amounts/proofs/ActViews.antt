@@ -1,5 +1,5 @@
 -- The lists of a statement, by its kind.
-use Rattle.std.proofs.Common.{◌≡◌, ℕ, List, ◌++◌, sym, ap, ◌∙◌, Option, Some, None, Vec}
+use Rattle.std.proofs.Common.{◌≡◌, ℕ, List, ◌++◌, sym, ap, ◌∙◌, Option, Some, Vec}
 use Rattle.std.specs.declared.alloc.Global.{Global}
 use Rattle.cob_program.specs.declared.act.Stmt as declared_stmt
 use Rattle.cob_program.specs.declared.act.When as declared_when
@@ -11,10 +11,7 @@ use Rattle.cob_program.specs.declared.act.Act.TheVariants as variant
 use Rattle.cob_program.specs.declared.act.Act.TheVariants.{rolls-If, rolls-Evaluate, rolls-Arith, rolls-Read}
 use Rattle.cob_program.specs.declared.act.Act.TheOpen as layer
 use Rattle.cob_program.specs.declared.act.Act.TheFolds.{fold-roll-Act}
-use Rattle.cob_program.specs.LogicView.{plain_logic}
-use Rattle.cob_program.specs.SumView.{plain_sum}
 use Rattle.cob_program.specs.ActView.{plain_act, plain_stmts, plain_whens}
-use Rattle.cob_program.specs.Act.{arith, if_, evaluate, read, given}
 use Rattle.cob_program.specs.Statements.{whens_statements}
 use Rattle.cob_graph.specs.declared.homes.Home.{Home}
 use Rattle.cob_graph.specs.Homes.{count_homes}

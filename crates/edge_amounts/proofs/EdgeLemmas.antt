@@ -1,5 +1,5 @@
 -- Parts by kinds of statements: of loops with TIMES, of READ, of others.
-use Rattle.std.proofs.Common.{◌≡◌, ℕ, Bool, true, false, List, [], ◌∷◌, Some, None, refl, ap}
+use Rattle.std.proofs.Common.{◌≡◌, ℕ, Bool, true, false, [], ◌∷◌, Some, None, refl, ap}
 use Rattle.std.specs.Prelude.{slice_get}
 use Rattle.cob_program.specs.Act.{times, Act, perform, read, Program}
 use Rattle.cob_runs.specs.Acts.{decl_at}

@@ -1,10 +1,12 @@
 pub mod SoughtLemmas
+pub mod HandingLaws
 pub mod SumLoops
 pub mod TestLoops
 pub mod PartActs
 pub mod FileLoops
 pub mod FormLemmas
 pub mod EdgeLemmas
+pub mod EdgeTests
 pub mod DivisorLemmas
 pub mod EndLoops
 pub mod LeftLemmas

@@ -1,12 +1,11 @@
 -- A place sought in lists that are put together.
-use Rattle.std.proofs.Common.{◌≡◌, ℕ, zero, suc, ◌+◌, ◌-◌, ◌<◌, ◌==◌, Bool, true, false, if◌then◌else◌, List, [], ◌∷◌, ◌++◌, length, Option, refl, sym, ap, ◌∙◌, arith}
+use Rattle.std.proofs.Common.{◌≡◌, ℕ, zero, suc, ◌+◌, ◌-◌, ◌<◌, ◌==◌, Bool, true, false, if◌then◌else◌, List, [], ◌∷◌, ◌++◌, length, refl, ap, ◌∙◌, arith}
 use Rattle.std.specs.Prelude.{slice_get}
-use Rattle.std.specs.Option.{option_map}
 use Rattle.std.specs.ControlFlow.{break_value}
 use Rattle.std.specs.declared.ops.ControlFlow.{ControlFlow}
 use Rattle.std.specs.declared.ops.ControlFlow.TheVariants.{Continue, Break}
 use Rattle.std.proofs.lemmas.Bool.Decides.{nat_tests}
-use Rattle.edge_amounts.specs.Seeking.{sought, seen_by}
+use Rattle.edge_amounts.specs.Handing.{sought}
 
 pub found_in_front : {A : Type 0} (xs ys : List A) (k : ℕ) (x : A) → Break x ≡ sought xs k →
     Break x ≡ sought (xs ++ ys) k
@@ -30,31 +29,6 @@ sought_behind (a ∷ xs) ys k m r e h = go (k == 0) (λ b. sought_behind xs ys (
     go true rest b = absurd cc
     go false rest b = rest b
 
--- ---- steps of loops
-
--- what is found at the front of what is left
-pub found_here : {A : Type 0} (all left here rest : List A) (k m : ℕ) (x : A) → left ≡ here ++ rest →
-    sought left m ≡ sought all k → Break x ≡ sought here m → Break x ≡ sought all k
-found_here all left here rest k m x cut same e =
-    found_in_front here rest m x e ∙ (sym (ap (λ xs. sought xs m) cut) ∙ same)
-
--- what is sought behind the front of what is left
-pub goes_on : {A : Type 0} (all left here rest : List A) (k m n : ℕ) → left ≡ here ++ rest →
-    sought left m ≡ sought all k → Continue n ≡ sought here m → sought rest n ≡ sought all k
-goes_on all left here rest k m n cut same e =
-    sought_behind here rest m n (sought rest n) e refl ∙ (sym (ap (λ xs. sought xs m) cut) ∙ same)
-
--- nothing is left
-pub past_all : {A : Type 0} (all left : List A) (k m : ℕ) (r : ControlFlow A ℕ) → left ≡ [] →
-    sought left m ≡ sought all k → r ≡ sought [] m → r ≡ sought all k
-past_all all left k m r none same e = e ∙ (sym (ap (λ xs. sought xs m) none) ∙ same)
-
--- what is sought behind the front
-pub found_in_rest : {A : Type 0} (all here rest : List A) (k m : ℕ) (r : ControlFlow A ℕ) → all ≡ here ++ rest →
-    Continue m ≡ sought here k → r ≡ sought rest m → r ≡ sought all k
-found_in_rest all here rest k m r cut e h =
-    sought_behind here rest k m r e h ∙ sym (ap (λ xs. sought xs k) cut)
-
 -- ---- places
 
 pub at_place : {A : Type 0} (xs : List A) (k : ℕ) → break_value (sought xs k) ≡ slice_get xs k
@@ -66,14 +40,6 @@ at_place (x ∷ xs) (suc k) = go (suc k == 0) (suc k - 1) (grind (arith, nat_tes
         break_value (if first then Break x else sought xs n) ≡ slice_get xs k
     go true n e same h = absurd cc
     go false n e same h = ap (λ m. break_value (sought xs m)) same ∙ h
-
-found_by : {A B : Type 0} (f : A → B) (r : ControlFlow A ℕ) → option_map f (break_value r) ≡ break_value (seen_by f r)
-found_by f (Break x) = refl
-found_by f (Continue k) = refl
-
-pub found_at : {A B : Type 0} (f : A → B) (o : Option A) (r : ControlFlow A ℕ) (xs : List B) (k : ℕ) →
-    o ≡ break_value r → seen_by f r ≡ sought xs k → option_map f o ≡ slice_get xs k
-found_at f o r xs k e h = ap (option_map f) e ∙ found_by f r ∙ ap break_value h ∙ at_place xs k
 
 pub length_before : {A : Type 0} (xs : List A) (k m : ℕ) → Continue m ≡ sought xs k → length xs + m ≡ k
 length_before [] k m e = let same : m ≡ k = cc in omega arith

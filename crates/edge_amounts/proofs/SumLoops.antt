@@ -5,7 +5,7 @@ use Rattle.cob_program.specs.declared.sum.Part as declared_part
 use Rattle.cob_program.specs.declared.sum.Factor as declared_factor
 use Rattle.cob_program.specs.declared.sum.Factor.{out-Factor}
 use Rattle.cob_program.specs.declared.sum.Atom.TheFolds.{fold_out-Factor}
-use Rattle.cob_program.specs.Sum.{Parts, parts_of, Part, MkPart, more_parts, Factors, factors_of, Factor, MkFactor, more_factors, Atom}
+use Rattle.cob_program.specs.Sum.{Parts, parts_of, Part, MkPart, more_parts, Factors, factors_of, Factor, MkFactor, more_factors}
 use Rattle.cob_program.specs.SumView.{plain_part, plain_factor, plain_atom}
 use Rattle.cob_program.proofs.Loops.{item_step}
 use Rattle.cob_runs.specs.Computing.{items_in_parts, items_in_factors, items_in_atom}

@@ -1,7 +1,7 @@
 -- What is taken of a sum is what a store is worked out of.
 use Rattle.std.proofs.Common.{◌≡◌, ℕ, Bool, true, false, Option, Some, None, refl}
 use Rattle.std.specs.Prelude.{option_map, pos}
-use Rattle.cob_program.specs.Sum.{Sum, Atom}
+use Rattle.cob_program.specs.Sum.{Sum}
 use Rattle.cob_program.specs.Values.{whole_number, Root, root_of, ◌>>=◌}
 use Rattle.sum_ranges.specs.declared.ranged.Ranged.{Ranged}
 use Rattle.sum_ranges.specs.Ranged.{point}

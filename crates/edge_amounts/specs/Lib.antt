@@ -1,5 +1,5 @@
-pub mod Seeking
 pub mod PartView
+pub mod Handing
 pub mod Pieces
 pub mod Numbers
 pub mod Small

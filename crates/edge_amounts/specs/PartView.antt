@@ -1,13 +1,15 @@
 -- What contracts see of parts that are borrowed from a program.
-use Rattle.std.specs.Prelude.{List}
+use Rattle.std.specs.Prelude.{List, Option, None, slice_get}
 use Rattle.std.specs.Borrow.{Bor}
 use Rattle.cob_program.specs.Sum.{Atom, group}
 use Rattle.cob_program.specs.SumView.{plain_sum, plain_atom}
 use Rattle.cob_program.specs.declared.logic.Test as declared_test
 use Rattle.cob_program.specs.Logic.{Test}
 use Rattle.cob_program.specs.LogicView.{plain_test}
-use Rattle.cob_program.specs.Act.{Stmt, MkStmt, Program}
+use Rattle.cob_program.specs.Act.{Act, Stmt, MkStmt, Program}
 use Rattle.cob_runs.specs.declared.action.Action.{Action}
+use Rattle.cob_runs.specs.declared.action.Action.TheVariants as action
+use Rattle.cob_runs.specs.Effects.{tests_in_act}
 use Rattle.cob_edge_parts.specs.Parts.{Amount, moved, computed, remaining, augmented, Part, read, unread, divide, store, bytes_in, guard, read_count, set_count, count_down, guard_count, parts_of}
 use Rattle.edge_amounts.specs.declared.part.Divisor as declared_divisor
 use Rattle.edge_amounts.specs.declared.part.Divisor.TheVariants as divisor
@@ -44,3 +46,17 @@ plain_reference t = plain_test t.now
 -- the parts of an edge of a statement
 abbrev pub edge_parts : Program → Stmt → Action → List Part
 edge_parts p (MkStmt number line a) x = parts_of p number a x
+
+-- the simple conditions of a statement, and the one that an edge goes by
+abbrev pub stmt_tests : Stmt → List Test
+stmt_tests (MkStmt number line a) = tests_in_act a
+
+abbrev pub act_test : Act → Action → Option Test
+act_test a (action.True k) = slice_get (tests_in_act a) k
+act_test a (action.False k) = slice_get (tests_in_act a) k
+act_test a x = None
+
+abbrev pub edge_test : Stmt → Action → Option Test
+edge_test s (action.True k) = slice_get (stmt_tests s) k
+edge_test s (action.False k) = slice_get (stmt_tests s) k
+edge_test s x = None

@@ -1,6 +1,6 @@
 //! Parts of arithmetic statements, and of what VARYING adds: operands are read first, then divisors count, then each
 //! receiver is read and stored in turn, and the remainder last.
-#![tactic(auto, using(crate::proofs::SoughtLemmas::found_in_front, crate::proofs::SoughtLemmas::sought_behind))]
+#![tactic(auto, using(crate::proofs::HandingLaws::handing))]
 
 ghost use Rattle.std.specs.Prelude.{◌≡◌, ◌++◌, [], ◌∷◌, if◌then◌else◌};
 ghost use Rattle.std.specs.List.{list_any};
@@ -8,16 +8,17 @@ ghost use Rattle.cob_program.specs.SumView.{plain_sum};
 ghost use Rattle.cob_edge_parts.specs.Parts.{is_under, divides, divisors_of, own_reads, target_parts, targets_parts, remainder_parts, arith_parts, augment_parts, compare_parts};
 ghost use Rattle.edge_amounts.specs.PartView.{plain_part};
 ghost use Rattle.edge_amounts.specs.Pieces.{whole_divisors, right_side_parts, sides_divisors};
-ghost use Rattle.edge_amounts.specs.Seeking.{sought, seen_by};
+ghost use Rattle.edge_amounts.specs.Handing.{Takes, goes_on};
 
 use crate::part::{Amount, Divisor, EdgePart};
 use crate::part_items::scale_at;
-use crate::part_senders::number_read;
-use crate::seeking::{Sought, none, one, two};
-use crate::sums::{divisor_in, read_in};
+use crate::part_senders::push_number_read;
+use crate::sums::{push_divisors, push_reads};
+use crate::taker::{Going, PartTaker, no_parts, push_part, push_two};
 use cob_data::{Layout, Sender};
 use cob_program::{How, Sum, Target};
 use dec_num::Mode;
+use std::ops::ControlFlow;
 
 // ---- divisors
 
@@ -33,167 +34,171 @@ fn divides_receivers(targets: &[Target]) -> bool
     targets.iter().any(|target| is_under(target.how))
 }
 
-fn whole_divisor<'a>(common: &'a Sum, targets: &[Target], k: u32) -> Sought<'a>
-    ensures { seen_by plain_part result ≡ sought (divides (whole_divisors (plain_sum common.now) targets.now)) k }
+fn push_whole_divisor<'a>(parts: &mut PartTaker<'a>, common: &'a Sum, targets: &[Target]) -> Going
+    ensures { Takes plain_part parts.old (divides (whole_divisors (plain_sum common.now) targets.now))
+        (goes_on result) parts.new }
 {
     if divides_receivers(targets) {
-        one(EdgePart::Divide(Divisor::Whole(common)), k)
+        push_part(parts, EdgePart::Divide(Divisor::Whole(common)))
     } else {
-        none(k)
+        no_parts(parts)
     }
 }
 
-fn divisor<'a>(common: &'a Sum, targets: &[Target], k: u32) -> Sought<'a>
-    ensures { seen_by plain_part result ≡ sought (divides (divisors_of (plain_sum common.now) targets.now)) k }
+fn push_divisors_of<'a>(parts: &mut PartTaker<'a>, common: &'a Sum, targets: &[Target]) -> Going
+    ensures { Takes plain_part parts.old (divides (divisors_of (plain_sum common.now) targets.now))
+        (goes_on result) parts.new }
 {
     if targets.is_empty() {
-        return none(k);
+        return no_parts(parts);
     }
-    let left = divisor_in(common, k)?;
-    whole_divisor(common, targets, left)
+    push_divisors(parts, common)?;
+    push_whole_divisor(parts, common, targets)
 }
 
 // ---- receivers
 
 // a receiver is read at its turn, unless it gets the whole
-fn own_read<'a>(how: How, item: u32, k: u32) -> Sought<'a>
-    ensures { seen_by plain_part result ≡ sought (own_reads how item) k }
+fn push_own_read<'a>(parts: &mut PartTaker<'a>, how: How, item: u32) -> Going
+    ensures { Takes plain_part parts.old (own_reads how item) (goes_on result) parts.new }
 {
     match how {
-        How::Whole => none(k),
-        How::Plus | How::Minus | How::Times | How::Under => one(EdgePart::Read(item), k),
+        How::Whole => no_parts(parts),
+        How::Plus | How::Minus | How::Times | How::Under => push_part(parts, EdgePart::Read(item)),
     }
 }
 
-fn of_target<'a>(common: &'a Sum, target: &Target, k: u32) -> Sought<'a>
-    ensures { seen_by plain_part result ≡ sought (target_parts (plain_sum common.now) target.now) k }
+fn push_target<'a>(parts: &mut PartTaker<'a>, common: &'a Sum, target: &Target) -> Going
+    ensures { Takes plain_part parts.old (target_parts (plain_sum common.now) target.now) (goes_on result) parts.new }
 {
-    let left = own_read(target.how, target.item, k)?;
-    one(
+    push_own_read(parts, target.how, target.item)?;
+    push_part(
+        parts,
         EdgePart::Store {
             item: target.item,
             mode: target.mode,
             amount: Amount::Computed(common, target.how),
         },
-        left,
     )
 }
 
-fn of_targets<'a>(common: &'a Sum, targets: &[Target], k: u32) -> Sought<'a>
-    ensures { seen_by plain_part result ≡ sought (targets_parts (plain_sum common.now) targets.now) k }
+fn push_targets<'a>(parts: &mut PartTaker<'a>, common: &'a Sum, targets: &[Target]) -> Going
+    ensures { Takes plain_part parts.old (targets_parts (plain_sum common.now) targets.now) (goes_on result) parts.new }
 {
-    let mut left = k;
     for target in targets {
-        left = of_target(common, target, left)?;
+        push_target(parts, common, target)?;
     }
-    none(left)
+    ControlFlow::Continue(())
 }
 
-fn of_remainder<'a>(
+fn push_remainder<'a>(
+    parts: &mut PartTaker<'a>,
     layout: &Layout,
     common: &'a Sum,
     targets: &[Target],
     remainder: Option<u32>,
-    k: u32,
-) -> Sought<'a>
-    ensures { seen_by plain_part result
-        ≡ sought (remainder_parts layout.now (plain_sum common.now) targets.now remainder) k }
+) -> Going
+    ensures { Takes plain_part parts.old (remainder_parts layout.now (plain_sum common.now) targets.now remainder)
+        (goes_on result) parts.new }
 {
     match (targets, remainder) {
-        ([target], Some(place)) => one(
+        ([target], Some(place)) => push_part(
+            parts,
             EdgePart::Store {
                 item: place,
                 mode: Mode::Trunc,
                 amount: Amount::Remaining(common, scale_at(layout, target.item)),
             },
-            k,
         ),
-        _ => none(k),
+        _ => no_parts(parts),
     }
 }
 
 // ---- statements
 
-fn of_receivers<'a>(
+fn push_receivers<'a>(
+    parts: &mut PartTaker<'a>,
     layout: &Layout,
     common: &'a Sum,
     targets: &[Target],
     remainder: Option<u32>,
-    k: u32,
-) -> Sought<'a>
-    ensures { seen_by plain_part result ≡ sought (targets_parts (plain_sum common.now) targets.now
-        ++ remainder_parts layout.now (plain_sum common.now) targets.now remainder) k }
+) -> Going
+    ensures { Takes plain_part parts.old (targets_parts (plain_sum common.now) targets.now
+        ++ remainder_parts layout.now (plain_sum common.now) targets.now remainder) (goes_on result) parts.new }
 {
-    let left = of_targets(common, targets, k)?;
-    of_remainder(layout, common, targets, remainder, left)
+    push_targets(parts, common, targets)?;
+    push_remainder(parts, layout, common, targets, remainder)
 }
 
-fn of_results<'a>(
+fn push_results<'a>(
+    parts: &mut PartTaker<'a>,
     layout: &Layout,
     common: &'a Sum,
     targets: &[Target],
     remainder: Option<u32>,
-    k: u32,
-) -> Sought<'a>
-    ensures { seen_by plain_part result ≡ sought (divides (divisors_of (plain_sum common.now) targets.now)
+) -> Going
+    ensures { Takes plain_part parts.old (divides (divisors_of (plain_sum common.now) targets.now)
         ++ (targets_parts (plain_sum common.now) targets.now
-        ++ remainder_parts layout.now (plain_sum common.now) targets.now remainder)) k }
+        ++ remainder_parts layout.now (plain_sum common.now) targets.now remainder)) (goes_on result) parts.new }
 {
-    let left = divisor(common, targets, k)?;
-    of_receivers(layout, common, targets, remainder, left)
+    push_divisors_of(parts, common, targets)?;
+    push_receivers(parts, layout, common, targets, remainder)
 }
 
 /// The parts of an arithmetic statement.
-pub fn of_arithmetic<'a>(
+pub fn push_arithmetic<'a>(
+    parts: &mut PartTaker<'a>,
     layout: &Layout,
     common: &'a Sum,
     targets: &[Target],
     remainder: Option<u32>,
-    k: u32,
-) -> Sought<'a>
-    ensures { seen_by plain_part result
-        ≡ sought (arith_parts layout.now (plain_sum common.now) targets.now remainder) k }
+) -> Going
+    ensures { Takes plain_part parts.old (arith_parts layout.now (plain_sum common.now) targets.now remainder)
+        (goes_on result) parts.new }
 {
-    let left = read_in(common, k)?;
-    of_results(layout, common, targets, remainder, left)
+    push_reads(parts, common)?;
+    push_results(parts, layout, common, targets, remainder)
 }
 
 /// What VARYING adds to its item.
-pub fn of_augmenting<'a>(item: u32, by: &'a Sender, k: u32) -> Sought<'a>
-    ensures { seen_by plain_part result ≡ sought (augment_parts item by.now) k }
+pub fn push_augmenting<'a>(parts: &mut PartTaker<'a>, item: u32, by: &'a Sender) -> Going
+    ensures { Takes plain_part parts.old (augment_parts item by.now) (goes_on result) parts.new }
 {
-    let left = number_read(by, k)?;
-    two(
+    push_number_read(parts, by)?;
+    push_two(
+        parts,
         EdgePart::Read(item),
         EdgePart::Store {
             item,
             mode: Mode::Trunc,
             amount: Amount::Augmented(by),
         },
-        left,
     )
 }
 
 // ---- comparisons
 
-fn divisor_of_sides<'a>(left: &'a Sum, right: &'a Sum, k: u32) -> Sought<'a>
-    ensures { seen_by plain_part result ≡ sought (divides (sides_divisors (plain_sum left.now) (plain_sum right.now))) k }
+fn push_divisors_of_sides<'a>(parts: &mut PartTaker<'a>, left: &'a Sum, right: &'a Sum) -> Going
+    ensures { Takes plain_part parts.old (divides (sides_divisors (plain_sum left.now) (plain_sum right.now)))
+        (goes_on result) parts.new }
 {
-    let behind = divisor_in(left, k)?;
-    divisor_in(right, behind)
+    push_divisors(parts, left)?;
+    push_divisors(parts, right)
 }
 
-fn of_right_side<'a>(left: &'a Sum, right: &'a Sum, k: u32) -> Sought<'a>
-    ensures { seen_by plain_part result ≡ sought (right_side_parts (plain_sum left.now) (plain_sum right.now)) k }
+fn push_right_side<'a>(parts: &mut PartTaker<'a>, left: &'a Sum, right: &'a Sum) -> Going
+    ensures { Takes plain_part parts.old (right_side_parts (plain_sum left.now) (plain_sum right.now))
+        (goes_on result) parts.new }
 {
-    let behind = read_in(right, k)?;
-    divisor_of_sides(left, right, behind)
+    push_reads(parts, right)?;
+    push_divisors_of_sides(parts, left, right)
 }
 
 /// A comparison of two sums: the items of both are read before a divisor counts.
-pub fn of_comparison<'a>(left: &'a Sum, right: &'a Sum, k: u32) -> Sought<'a>
-    ensures { seen_by plain_part result ≡ sought (compare_parts (plain_sum left.now) (plain_sum right.now)) k }
+pub fn push_comparison<'a>(parts: &mut PartTaker<'a>, left: &'a Sum, right: &'a Sum) -> Going
+    ensures { Takes plain_part parts.old (compare_parts (plain_sum left.now) (plain_sum right.now))
+        (goes_on result) parts.new }
 {
-    let behind = read_in(left, k)?;
-    of_right_side(left, right, behind)
+    push_reads(parts, left)?;
+    push_right_side(parts, left, right)
 }

@@ -1,88 +1,110 @@
 //! Parts of conditions: what is read before a test is decided, and that the test has its outcome.
-#![tactic(auto, using(crate::proofs::SoughtLemmas::found_in_front, crate::proofs::SoughtLemmas::sought_behind))]
+#![tactic(auto, using(crate::proofs::HandingLaws::handing))]
 
-ghost use Rattle.std.specs.Prelude.{◌≡◌, ◌++◌, [], ◌∷◌, ℕ};
+ghost use Rattle.std.specs.Prelude.{◌≡◌, ◌++◌, [], ◌∷◌, ℕ, slice_get};
 ghost use Rattle.std.specs.Option.{option_map, option_copied};
 ghost use Rattle.cob_program.specs.Act as act;
 ghost use Rattle.cob_program.specs.ActView.{plain_act, plain_turns, plain_program};
 ghost use Rattle.cob_program.specs.LogicView.{plain_test};
 ghost use Rattle.cob_edge_parts.specs.Parts.{read_count, guard_count, end_reads, member_reads, test_reads, test_parts, condition_parts};
-ghost use Rattle.cob_runs.specs.Effects.{is_times};
+ghost use Rattle.cob_runs.specs.Effects.{is_times, tests_in_act};
 ghost use Rattle.edge_amounts.specs.PartView.{plain_part};
 ghost use Rattle.edge_amounts.specs.Pieces.{sides_reads};
-ghost use Rattle.edge_amounts.specs.Seeking.{sought, seen_by};
+ghost use Rattle.edge_amounts.specs.Handing.{Takes, goes_on};
 
-use crate::arithmetic::of_comparison;
+use crate::arithmetic::push_comparison;
 use crate::part::EdgePart;
-use crate::part_senders::text_side_read;
-use crate::seeking::{Sought, none, one, two};
-use crate::tests_of::test_at;
+use crate::part_senders::push_text_side_read;
+use crate::taker::{Going, PartTaker, no_parts, push_part, push_two};
 use cob_data::{Layout, Pair, Sender};
 use cob_program::{Act, Program, Test, Turns};
+use std::ops::ControlFlow;
 
 // ---- what is read
 
-fn sides_read<'a>(layout: &Layout, left: &Sender, right: &Sender, k: u32) -> Sought<'a>
-    ensures { seen_by plain_part result ≡ sought (sides_reads layout.now left.now right.now) k }
+fn push_sides_read<'a>(
+    parts: &mut PartTaker<'a>,
+    layout: &Layout,
+    left: &Sender,
+    right: &Sender,
+) -> Going
+    ensures { Takes plain_part parts.old (sides_reads layout.now left.now right.now) (goes_on result) parts.new }
 {
-    let behind = text_side_read(layout, left, k)?;
-    text_side_read(layout, right, behind)
+    push_text_side_read(parts, layout, left)?;
+    push_text_side_read(parts, layout, right)
 }
 
-fn pair_read<'a>(layout: &Layout, pair: &Pair, k: u32) -> Sought<'a>
-    ensures { seen_by plain_part result ≡ sought (sides_reads layout.now pair.now.low pair.now.high) k }
+fn push_pair_read<'a>(parts: &mut PartTaker<'a>, layout: &Layout, pair: &Pair) -> Going
+    ensures { Takes plain_part parts.old (sides_reads layout.now pair.now.low pair.now.high)
+        (goes_on result) parts.new }
 {
-    sides_read(layout, &pair.low, &pair.high, k)
+    push_sides_read(parts, layout, &pair.low, &pair.high)
 }
 
-fn ends_read<'a>(layout: &Layout, pairs: &[Pair], k: u32) -> Sought<'a>
-    ensures { seen_by plain_part result ≡ sought (end_reads layout.now pairs.now) k }
+fn push_ends_read<'a>(parts: &mut PartTaker<'a>, layout: &Layout, pairs: &[Pair]) -> Going
+    ensures { Takes plain_part parts.old (end_reads layout.now pairs.now) (goes_on result) parts.new }
 {
-    let mut left = k;
     for pair in pairs {
-        left = pair_read(layout, pair, left)?;
+        push_pair_read(parts, layout, pair)?;
     }
-    none(left)
+    ControlFlow::Continue(())
 }
 
 // an item that is a number is read, whatever the ends are
-fn member_read<'a>(layout: &Layout, item: u32, pairs: &[Pair], k: u32) -> Sought<'a>
-    ensures { seen_by plain_part result ≡ sought (member_reads layout.now item pairs.now) k }
+fn push_member_read<'a>(
+    parts: &mut PartTaker<'a>,
+    layout: &Layout,
+    item: u32,
+    pairs: &[Pair],
+) -> Going
+    ensures { Takes plain_part parts.old (member_reads layout.now item pairs.now) (goes_on result) parts.new }
 {
     if pairs.is_empty() {
-        return none(k);
+        return no_parts(parts);
     }
-    let left = text_side_read(layout, &Sender::Item(item), k)?;
-    ends_read(layout, pairs, left)
+    push_text_side_read(parts, layout, &Sender::Item(item))?;
+    push_ends_read(parts, layout, pairs)
 }
 
-fn test_read<'a>(layout: &Layout, test: &'a Test, k: u32) -> Sought<'a>
-    ensures { seen_by plain_part result ≡ sought (test_reads layout.now (plain_test test.now)) k }
+fn push_test_read<'a>(parts: &mut PartTaker<'a>, layout: &Layout, test: &'a Test) -> Going
+    ensures { Takes plain_part parts.old (test_reads layout.now (plain_test test.now)) (goes_on result) parts.new }
 {
     match test {
-        Test::Number { left, right, .. } => of_comparison(left, right, k),
-        Test::Text { left, right, .. } => sides_read(layout, left, right, k),
-        Test::Member { item, ranges } => member_read(layout, *item, ranges.get(), k),
-        Test::Numeric(_) | Test::Always => none(k),
+        Test::Number { left, right, .. } => push_comparison(parts, left, right),
+        Test::Text { left, right, .. } => push_sides_read(parts, layout, left, right),
+        Test::Member { item, ranges } => push_member_read(parts, layout, *item, ranges.get()),
+        Test::Numeric(_) | Test::Always => no_parts(parts),
     }
 }
 
 // ---- tests
 
-fn of_test<'a>(layout: &Layout, holds: bool, test: &'a Test, k: u32) -> Sought<'a>
-    ensures { seen_by plain_part result ≡ sought (test_parts layout.now holds (Some (plain_test test.now))) k }
+fn push_test_parts<'a>(
+    parts: &mut PartTaker<'a>,
+    layout: &Layout,
+    holds: bool,
+    test: &'a Test,
+) -> Going
+    ensures { Takes plain_part parts.old (test_parts layout.now holds (Some (plain_test test.now)))
+        (goes_on result) parts.new }
 {
-    let left = test_read(layout, test, k)?;
-    one(EdgePart::Guard { test, holds }, left)
+    push_test_read(parts, layout, test)?;
+    push_part(parts, EdgePart::Guard { test, holds })
 }
 
-fn of_test_if<'a>(layout: &Layout, holds: bool, test: Option<&'a Test>, k: u32) -> Sought<'a>
-    ensures { seen_by plain_part result
-        ≡ sought (test_parts layout.now holds (option_map plain_test (option_copied test.entry))) k }
+fn push_test_if<'a>(
+    parts: &mut PartTaker<'a>,
+    layout: &Layout,
+    holds: bool,
+    test: Option<&'a Test>,
+) -> Going
+    ensures { Takes plain_part parts.old (test_parts layout.now holds
+        (option_map plain_test (option_copied test.entry)))
+        (goes_on result) parts.new }
 {
     match test {
-        None => none(k),
-        Some(test) => of_test(layout, holds, test, k),
+        None => no_parts(parts),
+        Some(test) => push_test_parts(parts, layout, holds, test),
     }
 }
 
@@ -104,31 +126,33 @@ fn is_times(act: &Act) -> bool
     }
 }
 
-fn of_turns<'a>(number: u32, left: bool, k: u32) -> Sought<'a>
-    ensures { seen_by plain_part result ≡ sought (read_count number ∷ guard_count number left ∷ []) k }
+fn push_turns<'a>(parts: &mut PartTaker<'a>, number: u32, left: bool) -> Going
+    ensures { Takes plain_part parts.old (read_count number ∷ guard_count number left ∷ []) (goes_on result) parts.new }
 {
-    two(
+    push_two(
+        parts,
         EdgePart::ReadCount(number),
         EdgePart::GuardCount { number, left },
-        k,
     )
 }
 
-/// The test of TIMES, or a simple condition of the statement.
-pub fn of_condition<'a>(
+/// The test of TIMES, or the simple condition of the statement that was found.
+pub fn push_condition<'a>(
+    parts: &mut PartTaker<'a>,
     program: &Program,
     number: u32,
     holds: bool,
-    place: u32,
-    act: &'a Act,
-    k: u32,
-) -> Sought<'a>
-    ensures { seen_by plain_part result
-        ≡ sought (condition_parts (plain_program program.now) number holds place (plain_act act.now)) k }
+    act: &Act,
+    test: Option<&'a Test>,
+) -> Going
+    ensures { (place : ℕ)
+        → option_map plain_test (option_copied test.entry) ≡ slice_get (tests_in_act (plain_act act.now)) place
+        → Takes plain_part parts.old
+        (condition_parts (plain_program program.now) number holds place (plain_act act.now)) (goes_on result) parts.new }
 {
     if is_times(act) {
-        of_turns(number, holds, k)
+        push_turns(parts, number, holds)
     } else {
-        of_test_if(&program.layout, holds, test_at(act, place), k)
+        push_test_if(parts, &program.layout, holds, test)
     }
 }

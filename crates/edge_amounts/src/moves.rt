@@ -1,5 +1,5 @@
 //! Parts of MOVE: the sender is read once, then each receiver gets its value or its bytes.
-#![tactic(auto, using(crate::proofs::SoughtLemmas::found_in_front, crate::proofs::SoughtLemmas::sought_behind))]
+#![tactic(auto, using(crate::proofs::HandingLaws::handing))]
 
 ghost use Rattle.std.specs.Prelude.{◌≡◌, ◌++◌, [], ◌∷◌, if◌then◌else◌};
 ghost use Rattle.std.specs.List.{list_any};
@@ -7,14 +7,15 @@ ghost use Rattle.cob_runs.specs.Contents.{form_at};
 ghost use Rattle.cob_edge_parts.specs.Parts.{number_reads, is_read_for, item_bytes, receiver_parts, receivers_parts, move_parts, from_parts, into_parts};
 ghost use Rattle.edge_amounts.specs.PartView.{plain_part};
 ghost use Rattle.edge_amounts.specs.Pieces.{sender_reads};
-ghost use Rattle.edge_amounts.specs.Seeking.{sought, seen_by};
+ghost use Rattle.edge_amounts.specs.Handing.{Takes, goes_on};
 
 use crate::part::{Amount, EdgePart};
 use crate::part_items::{gets_value, is_read_for, item_at};
-use crate::part_senders::number_read;
-use crate::seeking::{Sought, none, one};
+use crate::part_senders::push_number_read;
+use crate::taker::{Going, PartTaker, no_parts, push_part};
 use cob_data::{Layout, Sender};
 use dec_num::Mode;
+use std::ops::ControlFlow;
 
 // Whether the sender is read for one of the items.
 fn is_read(layout: &Layout, from: &Sender, to: &[u32]) -> bool
@@ -28,83 +29,107 @@ fn is_read(layout: &Layout, from: &Sender, to: &[u32]) -> bool
     false
 }
 
-fn sender_read<'a>(layout: &Layout, from: &Sender, to: &[u32], k: u32) -> Sought<'a>
-    ensures { seen_by plain_part result ≡ sought (sender_reads layout.now from.now to.now) k }
+fn push_sender_read<'a>(
+    parts: &mut PartTaker<'a>,
+    layout: &Layout,
+    from: &Sender,
+    to: &[u32],
+) -> Going
+    ensures { Takes plain_part parts.old (sender_reads layout.now from.now to.now) (goes_on result) parts.new }
 {
     if is_read(layout, from, to) {
-        number_read(from, k)
+        push_number_read(parts, from)
     } else {
-        none(k)
+        no_parts(parts)
     }
 }
 
 /// The bytes of the item at a place.
-pub fn of_bytes<'a>(layout: &Layout, place: u32, k: u32) -> Sought<'a>
-    ensures { seen_by plain_part result ≡ sought (item_bytes layout.now place) k }
+pub fn push_bytes<'a>(parts: &mut PartTaker<'a>, layout: &Layout, place: u32) -> Going
+    ensures { Takes plain_part parts.old (item_bytes layout.now place) (goes_on result) parts.new }
 {
     match item_at(layout, place) {
-        None => none(k),
-        Some(item) => one(
+        None => no_parts(parts),
+        Some(item) => push_part(
+            parts,
             EdgePart::Bytes {
                 offset: item.offset,
                 length: item.length,
             },
-            k,
         ),
     }
 }
 
-fn of_receiver<'a>(layout: &Layout, from: &'a Sender, place: u32, k: u32) -> Sought<'a>
-    ensures { seen_by plain_part result ≡ sought (receiver_parts layout.now from.now place) k }
+fn push_receiver<'a>(
+    parts: &mut PartTaker<'a>,
+    layout: &Layout,
+    from: &'a Sender,
+    place: u32,
+) -> Going
+    ensures { Takes plain_part parts.old (receiver_parts layout.now from.now place) (goes_on result) parts.new }
 {
     if gets_value(layout, place, from) {
-        one(
+        push_part(
+            parts,
             EdgePart::Store {
                 item: place,
                 mode: Mode::Trunc,
                 amount: Amount::Moved(from),
             },
-            k,
         )
     } else {
-        of_bytes(layout, place, k)
+        push_bytes(parts, layout, place)
     }
 }
 
-fn of_receivers<'a>(layout: &Layout, from: &'a Sender, to: &[u32], k: u32) -> Sought<'a>
-    ensures { seen_by plain_part result ≡ sought (receivers_parts layout.now from.now to.now) k }
+fn push_receivers<'a>(
+    parts: &mut PartTaker<'a>,
+    layout: &Layout,
+    from: &'a Sender,
+    to: &[u32],
+) -> Going
+    ensures { Takes plain_part parts.old (receivers_parts layout.now from.now to.now) (goes_on result) parts.new }
 {
-    let mut left = k;
     for place in to {
-        left = of_receiver(layout, from, *place, left)?;
+        push_receiver(parts, layout, from, *place)?;
     }
-    none(left)
+    ControlFlow::Continue(())
 }
 
 /// A MOVE.
-pub fn of_move<'a>(layout: &Layout, from: &'a Sender, to: &[u32], k: u32) -> Sought<'a>
-    ensures { seen_by plain_part result ≡ sought (move_parts layout.now from.now to.now) k }
+pub fn push_move<'a>(
+    parts: &mut PartTaker<'a>,
+    layout: &Layout,
+    from: &'a Sender,
+    to: &[u32],
+) -> Going
+    ensures { Takes plain_part parts.old (move_parts layout.now from.now to.now) (goes_on result) parts.new }
 {
-    let left = sender_read(layout, from, to, k)?;
-    of_receivers(layout, from, to, left)
+    push_sender_read(parts, layout, from, to)?;
+    push_receivers(parts, layout, from, to)
 }
 
 /// WRITE's FROM.
-pub fn of_from<'a>(layout: &Layout, rec: u32, from: &'a Option<Sender>, k: u32) -> Sought<'a>
-    ensures { seen_by plain_part result ≡ sought (from_parts layout.now rec from.now) k }
+pub fn push_from<'a>(
+    parts: &mut PartTaker<'a>,
+    layout: &Layout,
+    rec: u32,
+    from: &'a Option<Sender>,
+) -> Going
+    ensures { Takes plain_part parts.old (from_parts layout.now rec from.now) (goes_on result) parts.new }
 {
     match from {
-        None => none(k),
-        Some(sender) => of_move(layout, sender, &[rec], k),
+        None => no_parts(parts),
+        Some(sender) => push_move(parts, layout, sender, &[rec]),
     }
 }
 
 /// READ's INTO.
-pub fn of_into<'a>(layout: &Layout, into: Option<u32>, k: u32) -> Sought<'a>
-    ensures { seen_by plain_part result ≡ sought (into_parts layout.now into) k }
+pub fn push_into<'a>(parts: &mut PartTaker<'a>, layout: &Layout, into: Option<u32>) -> Going
+    ensures { Takes plain_part parts.old (into_parts layout.now into) (goes_on result) parts.new }
 {
     match into {
-        None => none(k),
-        Some(place) => of_bytes(layout, place, k),
+        None => no_parts(parts),
+        Some(place) => push_bytes(parts, layout, place),
     }
 }

@@ -1,15 +1,17 @@
 //! What is read of senders.
+#![tactic(auto, using(crate::proofs::HandingLaws::handing))]
+
 ghost use Rattle.std.specs.Prelude.{◌≡◌};
 ghost use Rattle.std.specs.List.{list_all};
 ghost use Rattle.std.specs.Char.{is_ascii_digit};
 ghost use Rattle.cob_edge_parts.specs.Parts.{number_reads, text_reads};
 ghost use Rattle.edge_amounts.specs.PartView.{plain_part};
 ghost use Rattle.edge_amounts.specs.Pieces.{text_number_reads};
-ghost use Rattle.edge_amounts.specs.Seeking.{sought, seen_by};
+ghost use Rattle.edge_amounts.specs.Handing.{Takes, goes_on};
 
 use crate::part::EdgePart;
 use crate::part_items::is_number_item;
-use crate::seeking::{Sought, none, one};
+use crate::taker::{Going, PartTaker, no_parts, push_part};
 use cob_data::{Layout, Sender};
 
 fn are_digits(text: &[u8]) -> bool
@@ -19,35 +21,35 @@ fn are_digits(text: &[u8]) -> bool
 }
 
 // A text that isn't all digits is no number.
-fn text_read<'a>(text: &[u8], k: u32) -> Sought<'a>
-    ensures { seen_by plain_part result ≡ sought (text_number_reads text.now) k }
+fn push_text_read<'a>(parts: &mut PartTaker<'a>, text: &[u8]) -> Going
+    ensures { Takes plain_part parts.old (text_number_reads text.now) (goes_on result) parts.new }
 {
     if are_digits(text) {
-        none(k)
+        no_parts(parts)
     } else {
-        one(EdgePart::Unread, k)
+        push_part(parts, EdgePart::Unread)
     }
 }
 
 /// What is read of a sender as a number.
-pub fn number_read<'a>(sender: &Sender, k: u32) -> Sought<'a>
-    ensures { seen_by plain_part result ≡ sought (number_reads sender.now) k }
+pub fn push_number_read<'a>(parts: &mut PartTaker<'a>, sender: &Sender) -> Going
+    ensures { Takes plain_part parts.old (number_reads sender.now) (goes_on result) parts.new }
 {
     match sender {
-        Sender::Item(place) => one(EdgePart::Read(*place), k),
-        Sender::Text(text) => text_read(text.get(), k),
-        Sender::Fill(_) => one(EdgePart::Unread, k),
-        Sender::Number(_) | Sender::Zero => none(k),
+        Sender::Item(place) => push_part(parts, EdgePart::Read(*place)),
+        Sender::Text(text) => push_text_read(parts, text.get()),
+        Sender::Fill(_) => push_part(parts, EdgePart::Unread),
+        Sender::Number(_) | Sender::Zero => no_parts(parts),
     }
 }
 
 /// What is read of a sender as text, which a numeric item gives by its number.
-pub fn text_side_read<'a>(layout: &Layout, sender: &Sender, k: u32) -> Sought<'a>
-    ensures { seen_by plain_part result ≡ sought (text_reads layout.now sender.now) k }
+pub fn push_text_side_read<'a>(parts: &mut PartTaker<'a>, layout: &Layout, sender: &Sender) -> Going
+    ensures { Takes plain_part parts.old (text_reads layout.now sender.now) (goes_on result) parts.new }
 {
     if is_number_item(layout, sender) {
-        number_read(sender, k)
+        push_number_read(parts, sender)
     } else {
-        none(k)
+        no_parts(parts)
     }
 }

@@ -1,5 +1,5 @@
 //! Items and divisors of sums, from left to right.
-#![tactic(auto, using(crate::proofs::SoughtLemmas::found_in_front, crate::proofs::SoughtLemmas::sought_behind))]
+#![tactic(auto, using(crate::proofs::HandingLaws::handing))]
 
 ghost use Rattle.std.specs.Prelude.{◌≡◌, ◌++◌, [], ◌∷◌, map, if◌then◌else◌};
 ghost use Rattle.cob_program.specs.Sum.{parts_of, factors_of};
@@ -8,130 +8,131 @@ ghost use Rattle.cob_runs.specs.Computing.{items_in, items_in_parts, items_in_fa
 ghost use Rattle.cob_edge_parts.specs.Parts.{item_reads, divides, divisors_in, divisors_in_parts, divisors_in_factors, divisors_in_atom};
 ghost use Rattle.edge_amounts.specs.PartView.{plain_part};
 ghost use Rattle.edge_amounts.specs.Pieces.{factor_divisors, product_divisors, product_items};
-ghost use Rattle.edge_amounts.specs.Seeking.{sought, seen_by};
+ghost use Rattle.edge_amounts.specs.Handing.{Takes, goes_on};
 
 use crate::part::{Divisor, EdgePart};
-use crate::seeking::{Sought, none, one};
+use crate::taker::{Going, PartTaker, no_parts, push_part};
 use cob_program::{Atom, Factor, Part, Sum};
+use std::ops::ControlFlow;
 
 // ---- items
 
 #[cycle(items)]
-fn read_in_atom<'a>(atom: &Atom, k: u32) -> Sought<'a>
-    ensures { seen_by plain_part result ≡ sought (item_reads (items_in_atom (plain_atom atom.now))) k }
+fn push_reads_in_atom<'a>(parts: &mut PartTaker<'a>, atom: &Atom) -> Going
+    ensures { Takes plain_part parts.old (item_reads (items_in_atom (plain_atom atom.now))) (goes_on result) parts.new }
 {
     match atom {
-        Atom::Item(place) => one(EdgePart::Read(*place), k),
-        Atom::Number(_) => none(k),
-        Atom::Group(sum) => read_in(sum, k),
+        Atom::Item(place) => push_part(parts, EdgePart::Read(*place)),
+        Atom::Number(_) => no_parts(parts),
+        Atom::Group(sum) => push_reads(parts, sum),
     }
 }
 
 #[cycle(items)]
-fn read_in_factors<'a>(factors: &[Factor], k: u32) -> Sought<'a>
-    ensures { seen_by plain_part result
-        ≡ sought (item_reads (items_in_factors (factors_of (map plain_factor factors.now)))) k }
+fn push_reads_in_factors<'a>(parts: &mut PartTaker<'a>, factors: &[Factor]) -> Going
+    ensures { Takes plain_part parts.old (item_reads (items_in_factors (factors_of (map plain_factor factors.now))))
+        (goes_on result) parts.new }
 {
-    let mut left = k;
     for factor in factors {
-        left = read_in_atom(&factor.atom, left)?;
+        push_reads_in_atom(parts, &factor.atom)?;
     }
-    none(left)
+    ControlFlow::Continue(())
 }
 
 #[cycle(items)]
-fn read_in_product<'a>(product: &Part, k: u32) -> Sought<'a>
-    ensures { seen_by plain_part result ≡ sought (item_reads (product_items (plain_product product.now))) k }
+fn push_reads_in_product<'a>(parts: &mut PartTaker<'a>, product: &Part) -> Going
+    ensures { Takes plain_part parts.old (item_reads (product_items (plain_product product.now)))
+        (goes_on result) parts.new }
 {
-    read_in_factors(&product.factors, k)
+    push_reads_in_factors(parts, &product.factors)
 }
 
 #[cycle(items)]
-fn read_in_products<'a>(products: &[Part], k: u32) -> Sought<'a>
-    ensures { seen_by plain_part result
-        ≡ sought (item_reads (items_in_parts (parts_of (map plain_product products.now)))) k }
+fn push_reads_in_products<'a>(parts: &mut PartTaker<'a>, products: &[Part]) -> Going
+    ensures { Takes plain_part parts.old (item_reads (items_in_parts (parts_of (map plain_product products.now))))
+        (goes_on result) parts.new }
 {
-    let mut left = k;
     for product in products {
-        left = read_in_product(product, left)?;
+        push_reads_in_product(parts, product)?;
     }
-    none(left)
+    ControlFlow::Continue(())
 }
 
 /// The Read of an item of a sum.
 #[cycle(items)]
-pub fn read_in<'a>(sum: &Sum, k: u32) -> Sought<'a>
-    ensures { seen_by plain_part result ≡ sought (item_reads (items_in (plain_sum sum.now))) k }
+pub fn push_reads<'a>(parts: &mut PartTaker<'a>, sum: &Sum) -> Going
+    ensures { Takes plain_part parts.old (item_reads (items_in (plain_sum sum.now))) (goes_on result) parts.new }
 {
-    read_in_products(&sum.parts, k)
+    push_reads_in_products(parts, &sum.parts)
 }
 
 // ---- divisors
 
 #[cycle(divisors)]
-fn divisor_in_atom<'a>(atom: &'a Atom, k: u32) -> Sought<'a>
-    ensures { seen_by plain_part result ≡ sought (divides (divisors_in_atom (plain_atom atom.now))) k }
+fn push_divisors_in_atom<'a>(parts: &mut PartTaker<'a>, atom: &'a Atom) -> Going
+    ensures { Takes plain_part parts.old (divides (divisors_in_atom (plain_atom atom.now))) (goes_on result) parts.new }
 {
     match atom {
-        Atom::Item(_) | Atom::Number(_) => none(k),
-        Atom::Group(sum) => divisor_in(sum, k),
+        Atom::Item(_) | Atom::Number(_) => no_parts(parts),
+        Atom::Group(sum) => push_divisors(parts, sum),
     }
 }
 
 // an operand, which is a divisor itself if it stands behind a sign of division
-fn divisor_if<'a>(over: bool, atom: &'a Atom, k: u32) -> Sought<'a>
-    ensures { seen_by plain_part result ≡ sought (divides (if over then plain_atom atom.now ∷ [] else [])) k }
+fn push_divisor_if<'a>(parts: &mut PartTaker<'a>, over: bool, atom: &'a Atom) -> Going
+    ensures { Takes plain_part parts.old (divides (if over then plain_atom atom.now ∷ [] else []))
+        (goes_on result) parts.new }
 {
     if over {
-        one(EdgePart::Divide(Divisor::Inner(atom)), k)
+        push_part(parts, EdgePart::Divide(Divisor::Inner(atom)))
     } else {
-        none(k)
+        no_parts(parts)
     }
 }
 
 #[cycle(divisors)]
-fn divisor_in_factor<'a>(factor: &'a Factor, k: u32) -> Sought<'a>
-    ensures { seen_by plain_part result ≡ sought (divides (factor_divisors (plain_factor factor.now))) k }
+fn push_divisors_in_factor<'a>(parts: &mut PartTaker<'a>, factor: &'a Factor) -> Going
+    ensures { Takes plain_part parts.old (divides (factor_divisors (plain_factor factor.now)))
+        (goes_on result) parts.new }
 {
-    let left = divisor_in_atom(&factor.atom, k)?;
-    divisor_if(factor.over, &factor.atom, left)
+    push_divisors_in_atom(parts, &factor.atom)?;
+    push_divisor_if(parts, factor.over, &factor.atom)
 }
 
 #[cycle(divisors)]
-fn divisor_in_factors<'a>(factors: &'a [Factor], k: u32) -> Sought<'a>
-    ensures { seen_by plain_part result
-        ≡ sought (divides (divisors_in_factors (factors_of (map plain_factor factors.now)))) k }
+fn push_divisors_in_factors<'a>(parts: &mut PartTaker<'a>, factors: &'a [Factor]) -> Going
+    ensures { Takes plain_part parts.old (divides (divisors_in_factors (factors_of (map plain_factor factors.now))))
+        (goes_on result) parts.new }
 {
-    let mut left = k;
     for factor in factors {
-        left = divisor_in_factor(factor, left)?;
+        push_divisors_in_factor(parts, factor)?;
     }
-    none(left)
+    ControlFlow::Continue(())
 }
 
 #[cycle(divisors)]
-fn divisor_in_product<'a>(product: &'a Part, k: u32) -> Sought<'a>
-    ensures { seen_by plain_part result ≡ sought (divides (product_divisors (plain_product product.now))) k }
+fn push_divisors_in_product<'a>(parts: &mut PartTaker<'a>, product: &'a Part) -> Going
+    ensures { Takes plain_part parts.old (divides (product_divisors (plain_product product.now)))
+        (goes_on result) parts.new }
 {
-    divisor_in_factors(&product.factors, k)
+    push_divisors_in_factors(parts, &product.factors)
 }
 
 #[cycle(divisors)]
-fn divisor_in_products<'a>(products: &'a [Part], k: u32) -> Sought<'a>
-    ensures { seen_by plain_part result
-        ≡ sought (divides (divisors_in_parts (parts_of (map plain_product products.now)))) k }
+fn push_divisors_in_products<'a>(parts: &mut PartTaker<'a>, products: &'a [Part]) -> Going
+    ensures { Takes plain_part parts.old (divides (divisors_in_parts (parts_of (map plain_product products.now))))
+        (goes_on result) parts.new }
 {
-    let mut left = k;
     for product in products {
-        left = divisor_in_product(product, left)?;
+        push_divisors_in_product(parts, product)?;
     }
-    none(left)
+    ControlFlow::Continue(())
 }
 
 /// A divisor that stands in a sum.
 #[cycle(divisors)]
-pub fn divisor_in<'a>(sum: &'a Sum, k: u32) -> Sought<'a>
-    ensures { seen_by plain_part result ≡ sought (divides (divisors_in (plain_sum sum.now))) k }
+pub fn push_divisors<'a>(parts: &mut PartTaker<'a>, sum: &'a Sum) -> Going
+    ensures { Takes plain_part parts.old (divides (divisors_in (plain_sum sum.now))) (goes_on result) parts.new }
 {
-    divisor_in_products(&sum.parts, k)
+    push_divisors_in_products(parts, &sum.parts)
 }

@@ -1,7 +1,7 @@
 //! The simple conditions of a statement, in the order of its nodes.
-#![tactic(auto, using(crate::proofs::SoughtLemmas::found_in_front, crate::proofs::SoughtLemmas::sought_behind))]
+#![tactic(auto, using(crate::proofs::HandingLaws::handing))]
 
-ghost use Rattle.std.specs.Prelude.{◌≡◌, ◌++◌, [], ◌∷◌, map, slice_get};
+ghost use Rattle.std.specs.Prelude.{◌≡◌, ◌++◌, [], ◌∷◌, map, slice_get, IfOk};
 ghost use Rattle.std.specs.Option.{option_map, option_copied};
 ghost use Rattle.cob_program.specs.Act as act;
 ghost use Rattle.cob_program.specs.ActView.{plain_act, plain_turns, plain_whens, plain_when};
@@ -9,88 +9,86 @@ ghost use Rattle.cob_program.specs.LogicView.{plain_logic, plain_logics, plain_t
 ghost use Rattle.cob_runs.specs.Effects.{tests_of, tests_among, tests_in_list, tests_in_whens, tests_in_turns, tests_in_act};
 ghost use Rattle.edge_amounts.specs.PartView.{plain_reference};
 ghost use Rattle.edge_amounts.specs.Pieces.{tests_in_when};
-ghost use Rattle.edge_amounts.specs.Seeking.{sought, seen_by};
+ghost use Rattle.edge_amounts.specs.Handing.{Takes, goes_on};
 
+use crate::taker::{Going, Search, Taker, TestTaker, found, into_list, no_tests, push_test};
 use cob_program::{Act, Logic, Test, Turns, When};
+use std::alloc::{AllocError, Global};
 use std::ops::ControlFlow;
 
-type SoughtTest<'a> = ControlFlow<&'a Test, u32>;
-
-fn one_test<'a>(test: &'a Test, k: u32) -> SoughtTest<'a>
-    ensures { seen_by plain_reference result ≡ sought (plain_test test.now ∷ []) k }
-{
-    if k == 0 {
-        ControlFlow::Break(test)
-    } else {
-        ControlFlow::Continue(k - 1)
-    }
-}
-
 #[cycle(logic)]
-fn in_logic<'a>(logic: &'a Logic, k: u32) -> SoughtTest<'a>
-    ensures { seen_by plain_reference result ≡ sought (tests_of (plain_logic logic.now)) k }
+fn push_of<'a>(tests: &mut TestTaker<'a>, logic: &'a Logic) -> Going
+    ensures { Takes plain_reference tests.old (tests_of (plain_logic logic.now)) (goes_on result) tests.new }
 {
     match logic {
-        Logic::All(parts) | Logic::Any(parts) => among(parts, k),
-        Logic::Not(part) => in_logic(part, k),
-        Logic::Test(test) => one_test(test, k),
+        Logic::All(parts) | Logic::Any(parts) => push_among(tests, parts),
+        Logic::Not(part) => push_of(tests, part),
+        Logic::Test(test) => push_test(tests, test),
     }
 }
 
 #[cycle(logic)]
-fn among<'a>(parts: &'a [Logic], k: u32) -> SoughtTest<'a>
-    ensures { seen_by plain_reference result ≡ sought (tests_among (plain_logics parts.now)) k }
+fn push_among<'a>(tests: &mut TestTaker<'a>, parts: &'a [Logic]) -> Going
+    ensures { Takes plain_reference tests.old (tests_among (plain_logics parts.now)) (goes_on result) tests.new }
 {
-    let mut left = k;
     for part in parts {
-        left = in_logic(part, left)?;
+        push_of(tests, part)?;
     }
-    ControlFlow::Continue(left)
+    ControlFlow::Continue(())
 }
 
-fn in_list<'a>(list: &'a [Logic], k: u32) -> SoughtTest<'a>
-    ensures { seen_by plain_reference result ≡ sought (tests_in_list (map plain_logic list.now)) k }
+fn push_in_list<'a>(tests: &mut TestTaker<'a>, list: &'a [Logic]) -> Going
+    ensures { Takes plain_reference tests.old (tests_in_list (map plain_logic list.now)) (goes_on result) tests.new }
 {
-    let mut left = k;
     for logic in list {
-        left = in_logic(logic, left)?;
+        push_of(tests, logic)?;
     }
-    ControlFlow::Continue(left)
+    ControlFlow::Continue(())
 }
 
-fn in_when<'a>(when: &'a When, k: u32) -> SoughtTest<'a>
-    ensures { seen_by plain_reference result ≡ sought (tests_in_when (plain_when when.now)) k }
+fn push_in_when<'a>(tests: &mut TestTaker<'a>, when: &'a When) -> Going
+    ensures { Takes plain_reference tests.old (tests_in_when (plain_when when.now)) (goes_on result) tests.new }
 {
-    in_list(when.tests.get(), k)
+    push_in_list(tests, when.tests.get())
 }
 
-fn in_whens<'a>(whens: &'a [When], k: u32) -> SoughtTest<'a>
-    ensures { seen_by plain_reference result ≡ sought (tests_in_whens (plain_whens whens.now)) k }
+fn push_in_whens<'a>(tests: &mut TestTaker<'a>, whens: &'a [When]) -> Going
+    ensures { Takes plain_reference tests.old (tests_in_whens (plain_whens whens.now)) (goes_on result) tests.new }
 {
-    let mut left = k;
     for when in whens {
-        left = in_when(when, left)?;
+        push_in_when(tests, when)?;
     }
-    ControlFlow::Continue(left)
+    ControlFlow::Continue(())
 }
 
-fn in_turns<'a>(turns: &'a Turns, k: u32) -> SoughtTest<'a>
-    ensures { seen_by plain_reference result ≡ sought (tests_in_turns (plain_turns turns.now)) k }
+fn push_in_turns<'a>(tests: &mut TestTaker<'a>, turns: &'a Turns) -> Going
+    ensures { Takes plain_reference tests.old (tests_in_turns (plain_turns turns.now)) (goes_on result) tests.new }
 {
     match turns {
-        Turns::Until { test, .. } | Turns::Varying { test, .. } => in_logic(test, k),
-        Turns::Once | Turns::Times(_) => ControlFlow::Continue(k),
+        Turns::Until { test, .. } | Turns::Varying { test, .. } => push_of(tests, test),
+        Turns::Once | Turns::Times(_) => no_tests(tests),
     }
 }
 
-fn in_act<'a>(act: &'a Act, k: u32) -> SoughtTest<'a>
-    ensures { seen_by plain_reference result ≡ sought (tests_in_act (plain_act act.now)) k }
+fn push_in_act<'a>(tests: &mut TestTaker<'a>, act: &'a Act) -> Going
+    ensures { Takes plain_reference tests.old (tests_in_act (plain_act act.now)) (goes_on result) tests.new }
 {
     match act {
-        Act::If { test, .. } => in_logic(test, k),
-        Act::Evaluate { whens, .. } => in_whens(whens, k),
-        Act::Perform { turns, .. } => in_turns(turns, k),
-        _ => ControlFlow::Continue(k),
+        Act::If { test, .. } => push_of(tests, test),
+        Act::Evaluate { whens, .. } => push_in_whens(tests, whens),
+        Act::Perform { turns, .. } => push_in_turns(tests, turns),
+        _ => no_tests(tests),
+    }
+}
+
+/// The simple conditions of a statement.
+pub fn tests_in<'a>(alloc: Global, act: &'a Act) -> Result<Vec<&'a Test>, AllocError>
+    ensures { IfOk result (λ tests. map plain_reference tests.items ≡ tests_in_act (plain_act act.now)) }
+{
+    let mut tests = Taker::List(Vec::new(alloc));
+    match push_in_act(&mut tests, act) {
+        ControlFlow::Continue(_) => into_list(tests),
+        ControlFlow::Break(_) => Err(AllocError),
     }
 }
 
@@ -98,5 +96,12 @@ fn in_act<'a>(act: &'a Act, k: u32) -> SoughtTest<'a>
 pub fn test_at(act: &Act, place: u32) -> Option<&Test>
     ensures { option_map plain_test (option_copied result) ≡ slice_get (tests_in_act (plain_act act.now)) place }
 {
-    in_act(act, place).break_value()
+    let mut tests = Taker::Search(Search {
+        left: place,
+        found: None,
+    });
+    match push_in_act(&mut tests, act) {
+        ControlFlow::Continue(_) => None,
+        ControlFlow::Break(_) => found(&tests),
+    }
 }

@@ -1,10 +1,12 @@
-use Rattle.cob_program.specs.ActView.{plain_stmt, plain_program}
-use Rattle.cell_layer.specs.Kept.{seen}
-use Rattle.cell_layer.proofs.Stepping.{walks_on}
+use Rattle.std.proofs.Common.{sym, ap, ◌∙◌}
+use Rattle.std.specs.Option.{option_map}
+use Rattle.cob_program.specs.ActView.{plain_program}
+use Rattle.edge_amounts.specs.PartView.{plain_part}
+use Rattle.cell_layer.proofs.Stepping.{small_part}
 use Rattle.cell_layer.proofs.edge_walk.walk.Goals as goal
 
-pub returns-clause-can : goal.returns-clause-can
-returns-clause-can c told =
+pub pass-passed-requires-clause-small : goal.pass-passed-requires-clause-small
+pass-passed-requires-clause-small c =
     let x = c.args in
-    walks_on (plain_program x.program.now) (plain_stmt x.statement.now) x.action x.part
-    (seen x.row.now x.kept.now) (seen c.step.new.row c.step.new.kept) c.requires.can (c.step.ensures.on told)
+    small_part (plain_program x.program.now) x.action x.statement.now x.part (plain_part c.in-Some.found) c.requires.small
+    (sym c.part_at.ensures ∙ ap (option_map plain_part) c.in-Some.is)

@@ -6,7 +6,7 @@ use Rattle.cell_layer.specs.Works.{program_of}
 use Rattle.cell_layer.proofs.Stepping.{act_same}
 use Rattle.cell_layer.proofs.part_clearing.cleared_by_part.Goals as goal
 
-pub part_cleared-requires-clause-small : goal.part_cleared-requires-clause-small
-part_cleared-requires-clause-small c =
+pub cleared-requires-clause-small : goal.cleared-requires-clause-small
+cleared-requires-clause-small c =
     let w = c.args.work.now in
     subst (λ (a : Act). IsSmallPart (program_of w) a w.action (plain_part c.args.part)) (act_same w.statement.now) c.requires.small

@@ -1,11 +1,12 @@
-use Rattle.cob_program.specs.ActView.{plain_stmt, plain_program}
-use Rattle.edge_amounts.specs.PartView.{plain_part, edge_parts}
-use Rattle.edge_amounts.proofs.SoughtLemmas.{found_at}
+use Rattle.std.proofs.Common.{ap, ◌∙◌}
+use Rattle.std.specs.Option.{option_map}
+use Rattle.edge_amounts.specs.PartView.{plain_part}
+use Rattle.edge_amounts.proofs.HandingLaws.{found_is, none_is}
 use Rattle.edge_amounts.proofs.parts.part_at.Goals as goal
+
+pub returns-in-Continue : goal.returns-in-Continue
+returns-in-Continue c = none_is plain_part _ _ _ (c.in-Continue.ensures c.test_of.ensures)
 
 pub returns : goal.returns
 returns c =
-    let x = c.args in
-    found_at plain_part c.break_value.result c.of_edge.result
-    (edge_parts (plain_program x.program.now) (plain_stmt x.statement.now) x.action) x.k
-    c.break_value.ensures.value c.of_edge.ensures
+    ap (option_map plain_part) c.found.ensures ∙ found_is plain_part _ _ _ (c.in-Break.ensures c.test_of.ensures)

@@ -1,20 +1,15 @@
-use Rattle.std.proofs.Common.{◌≡◌, ◌+◌, ◌<◌, length, sym, ap, ◌∙◌, arith}
-use Rattle.cob_program.specs.ActView.{plain_stmt, plain_program}
-use Rattle.edge_amounts.specs.PartView.{plain_part, edge_parts}
-use Rattle.edge_amounts.specs.Seeking.{seen_by}
-use Rattle.edge_amounts.proofs.SoughtLemmas.{within, length_before}
+use Rattle.std.proofs.Common.{arith}
+use Rattle.edge_amounts.specs.PartView.{plain_part}
+use Rattle.edge_amounts.proofs.HandingLaws.{more_than, as_many}
 use Rattle.edge_amounts.proofs.parts.part_count.Goals as goal
 
 pub returns-in-Break : goal.returns-in-Break
 returns-in-Break c =
-    let x = c.args in
-    let ps = edge_parts (plain_program x.program.now) (plain_stmt x.statement.now) x.action in
-    let more = within ps _ _ (ap (seen_by plain_part) (sym c.in-Break.is) ∙ c.of_edge.ensures) in
+    let more = more_than plain_part _ _ _ (c.in-Break.ensures c.test_of.ensures) in
     omega (arith, more)
 
-pub returns-in-Continue : goal.returns-in-Continue
-returns-in-Continue c =
-    let x = c.args in
-    let ps = edge_parts (plain_program x.program.now) (plain_stmt x.statement.now) x.action in
-    let all = length_before ps _ _ (ap (seen_by plain_part) (sym c.in-Continue.is) ∙ c.of_edge.ensures) in
-    omega (arith, all)
+pub returns : goal.returns
+returns c =
+    let all = as_many plain_part _ _ _ (c.in-Continue.ensures c.test_of.ensures) in
+    let rest = c.left.ensures in
+    omega (arith, all, rest)

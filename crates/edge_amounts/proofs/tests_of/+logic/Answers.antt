@@ -1,22 +1,21 @@
-use Rattle.std.proofs.Common.{◌+◌, ◌∙◌, ap, drop}
-use Rattle.edge_amounts.proofs.TestLoops.{logics_from, logic_first}
+use Rattle.std.proofs.Common.{ap, arith}
+use Rattle.std.proofs.lemmas.List.{drop_all}
+use Rattle.cob_program.specs.LogicView.{plain_logics}
 use Rattle.cob_runs.specs.Effects.{tests_among}
 use Rattle.edge_amounts.specs.PartView.{plain_reference}
-use Rattle.edge_amounts.specs.Seeking.{seen_by}
-use Rattle.edge_amounts.proofs.SoughtLemmas.{found_here, goes_on}
+use Rattle.edge_amounts.proofs.TestLoops.{logic_first}
+use Rattle.edge_amounts.proofs.HandingLaws.{leads_on, leads_out, leads_past}
 use Rattle.edge_amounts.proofs.tests_of.+logic.Goals as goal
 
-pub among-returns-in_err-left : goal.among-returns-in_err-left
-among-returns-in_err-left t c =
-    let xs = c.args.parts.now in
-    let l = c.loop-part in
-    let cut = logic_first xs l.part-index c.part-item.result c.loop-part-test.true c.part-item.is in
-    ap (seen_by plain_reference) c.from_residual.ensures ∙
-    found_here (tests_among (logics_from xs 0)) (tests_among (logics_from xs l.part-index)) _ _ _ _ _ cut l.invariant c.in_err-left.ensures
+pub push_among-loop-part-preserved : goal.push_among-loop-part-preserved
+push_among-loop-part-preserved t c =
+    leads_on plain_reference _ _ _ _ _ _ _ (logic_first c.args.parts.now c.loop-part.part-index c.part-item.result c.loop-part-test.true c.part-item.is) c.loop-part.invariant c.in_ok-push_of.ensures
 
-pub among-loop-part-preserved : goal.among-loop-part-preserved
-among-loop-part-preserved t c =
-    let xs = c.args.parts.now in
-    let l = c.loop-part in
-    let cut = logic_first xs l.part-index c.part-item.result c.loop-part-test.true c.part-item.is in
-    goes_on (tests_among (logics_from xs 0)) (tests_among (logics_from xs l.part-index)) _ _ _ _ _ cut l.invariant c.in_ok-left.ensures
+pub push_among-returns-in_err-push_of : goal.push_among-returns-in_err-push_of
+push_among-returns-in_err-push_of t c =
+    rw c.from_residual.ensures
+    (leads_out plain_reference _ _ _ _ _ _ _ (logic_first c.args.parts.now c.loop-part.part-index c.part-item.result c.loop-part-test.true c.part-item.is) c.loop-part.invariant c.in_err-push_of.ensures)
+
+pub push_among-returns : goal.push_among-returns
+push_among-returns t c =
+    leads_past plain_reference _ _ _ _ (ap (λ ys. tests_among (plain_logics ys)) (drop_all c.loop-part.part-index c.args.parts.now (omega arith))) c.loop-part.invariant

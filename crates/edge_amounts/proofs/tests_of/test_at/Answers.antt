@@ -1,13 +1,14 @@
 use Rattle.std.proofs.Common.{ap, ◌∙◌}
-use Rattle.cob_program.specs.ActView.{plain_act}
-use Rattle.cob_runs.specs.Effects.{tests_in_act}
+use Rattle.std.specs.Option.{option_map}
 use Rattle.edge_amounts.specs.PartView.{plain_reference}
-use Rattle.edge_amounts.proofs.SoughtLemmas.{found_at}
+use Rattle.edge_amounts.proofs.HandingLaws.{found_is, none_is}
 use Rattle.edge_amounts.proofs.TestLoops.{seen_test}
 use Rattle.edge_amounts.proofs.tests_of.test_at.Goals as goal
 
+pub returns-in-Continue : goal.returns-in-Continue
+returns-in-Continue c = none_is plain_reference _ _ _ c.in-Continue.ensures
+
 pub returns : goal.returns
 returns c =
-    seen_test c.break_value.result
-    ∙ found_at plain_reference c.break_value.result c.in_act.result (tests_in_act (plain_act c.args.act.now)) c.args.place
-    c.break_value.ensures.value c.in_act.ensures
+    seen_test c.found.result ∙ ap (option_map plain_reference) c.found.ensures
+    ∙ found_is plain_reference _ _ _ c.in-Break.ensures

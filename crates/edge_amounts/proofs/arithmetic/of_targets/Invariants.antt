@@ -1,8 +1,0 @@
-use Rattle.std.proofs.Common.{◌≡◌, drop}
-use Rattle.cob_program.specs.SumView.{plain_sum}
-use Rattle.cob_edge_parts.specs.Parts.{targets_parts}
-use Rattle.edge_amounts.specs.Seeking.{sought}
-use Rattle.edge_amounts.proofs.arithmetic.of_targets.Given as goal
-
-abbrev pub invariant-loop-target : goal.invariant-loop-target
-invariant-loop-target l = sought (targets_parts (plain_sum l.common) (drop l.target-index l.targets)) l.left ≡ sought (targets_parts (plain_sum l.common) l.targets) l.fn.k
