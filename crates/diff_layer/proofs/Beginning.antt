@@ -21,7 +21,7 @@ use Rattle.diff_steps.specs.Steps.{all_closed}
 use Rattle.diff_steps.specs.Edges.{or_bottoms, no_bounds, entry_packs}
 use Rattle.diff_bounds.specs.PackRows.{width_of, row_of, matrices_beside}
 use Rattle.pack_laws.specs.Agreeing.{AreMatrices}
-use Rattle.diff_layer.specs.declared.plans.PackPlan.{PackPlan}
+use Rattle.diff_layer.specs.declared.pack.plans.PackPlan.{PackPlan}
 use Rattle.diff_layer.specs.Plans.{plain_plan, plain_plans, ArePlansOf, matrices_for, IsRowFor}
 use Rattle.pack_laws.specs.Layer.{sizes_of}
 use Rattle.pack_laws.proofs.Pieces.{matrices_back}

@@ -12,7 +12,7 @@ use Rattle.graph_runs.specs.Sources.{IsSourceGraph}
 use Rattle.cell_laws.specs.Layer.{left}
 use Rattle.cell_layer.specs.NumberedStatements.{act_in}
 use Rattle.cell_layer.specs.Works.{program_of, statement_of, act_of, IsLeft, IsWorkOf}
-use Rattle.diff_layer.specs.declared.plans.PackPlan.{PackPlan}
+use Rattle.diff_layer.specs.declared.pack.plans.PackPlan.{PackPlan}
 use Rattle.diff_layer.specs.Parts.{IsOfEdge}
 use Rattle.diff_layer.specs.AtMostOne.{all_of_edge_prop, plans_prop}
 use Rattle.diff_layer.specs.Plans.{ArePlansOf}

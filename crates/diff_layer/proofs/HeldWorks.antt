@@ -20,7 +20,7 @@ use Rattle.cell_steps.specs.OwnRanges.{owns}
 use Rattle.cell_layer.specs.declared.works.EdgeWorks.{EdgeWorks}
 use Rattle.cell_layer.specs.Held.{IsHeld}
 use Rattle.diff_steps.specs.Packs.{Pack}
-use Rattle.diff_layer.specs.declared.plans.PackPlan.{PackPlan}
+use Rattle.diff_layer.specs.declared.pack.plans.PackPlan.{PackPlan}
 use Rattle.diff_layer.specs.Edges.{packs_walked}
 use Rattle.diff_layer.specs.Plans.{ArePlansOf}
 use Rattle.diff_layer.specs.AtMostOne.{plans_prop}

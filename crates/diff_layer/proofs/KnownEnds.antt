@@ -17,7 +17,7 @@ use Rattle.cell_steps.specs.Storages.{known_of}
 use Rattle.cell_laws.proofs.CellLists.{known_fits}
 use Rattle.cell_layer.proofs.Stepping.{held_at}
 use Rattle.diff_steps.specs.Packs.{Pack, decimals_of, pack_decimals, unit_of}
-use Rattle.diff_layer.specs.declared.pack_closings.KnownCell.{KnownCell}
+use Rattle.diff_layer.specs.declared.pack.matrix_closing.KnownCell.{KnownCell}
 use Rattle.diff_layer.specs.KnownCells.{cell, known_cells, AreEnds, HasEnds, HaveEnds}
 use Rattle.diff_layer.specs.PackEnds.{IsNumber}
 use Rattle.diff_layer.specs.Plans.{IsShortHome}

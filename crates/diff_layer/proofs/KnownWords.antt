@@ -19,7 +19,7 @@ use Rattle.cell_steps.specs.Storages.{known_of}
 use Rattle.diff_steps.specs.Packs.{Pack, unit_of}
 use Rattle.diff_steps.specs.Matrices as pack
 use Rattle.diff_steps.specs.Matrices.{with_words, high_word, low_word, put_word, put_closed}
-use Rattle.diff_layer.specs.declared.pack_closings.KnownCell.{KnownCell}
+use Rattle.diff_layer.specs.declared.pack.matrix_closing.KnownCell.{KnownCell}
 use Rattle.diff_layer.specs.KnownCells.{cell, known_cells, cell_high, cell_low, put_high, put_low, put_cells, IsPutAt}
 use Rattle.diff_layer.proofs.SameWords.{with_words_is}
 

@@ -25,7 +25,7 @@ use Rattle.diff_bounds.specs.declared.Pack as declared
 use Rattle.diff_steps.specs.Packs.{Pack, size_of}
 use Rattle.diff_bounds.specs.PackRows.{width_of, matrices_in, row_of, matrices_beside, lists_of}
 use Rattle.pack_laws.specs.Agreeing.{AreMatrices, IsPackOf, ArePacksOf}
-use Rattle.diff_layer.specs.declared.plans.PackPlan.{PackPlan}
+use Rattle.diff_layer.specs.declared.pack.plans.PackPlan.{PackPlan}
 use Rattle.diff_layer.specs.Plans.{plain_plan, plain_plans, IsShortHome, ArePlansOf, matrices_for, IsRowFor}
 use Rattle.pack_laws.specs.Packs.{packs_of, ArePacksOfCells}
 use Rattle.pack_laws.specs.Layer.{Facts, ArePacks, sizes_of, diff_lattice, packs_post, diff_post}

@@ -11,7 +11,7 @@ use Rattle.diff_steps.specs.Clearing.{some_pack}
 use Rattle.diff_steps.specs.Packs.{Pack, size_of}
 use Rattle.pack_laws.specs.Agreeing.{AreMatrices}
 use Rattle.diff_bounds.specs.PackRows.{words_of, width_of}
-use Rattle.diff_layer.specs.declared.plans.PackPlan.{PackPlan}
+use Rattle.diff_layer.specs.declared.pack.plans.PackPlan.{PackPlan}
 use Rattle.diff_layer.specs.Closed.{IsClosedBy, AreClosedBy, IsClosedRow}
 use Rattle.diff_layer.specs.Plans.{plain_plan, plain_plans, matrices_for, IsRowFor}
 

@@ -4,7 +4,7 @@ use Rattle.std.proofs.lemmas.List.{length-map, map-append, take_more}
 use Rattle.cob_data.specs.declared.layout.Layout.{Layout}
 use Rattle.cob_graph.specs.declared.homes.Home.{Home}
 use Rattle.diff_bounds.specs.declared.Pack as declared
-use Rattle.diff_layer.specs.declared.plans.PackPlan.{PackPlan}
+use Rattle.diff_layer.specs.declared.pack.plans.PackPlan.{PackPlan}
 use Rattle.diff_layer.specs.Plans.{plain_plan, plain_plans}
 use Rattle.pack_laws.specs.Packs.{home_at, pack_in, packs_in}
 use Rattle.diff_layer.specs.Planning.{HasUnit, HaveUnits, IsPlanFor, ArePlansFor, sizes_in}

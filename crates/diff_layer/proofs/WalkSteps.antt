@@ -25,9 +25,9 @@ use Rattle.diff_steps.specs.Moments.{Bytes, Seen2}
 use Rattle.diff_steps.specs.Edges.{beginning2, finished2}
 use Rattle.diff_steps.specs.Clearing.{clears_part2}
 use Rattle.diff_layer.specs.PackWriting.{are_written}
-use Rattle.diff_layer.specs.declared.plans.PackPlan.{PackPlan}
-use Rattle.diff_layer.specs.declared.pack_edge.PackEdge.{PackEdge}
-use Rattle.diff_layer.specs.declared.pack_edge.PackState.{PackState}
+use Rattle.diff_layer.specs.declared.pack.plans.PackPlan.{PackPlan}
+use Rattle.diff_layer.specs.declared.pack.edge.PackEdge.{PackEdge}
+use Rattle.diff_layer.specs.declared.pack.edge.PackState.{PackState}
 use Rattle.diff_layer.specs.Closed.{IsClosedRow}
 use Rattle.diff_layer.specs.Plans.{plain_plans, matrices_for}
 use Rattle.diff_layer.specs.Walks.{seen2, passed_to, step2_small, steps2_small, clears_all2, closed_walked, closed_clears}

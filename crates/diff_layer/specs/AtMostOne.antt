@@ -14,7 +14,7 @@ use Rattle.interval_domain.specs.Known.{Known, KnownFits}
 use Rattle.interval_domain.specs.Elements.{CellsFit}
 use Rattle.cell_laws.specs.Sizes.{IsSmallPart}
 use Rattle.cell_layer.proofs.AtMostOne.{parts_prop}
-use Rattle.diff_layer.specs.declared.plans.PackPlan.{PackPlan}
+use Rattle.diff_layer.specs.declared.pack.plans.PackPlan.{PackPlan}
 use Rattle.diff_layer.specs.Parts.{IsOfEdge}
 use Rattle.diff_layer.specs.Plans.{IsShortHome, IsPlanOf, ArePlansOf}
 

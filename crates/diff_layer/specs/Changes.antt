@@ -26,7 +26,7 @@ use Rattle.diff_steps.specs.Guards.{related}
 use Rattle.diff_steps.specs.Steps.{by_outcome}
 use Rattle.diff_layer.specs.Receiving.{stored_at}
 use Rattle.diff_layer.specs.Views.{taken_at}
-use Rattle.diff_layer.specs.declared.gone.Gone.TheVariants as gone
+use Rattle.diff_layer.specs.declared.pack.gone.Gone.TheVariants as gone
 use Rattle.diff_layer.specs.Gone.{is_gone}
 
 -- ---- cells

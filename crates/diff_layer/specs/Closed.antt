@@ -8,7 +8,7 @@ use Rattle.cob_graph.specs.Homes.{homes_of}
 use Rattle.cell_steps.specs.Storages.{known_of}
 use Rattle.diff_steps.specs.Packs.{Pack}
 use Rattle.diff_steps.specs.Matrices.{put_closed}
-use Rattle.diff_layer.specs.declared.plans.PackPlan.{PackPlan}
+use Rattle.diff_layer.specs.declared.pack.plans.PackPlan.{PackPlan}
 use Rattle.diff_layer.specs.Plans.{plain_plans, matrices_for, IsRowFor}
 
 abbrev pub IsClosedBy : Program → List Known → Pack → List ℤ → Type 0

@@ -8,8 +8,8 @@ use Rattle.graph_runs.specs.Places.{no_edge}
 use Rattle.interval_domain.specs.Known.{Known}
 use Rattle.interval_domain.specs.Rows.{cells_of}
 use Rattle.diff_steps.specs.Packs.{Pack}
-use Rattle.diff_layer.specs.declared.pack_works.PackWorks.{PackWorks}
-use Rattle.diff_layer.specs.declared.pack_works.NodeRows.{NodeRows}
+use Rattle.diff_layer.specs.declared.layer.graph.PackWorks.{PackWorks}
+use Rattle.diff_layer.specs.declared.layer.graph.NodeRows.{NodeRows}
 use Rattle.diff_layer.specs.Plans.{plain_plans, matrices_for}
 
 abbrev pub program_of : PackWorks → Program

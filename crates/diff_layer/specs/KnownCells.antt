@@ -9,7 +9,7 @@ use Rattle.cob_graph.specs.declared.homes.Home.{Home}
 use Rattle.cell_steps.specs.Storages.{known_of}
 use Rattle.diff_steps.specs.Packs.{Pack, unit_of}
 use Rattle.diff_steps.specs.Matrices.{with_words, high_word, low_word}
-use Rattle.diff_layer.specs.declared.pack_closings.KnownCell.{KnownCell}
+use Rattle.diff_layer.specs.declared.pack.matrix_closing.KnownCell.{KnownCell}
 use Rattle.diff_layer.specs.PackEnds.{IsNumber}
 
 abbrev pub cell : Known → ℕ → KnownCell

@@ -24,4 +24,5 @@ pub mod Walks
 pub mod Planning
 pub mod Edges
 pub mod GraphWorks
+pub mod PackEdges
 pub mod LayerLaws

@@ -4,14 +4,19 @@ use Rattle.cob_program.specs.ActView.{plain_act}
 use Rattle.cob_program.specs.Act.{Act, Program}
 use Rattle.cell_layer.specs.Kept.{seen}
 use Rattle.cell_steps.specs.Seen.{Seen}
+use Rattle.interval_domain.specs.Known.{Known}
 use Rattle.diff_steps.specs.Packs.{Pack}
-use Rattle.diff_layer.specs.declared.moment.Moment.{Moment}
-use Rattle.diff_layer.specs.declared.moment.Matrices.{Matrices}
+use Rattle.diff_layer.specs.declared.pack.moment.Moment.{Moment}
+use Rattle.diff_layer.specs.declared.pack.moment.Matrices.{Matrices}
 use Rattle.diff_layer.specs.Plans.{plain_plans, ArePlansOf, matrices_for, IsRowFor}
-use Rattle.diff_layer.specs.Views.{program_of}
+use Rattle.diff_layer.specs.Views.{program_of, known_in}
 
 abbrev pub program_at : Moment → Program
 program_at moment = program_of moment.items
+
+-- what is known of cells
+abbrev pub known_at : Moment → List Known
+known_at moment = known_in moment.items
 
 abbrev pub act_at : Moment → Act
 act_at moment = plain_act moment.act.now

@@ -4,7 +4,7 @@ use Rattle.cob_program.specs.Act.{Program}
 use Rattle.interval_domain.specs.Known.{Known}
 use Rattle.interval_domain.specs.Rows.{cells_of}
 use Rattle.diff_layer.specs.Views.{program_of, known_in}
-use Rattle.diff_layer.specs.declared.passed.Passed.{Passed}
+use Rattle.diff_layer.specs.declared.pack.passed.Passed.{Passed}
 
 abbrev pub program_in : Passed → Program
 program_in passed = program_of passed.moment.items

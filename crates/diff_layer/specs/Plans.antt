@@ -8,7 +8,7 @@ use Rattle.cell_steps.specs.OwnRanges.{home_range}
 use Rattle.diff_steps.specs.Packs.{Pack, size_of, decimals_of, pack_decimals}
 use Rattle.diff_bounds.specs.PackRows.{width_of, matrices_in}
 use Rattle.pack_laws.specs.Agreeing.{AreMatrices}
-use Rattle.diff_layer.specs.declared.plans.PackPlan.{PackPlan}
+use Rattle.diff_layer.specs.declared.pack.plans.PackPlan.{PackPlan}
 
 abbrev pub plain_plan : PackPlan → Pack
 plain_plan plan = plan.cells.items

@@ -10,7 +10,7 @@ use Rattle.cob_graph.specs.declared.homes.Home.TheVariants.{Item as of_item}
 use Rattle.cell_steps.specs.Seen.{Seen}
 use Rattle.cell_layer.specs.declared.items.KnownItems.{KnownItems}
 use Rattle.diff_steps.specs.Packs.{Pack, cell_of, pack_decimals}
-use Rattle.diff_layer.specs.declared.pack.PackView.{PackView}
+use Rattle.diff_layer.specs.declared.forms.view.PackView.{PackView}
 
 abbrev pub plain_pack : PackView → Pack
 plain_pack pack = pack.cells.now

@@ -10,48 +10,8 @@
 //! matrix for a pack of `size` cells, at most 8, has `(size + 1)^2` words, row by row, as in `diff_bounds`.
 #![tactic(auto)]
 
-mod amounts;
-mod bounds;
-mod cells;
-mod changing;
-mod clearing;
-mod closing;
-mod counters;
-mod domain;
-mod edges;
-mod ends;
-mod entry;
-mod flowing;
-mod form_sums;
 mod forms;
-mod gone;
-mod guards;
-mod images;
 mod layer;
-mod literals;
-mod moment;
-mod node_clearing;
-mod operands;
-mod orders;
 mod pack;
-mod pack_changes;
-mod pack_closings;
-mod pack_counters;
-mod pack_edge;
-mod pack_gone;
-mod pack_stores;
-mod pack_works;
-mod passed;
-mod passing;
-mod planning;
-mod plans;
-mod receivers;
-mod senders;
-mod sides;
-mod stores;
-mod sums;
-mod taken;
-mod walking;
-mod writing;
 
-pub use layer::DiffLayer;
+pub use layer::diff_layer::DiffLayer;

@@ -1,5 +1,0 @@
-use Rattle.diff_layer.proofs.PackForms.{constant_is}
-use Rattle.diff_layer.proofs.forms.constant.Goals as goal
-
-pub returns : goal.returns
-returns c = constant_is c.args.numbers

@@ -1,0 +1,23 @@
+use Rattle.std.proofs.Common.{sym, ap, subst, arith}
+use Rattle.diff_bounds.specs.Matrix.{IsMatrix}
+use Rattle.diff_steps.specs.Packs.{size_of}
+use Rattle.diff_layer.specs.Plans.{plain_plan}
+use Rattle.diff_layer.specs.Views.{program_of}
+use Rattle.diff_layer.proofs.KnownEnds.{few_decimals}
+use Rattle.diff_layer.proofs.pack.ends.pack_shows.Goals as goal
+
+pub view_of-pack-requires-clause-small : goal.view_of-pack-requires-clause-small
+view_of-pack-requires-clause-small c =
+    let few = few_decimals (program_of c.args.moment.now.items).layout (plain_plan c.args.plan.now) c.requires.plan.short in
+    let unit = c.requires.plan.unit in
+    omega (arith, few, unit)
+
+pub end_fits-requires-clause-decimals : goal.end_fits-requires-clause-decimals
+end_fits-requires-clause-decimals c =
+    let few = few_decimals (program_of c.args.moment.now.items).layout (plain_plan c.args.plan.now) c.requires.plan.short in
+    let unit = c.requires.plan.unit in
+    omega (arith, few, unit)
+
+pub end_fits-requires-clause-m : goal.end_fits-requires-clause-m
+end_fits-requires-clause-m c =
+    subst (λ n. IsMatrix n c.args.m.now) (sym (ap size_of c.view_of-pack.ensures.pack)) c.requires.matrix

@@ -1,5 +1,0 @@
-use Rattle.diff_layer.proofs.Places.{place_from_first}
-use Rattle.diff_layer.proofs.pack.place_of.Goals as goal
-
-pub loop-k-init : goal.loop-k-init
-loop-k-init c = place_from_first c.args.sought c.args.cells.now

@@ -1,5 +1,0 @@
-use Rattle.std.proofs.Common.{length}
-use Rattle.diff_layer.proofs.passing.+pass_packs.Given as goal
-
-abbrev pub decreases-pass_packs : goal.decreases-pass_packs
-decreases-pass_packs l = length l.plans.now
