@@ -69,7 +69,8 @@ module _ (p : Program) (g : Graph) where
 
   -- it has a matrix for each of the program's packs, and the edges keep them beside what it says of cells
   pub record KeepsMatrices (a : Assignment) : Type 0 where
-    pub fits : (node : ℕ) → IsNode (cell_flow p g) node → matrices_in (sizes_of (packs_for p)) (matrices_row a node) ≡ a.matrices node
+    pub fits : (node : ℕ) → IsNode (cell_flow p g) node
+        → matrices_in (sizes_of (packs_for p)) (matrices_row a node) ≡ a.matrices node
     pub inductive : IsInductive (pack_lattice p) (pack_flow p g (cells_row p a)) (matrices_row a)
 
   -- The edges keep what it says of cells, and go back to no node but where all ends are thresholds.
@@ -80,7 +81,8 @@ module _ (p : Program) (g : Graph) where
   -- The edges keep its matrices, and go back to no node but where all words are thresholds or none.
   pub record IsPackAssignment (a : Assignment) : Type 0 where
     pub kept : KeepsMatrices a
-    pub heads : (node : ℕ) → IsHead (cell_flow p g) node → IsListedRow (sizes_of (packs_for p)) (pack_lists p) (matrices_row a node)
+    pub heads : (node : ℕ) → IsHead (cell_flow p g) node
+        → IsListedRow (sizes_of (packs_for p)) (pack_lists p) (matrices_row a node)
 
   -- ---- what is cleared
 
@@ -91,8 +93,8 @@ module _ (p : Program) (g : Graph) where
   -- What some such assignment clears at every node of a statement isn't open.
   abbrev pub MissesNothing : Certificate → Type 0
   MissesNothing c =
-      (a : Assignment) → IsThresholdAssignment a → (statement : ℕ) (fault : Kind) → is_cleared_in a statement fault ≡ true
-      → ¬ Contains (open_pairs p g c) (open_at statement fault)
+      (a : Assignment) → IsThresholdAssignment a → (statement : ℕ) (fault : Kind)
+      → is_cleared_in a statement fault ≡ true → ¬ Contains (open_pairs p g c) (open_at statement fault)
 
   -- at each node of the statement some layer shows it
   abbrev pub is_cleared_by_both : Assignment → ℕ → Kind → Bool
@@ -120,10 +122,11 @@ module _ (p : Program) (g : Graph) where
 
 -- ---- certificates
 
--- What a certificate claims of cells is such an assignment, where it has no leak and where at each node to which an edge goes
--- back all ends are thresholds as they are written.
+-- What a certificate claims of cells is such an assignment, where it has no leak and where at each node to which an
+-- edge goes back all ends are thresholds as they are written.
 abbrev pub CertificatesAssign : Type 0
 CertificatesAssign =
     (p : Program) (g : Graph) (c : Certificate) → ∥ IsSourceGraph p g ∥₁ → cell_leaks p g c ≡ []
-    → ((node : ℕ) → IsHead (cell_flow p g) node → IsListedElement (thresholds_of p) (written_element (length (owns p)) (place_at c node)))
+    → ((node : ℕ) → IsHead (cell_flow p g) node
+    → IsListedElement (thresholds_of p) (written_element (length (owns p)) (place_at c node)))
     → IsThresholdAssignment p g (assignment_of p g c)

@@ -33,5 +33,6 @@ module _ (p : Program) (g : Graph) where
     pub ready : ArePacksReady p
     pub cells_found : AreFoundCells assignment
     pub bounds_found : AreFoundBounds assignment
-    pub is : c ≡ certificate_for (length (cells_of p)) (packs_of p) (length g.nodes) assignment.cells (matrices_row assignment)
+    pub is : c
+        ≡ certificate_for (length (cells_of p)) (packs_of p) (length g.nodes) assignment.cells (matrices_row assignment)
     pub pairs_are : pairs ≡ open_pairs p g (packs_of p) assignment

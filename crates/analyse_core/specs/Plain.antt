@@ -49,4 +49,5 @@ module _ (p : Program) (g : Graph) where
 
 -- Without edges that go back, the plain evaluation is an assignment that the analysis doesn't miss.
 abbrev pub PlainEvaluationAssigns : Type 0
-PlainEvaluationAssigns = (p : Program) (g : Graph) → ∥ IsSourceGraph p g ∥₁ → GoesOn p g → IsThresholdAssignment p g (plain_assignment p g)
+PlainEvaluationAssigns =
+    (p : Program) (g : Graph) → ∥ IsSourceGraph p g ∥₁ → GoesOn p g → IsThresholdAssignment p g (plain_assignment p g)

@@ -1,4 +1,4 @@
--- Rows as the solver leaves them: the edges keep them, and they lie below all such rows that widening leaves at the heads.
+-- Rows as the solver leaves them: the edges keep them, and they lie below all such rows that widening leaves at heads.
 use Rattle.std.specs.Prelude.{ℕ, List, ℤ}
 use Rattle.cob_program.specs.Act.{Program}
 use Rattle.cob_graph.specs.declared.graph.Graph.{Graph}
@@ -24,5 +24,7 @@ module _ (p : Program) (g : Graph) where
 
 -- the assignment of rows of both layers
 abbrev pub solved : Program → (ℕ → List ℤ) → (ℕ → List ℤ) → Assignment
-solved p rows bounds =
-    record { cells = λ node. element_of (rows node); matrices = λ node. matrices_in (sizes_of (packs_for p)) (bounds node) }
+solved p rows bounds = record {
+  cells = λ node. element_of (rows node);
+  matrices = λ node. matrices_in (sizes_of (packs_for p)) (bounds node);
+}

@@ -69,8 +69,8 @@ fn solve_beside<L: Ledger>(
     ensures solved { IfOk result (λ beside. AreSolvedBounds (plain_program layer.now.program.now) layer.now.graph.now
         (row_at rows.now.rows) (row_at beside.bounds.rows)) }
     ensures pairs { let p = plain_program layer.now.program.now in
-        IfOk result (λ beside. beside.pairs.items
-        ≡ open_pairs_of p layer.now.graph.now (packs_of p) (solved p (row_at rows.now.rows) (row_at beside.bounds.rows))) }
+        IfOk result (λ beside. beside.pairs.items ≡ open_pairs_of p layer.now.graph.now (packs_of p)
+        (solved p (row_at rows.now.rows) (row_at beside.bounds.rows))) }
     ensures at_least { steps.old ≤ steps.new }
     ensures at_most { let p = plain_program layer.now.program.now in
         steps.new ≤ steps.old + pack_steps p layer.now.graph.now (packs_of p) }
@@ -100,8 +100,10 @@ fn found_by<B: Rows>(
     requires beside { AreSolvedBounds (plain_program layer.now.program.now) layer.now.graph.now
         (row_at rows.now.rows) (B.row_at bounds.now) }
     requires pairs { let p = plain_program layer.now.program.now in
-        pairs.items ≡ open_pairs_of p layer.now.graph.now (packs_of p) (solved p (row_at rows.now.rows) (B.row_at bounds.now)) }
-    ensures { IfOk result (λ found. IsFound (plain_program layer.now.program.now) layer.now.graph.now (view found.cert) found.pairs.items) }
+        pairs.items ≡ open_pairs_of p layer.now.graph.now (packs_of p)
+        (solved p (row_at rows.now.rows) (B.row_at bounds.now)) }
+    ensures { IfOk result (λ found. IsFound (plain_program layer.now.program.now) layer.now.graph.now
+        (view found.cert) found.pairs.items) }
 {
     let cells = layer.graph.cells.get().len() as u32;
     let cert = certificate_of(alloc, packs, rows, bounds, layer.nodes(), cells)?;
@@ -120,7 +122,8 @@ fn solve_layers<L: Ledger>(
     requires limits { IsWithinLimits layer.now.graph.now }
     requires thresholds { lists_of layer.now.thresholds.now ≡ thresholds_of (plain_program layer.now.program.now) }
     requires packs { ArePacksGiven (plain_program layer.now.program.now) packs.items lists.now }
-    ensures found { IfOk result (λ found. IsFound (plain_program layer.now.program.now) layer.now.graph.now (view found.cert) found.pairs.items) }
+    ensures found { IfOk result (λ found. IsFound (plain_program layer.now.program.now) layer.now.graph.now
+        (view found.cert) found.pairs.items) }
     ensures at_least { OnOk result (steps.old + length layer.now.graph.now.edges ≤ steps.new) }
     ensures at_most { steps.new ≤ steps.old + most_steps (plain_program layer.now.program.now) layer.now.graph.now }
 {
@@ -152,7 +155,8 @@ fn found_for<L: Ledger>(
 ) -> Result<Found, AllocError>
     requires source { ∥ IsSourceGraph (plain_program program.now) graph.now ∥₁ }
     requires limits { IsWithinLimits graph.now }
-    ensures found { IfOk result (λ found. IsFound (plain_program program.now) graph.now (view found.cert) found.pairs.items) }
+    ensures found { IfOk result (λ found. IsFound (plain_program program.now) graph.now
+        (view found.cert) found.pairs.items) }
     ensures at_least { OnOk result (steps.old + length graph.now.edges ≤ steps.new) }
     ensures at_most { steps.new ≤ steps.old + most_steps (plain_program program.now) graph.now }
 {
@@ -169,8 +173,8 @@ fn found_for<L: Ledger>(
 }
 
 /// Analyses a program: the certificate of what the first layer knows of its cells at each node of its graph, and, where
-/// the program has packs, of what the second one knows of their differences beside it, with the pairs that it leaves open.
-/// Both are solved with thresholds by the program's literals (Cousot and Cousot 1977, Miné 2001).
+/// the program has packs, of what the second one knows of their differences beside it, with the pairs that it leaves
+/// open. Both are solved with thresholds by the program's literals (Cousot and Cousot 1977, Miné 2001).
 pub fn find<L: Ledger>(
     alloc: Global,
     program: &Program,
@@ -183,11 +187,13 @@ pub fn find<L: Ledger>(
     ensures packs { IfOk result (λ found. (view found.cert).packs ≡ packs_of (plain_program program.now)) }
     ensures accepted { IfOk result (λ found. Accepts (plain_program program.now) graph.now (view found.cert)
         (open_pairs (plain_program program.now) graph.now (view found.cert))) }
-    ensures pairs { IfOk result (λ found. found.pairs.items ≡ open_pairs (plain_program program.now) graph.now (view found.cert)) }
+    ensures pairs { IfOk result (λ found. found.pairs.items
+        ≡ open_pairs (plain_program program.now) graph.now (view found.cert)) }
     // Nothing is missed that some assignment with thresholds at its heads can show.
     ensures complete { IfOk result (λ found. MissesNothing (plain_program program.now) graph.now (view found.cert)) }
     // Nothing is missed that such an assignment of packs beside it can show with it.
-    ensures together { IfOk result (λ found. MissesNothingTogether (plain_program program.now) graph.now (view found.cert)) }
+    ensures together { IfOk result (λ found. MissesNothingTogether (plain_program program.now) graph.now
+        (view found.cert)) }
     ensures at_least { OnOk result (steps.old + length graph.now.edges ≤ steps.new) }
     ensures at_most { steps.new ≤ steps.old + most_steps (plain_program program.now) graph.now }
 {

@@ -49,7 +49,8 @@ pub fn solve_cells<L: Ledger>(
     requires cells { length (owns (plain_program layer.now.program.now)) ≤ most_cells }
     requires thresholds { lists_of layer.now.thresholds.now ≡ thresholds_of (plain_program layer.now.program.now) }
     ensures nodes { IfOk result (λ rows. length rows.rows ≡ length layer.now.graph.now.nodes) }
-    ensures solved { IfOk result (λ rows. AreSolvedCells (plain_program layer.now.program.now) layer.now.graph.now (row_at rows.rows)) }
+    ensures solved { IfOk result (λ rows. AreSolvedCells (plain_program layer.now.program.now) layer.now.graph.now
+        (row_at rows.rows)) }
     ensures at_least { OnOk result (steps.old + length layer.now.graph.now.edges ≤ steps.new) }
     ensures at_most { let p = plain_program layer.now.program.now in
         steps.new ≤ steps.old + layer_steps p layer.now.graph.now (height_of (thresholds_of p)) }

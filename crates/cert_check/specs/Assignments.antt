@@ -51,7 +51,8 @@ comes_along p g a (suc e) = post_at p g (suc e) (a.cells (edge_at g (suc e)).fro
 abbrev pub matrices_along : Program → Graph → List (List ℕ) → Assignment → ℕ → List (List ℤ)
 matrices_along p g packs a zero = entry_packs p (packs_with p packs) (entry_cells p)
 matrices_along p g packs a (suc e) =
-    packs_post p g (packs_with p packs) (edge_at g (suc e)) (a.cells (edge_at g (suc e)).from) (a.matrices (edge_at g (suc e)).from)
+    packs_post p g (packs_with p packs) (edge_at g (suc e)) (a.cells (edge_at g (suc e)).from)
+    (a.matrices (edge_at g (suc e)).from)
 
 -- ---- as rows
 
@@ -72,16 +73,17 @@ leak layer edge gap = record { layer = layer; edge = edge; gap = gap }
 abbrev pub leaks_of : Graph → ℕ → (ℕ → List Gap) → List Leak
 leaks_of g layer gaps_of = flat_map (λ e. map (leak layer e) (gaps_of e)) (range_with_len 0 (suc (length g.edges)))
 
--- What comes along edges is compared with what is written of nodes, as it is written. Where nothing is, there is no gap.
+-- What comes along edges is compared with what is written of their targets, as it is written, if anything is.
 module _ (p : Program) (g : Graph) (packs : List (List ℕ)) (a : Assignment) (written : ℕ → Option Place) where
   abbrev pub edge_gaps : ℕ → List Gap
   edge_gaps e = option_map_or (gaps (length (owns p)) (comes_along p g a e)) (written (leads_to g e)) []
 
+  abbrev pub matrix_gaps : List ℕ → ℕ → Place → List Gap
+  matrix_gaps sizes e place =
+      matrices_gaps.gaps sizes (row_of (matrices_along p g packs a e)) (matrices.claimed_row sizes place)
+
   abbrev pub pack_gaps : ℕ → List Gap
-  pack_gaps e =
-      option_map_or
-      (λ place. matrices_gaps.gaps (matrices.sizes_of packs) (row_of (matrices_along p g packs a e)) (matrices.claimed_row (matrices.sizes_of packs) place))
-      (written (leads_to g e)) []
+  pack_gaps e = option_map_or (matrix_gaps (matrices.sizes_of packs) e) (written (leads_to g e)) []
 
   -- the places at which what is known of cells isn't kept, edge by edge
   abbrev pub cell_leaks : List Leak

@@ -113,8 +113,9 @@ fn pairs_by<L: Layer, R: Rows>(
     Ok(pairs)
 }
 
-/// The faults that some node of a statement doesn't clear by its row, by statement, then by kind, for rows that all edges
-/// of a layer keep: no edge is gone over again. They are the open pairs of each assignment that says what the rows show.
+/// The faults that some node of a statement doesn't clear by its row, by statement, then by kind, for rows that all
+/// edges of a layer keep: no edge is gone over again. They are the open pairs of each assignment that says what the
+/// rows show.
 pub fn open_pairs<L: Layer, R: Rows>(
     alloc: Global,
     layer: &L,
@@ -126,7 +127,8 @@ pub fn open_pairs<L: Layer, R: Rows>(
     requires count { (L.flow layer.now).nodes ≤ R.count rows.now }
     requires inductive { IsInductive (L.lattice layer.now) (L.flow layer.now) (R.row_at rows.now) }
     ensures { IfOk result (λ pairs. (packs : List (List ℕ)) (a : Assignment)
-        → TestsTell (L.flow layer.now) (L.meaning layer.now) (R.row_at rows.now) (clears (plain_program program.now) graph.now packs a)
+        → TestsTell (L.flow layer.now) (L.meaning layer.now) (R.row_at rows.now)
+        (clears (plain_program program.now) graph.now packs a)
         → pairs.items ≡ open_pairs (plain_program program.now) graph.now packs a) }
 {
     pairs_by(alloc, layer, rows, graph, program.statements)

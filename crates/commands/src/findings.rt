@@ -39,7 +39,8 @@ pub struct Findings {
 // The texts of what was found.
 fn texts_of(alloc: Global, laid: &Laid, found: &Found) -> Result<Findings, Stop>
     requires found { IsFound (analysis (plain_program laid.now.program) laid.now.graph (view found.now.cert)) }
-    requires pairs { found.now.pairs.items ≡ pairs_of (analysis (plain_program laid.now.program) laid.now.graph (view found.now.cert)) }
+    requires pairs { found.now.pairs.items
+        ≡ pairs_of (analysis (plain_program laid.now.program) laid.now.graph (view found.now.cert)) }
     ensures { MatchResult result
         (IsFinding [] (analysis (plain_program laid.now.program) laid.now.graph (view found.now.cert)))
         (λ stop. stop ≡ Stop.Memory) }
