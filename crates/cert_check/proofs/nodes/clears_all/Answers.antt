@@ -13,6 +13,6 @@ pub returns : goal.returns
 returns g c = λ clears tell.
     let node = c.args.node in
     same_kinds c.cleared.result (kinds_of (clears node)) (λ kind.
-        clears_tell (has c.cleared.result kind) (clears node kind) (λ row. (g.L.Layer.meaning c.args.layer.now).Clears node row kind)
-        c.row.result.now (g.R.Rows.row_at c.args.rows.now node) c.row.ensures (c.cleared.ensures kind) (tell node kind c.requires.node)
-        ∙ sym (has_kinds_of (clears node) kind))
+    clears_tell (has c.cleared.result kind) (clears node kind) (λ row. (g.L.Layer.meaning c.args.layer.now).Clears node row kind)
+    c.row.result.now (g.R.Rows.row_at c.args.rows.now node) c.row.ensures (c.cleared.ensures kind) (tell node kind c.requires.node)
+    ∙ sym (has_kinds_of (clears node) kind))
