@@ -3,12 +3,14 @@ pub mod Literal
 pub mod Text
 pub mod Run
 pub mod Plain
+pub mod Characters
 pub mod Marks
 pub mod Words
+pub mod Tokens
 pub mod Cuts
 pub mod Bounds
-pub mod Pieces
 pub mod Spelled
+pub mod Pieces
 pub mod Rows
 pub mod Canonical
 pub mod Scan

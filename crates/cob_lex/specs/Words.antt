@@ -4,7 +4,7 @@ use Rattle.std.specs.Char.{to_ascii_uppercase}
 use Rattle.cob_lex.specs.declared.text.Mark.{Mark}
 use Rattle.cob_tree.specs.declared.keyword.Keyword.{Keyword}
 use Rattle.cob_tree.specs.Keywords.{keyword_of}
-use Rattle.cob_lex.specs.Marks.{ch_at, is_letter, is_digit, is_word_character}
+use Rattle.cob_lex.specs.Characters.{ch_at, is_letter, is_digit, is_word_character}
 
 -- the characters in capitals
 abbrev pub raised : List Mark → List ℕ
