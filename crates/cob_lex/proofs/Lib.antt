@@ -17,6 +17,8 @@ pub mod RunsFound
 pub mod RowsCut
 pub mod Found
 pub mod Spelling
+pub mod EachToken
+pub mod Spellable
 pub mod Scans
 pub mod Most
 pub mod TextLengths

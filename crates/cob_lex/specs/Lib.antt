@@ -13,5 +13,6 @@ pub mod Spelled
 pub mod Pieces
 pub mod Rows
 pub mod Canonical
+pub mod Spellable
 pub mod Scan
 pub mod Few

@@ -24,7 +24,10 @@ mod token;
 mod word;
 
 use cob_tree::Token;
-pub use laws::{one_spelling, one_stop, sources_have_few_tokens, texts_stand_doubled};
+pub use laws::{
+    canonical_tokens_are_spellable, one_spelling, one_stop, printed_tokens_are_read,
+    sources_have_few_tokens, texts_stand_doubled,
+};
 use piece::{Piece, raw_tokens};
 use row::rewritten;
 pub use scan::{ScanEnd, tokens_in};
