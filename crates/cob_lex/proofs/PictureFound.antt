@@ -119,7 +119,9 @@ found_in text (m ∷ ms) rest c parts all space e = by_last (is_point_comma_semi
         let t = taken (m ∷ ms) c e in
         let same = stripped_not (m ∷ ms) f in
         record {
-          front = m ∷ ms; behind = rest; parts = parts;
+          front = m ∷ ms;
+          behind = rest;
+          parts = parts;
           is = record { some = omega arith; solid = all };
           ends = inl (space, f);
           cut_is = subst (λ (xs : List Mark). token_of_len PictureString (length xs) ≡ c) same t.1;
@@ -129,7 +131,8 @@ found_in text (m ∷ ms) rest c parts all space e = by_last (is_point_comma_semi
         let l = last_of m ms in
         let whole : stripped (m ∷ ms) ≡ l.before = stripped_off (m ∷ ms) f ∙ subst (λ (xs : List Mark). take (length xs - 1) xs ≡ l.before) (sym l.parts) (without_last l.before l.last) in
         record {
-          front = l.before; behind = l.last ∷ rest;
+          front = l.before;
+          behind = l.last ∷ rest;
           parts = parts ∙ ap (λ (xs : List Mark). xs ++ rest) l.parts ∙ append_assoc l.before (l.last ∷ []) rest;
           is = record { some = subst (λ (xs : List Mark). 0 < length xs) whole t.0; solid = all_before l.before l.last (subst (λ (xs : List Mark). list_all is_no_space xs ≡ true) l.parts all) };
           ends = inr (ap is_point_comma_semicolon (sym l.ch) ∙ f, space);

@@ -141,7 +141,7 @@ nothing_cut free due (m ∷ ms) some none = by_cut (cut (at free due) (m ∷ ms)
 pub stopped_is_refused : (text : List Mark) (p : Place) → IsStopped text p → raw_tokens text ≡ Err p
 stopped_is_refused text p h =
     let none = nothing_cut (free_behind false h.parts) (due_at Nothing h.parts) h.left h.some
-        (λ x rest e stands. h.no_further x rest e (stand_more false Nothing h.parts x rest (subst (λ (t : List Mark). StandBehind false Nothing h.parts t) e h.stand) stands)) in
+    (λ x rest e stands. h.no_further x rest e (stand_more false Nothing h.parts x rest (subst (λ (t : List Mark). StandBehind false Nothing h.parts t) e h.stand) stands)) in
     ap (λ (t : List Mark). read 0 beginning 0 t) h.whole
     ∙ read_stand 0 false Nothing h.parts h.left (Err (place_of (first h.left))) h.stand (λ k. read_stops_here k (at (free_behind false h.parts) (due_at Nothing h.parts)) h.left h.some none)
     ∙ ap Err (sym h.place_is)
@@ -199,7 +199,11 @@ pub stopped_at : (text : List Mark) (p : Place) → raw_tokens text ≡ Err p �
 stopped_at text p e =
     let h = read_is text (Err p) e in
     record {
-      parts = h.0; left = h.1; whole = h.2; stand = h.3; some = h.4;
+      parts = h.0;
+      left = h.1;
+      whole = h.2;
+      stand = h.3;
+      some = h.4;
       no_further = λ x rest same stand. none_further (free_behind false h.0) (due_at Nothing h.0) h.1 h.5 x rest same (stand_last false Nothing h.0 x rest stand);
       place_is = h.6;
     }

@@ -451,8 +451,8 @@ fn keyword_among(name: &[u8], keywords: &[Keyword]) -> Option<Keyword>
 
 /// How many reserved words there are before those that begin with A, with B and so on; and how many in all.
 const STARTS: [usize; 27] = [
-    0, 8, 12, 23, 27, 45, 50, 53, 55, 63, 63, 63, 68, 71, 75, 84,
-    92, 94, 103, 117, 126, 128, 131, 135, 135, 135, 138,
+    0, 8, 12, 23, 27, 45, 50, 53, 55, 63, 63, 63, 68, 71, 75, 84, 92, 94, 103, 117, 126, 128, 131,
+    135, 135, 135, 138,
 ];
 
 /// The reserved words that may begin with this character.
