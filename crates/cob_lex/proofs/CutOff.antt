@@ -16,7 +16,8 @@ use Rattle.cob_lex.specs.declared.cut.Due.TheVariants.{Nothing}
 use Rattle.cob_lex.specs.declared.cut.State.{State}
 use Rattle.cob_lex.specs.declared.cut.Cut.{Cut}
 use Rattle.cob_lex.specs.Marks.{class_of, run_len, run_of}
-use Rattle.cob_lex.specs.Words.{is_word, is_unsigned, spelled_keyword}
+use Rattle.cob_lex.specs.Words.{spelled_keyword}
+use Rattle.cob_lex.specs.WordTests.{is_word, is_unsigned}
 use Rattle.cob_lex.specs.Cuts.{token_of_len, ended, is_lone_hyphen, run_token, plus_token, token_by, cut}
 use Rattle.cob_lex.specs.Characters.{ch_at, is_letter, is_digit, is_word_character, is_gap, ends_rightly, goes_on}
 use Rattle.cob_lex.specs.Tokens.{is_word_mark, is_point, is_decimal_mark, is_digit_mark, IsWord, IsUnsigned, NumberFollows}

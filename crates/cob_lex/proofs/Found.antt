@@ -17,7 +17,7 @@ use Rattle.cob_lex.specs.declared.cut.State.{State}
 use Rattle.cob_tree.specs.declared.keyword.Keyword.TheVariants.{Is}
 use Rattle.cob_lex.specs.declared.cut.Cut.{Cut}
 use Rattle.cob_lex.specs.Marks.{class_of, run_len, run_of, literal_len, content, solid_len}
-use Rattle.cob_lex.specs.Words.{is_unsigned}
+use Rattle.cob_lex.specs.WordTests.{is_unsigned}
 use Rattle.cob_lex.specs.Cuts.{token_of_len, gap, single, ended, run_token, plus_token, point_token, angle_token, is_literal, literal_token, picture_token, is_is, token_by, cut}
 use Rattle.cob_lex.specs.Characters.{ch_at, is_digit, is_word_character, is_gap, ends_rightly}
 use Rattle.cob_lex.specs.Literal.{is_quotation}

@@ -7,7 +7,7 @@ use Rattle.std.proofs.lemmas.Bool.Decides.{nat_tests}
 use Rattle.std.proofs.lemmas.List.Sums.{sum_by-cons, count_by-le-length}
 use Rattle.cob_lex.specs.declared.text.Mark.{Mark}
 use Rattle.cob_lex.specs.Characters.{is_digit}
-use Rattle.cob_lex.specs.Words.{is_word, is_unsigned}
+use Rattle.cob_lex.specs.WordTests.{is_word, is_unsigned}
 use Rattle.cob_lex.specs.Tokens.{is_word_mark, is_point, is_decimal_mark, is_digit_mark, IsWord, IsUnsigned}
 
 abbrev weight : Bool → ℕ

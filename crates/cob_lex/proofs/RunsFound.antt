@@ -11,7 +11,8 @@ use Rattle.cob_lex.specs.declared.cut.Shape.TheVariants.{Word, Number, Symbol}
 use Rattle.cob_lex.specs.declared.cut.Due.TheVariants.{Nothing}
 use Rattle.cob_lex.specs.declared.cut.Cut.{Cut}
 use Rattle.cob_lex.specs.Marks.{run_len, run_of}
-use Rattle.cob_lex.specs.Words.{is_word, is_unsigned, is_minus, spelled_keyword}
+use Rattle.cob_lex.specs.Words.{spelled_keyword}
+use Rattle.cob_lex.specs.WordTests.{is_word, is_unsigned, is_minus}
 use Rattle.cob_lex.specs.Cuts.{token_of_len, single, ended, is_lone_hyphen, run_token}
 use Rattle.cob_lex.specs.Characters.{ch_at, is_digit, is_sign, ends_rightly, goes_on}
 use Rattle.cob_lex.specs.Tokens.{Stands, IsUnsigned, is_mark, MarkEnds, is_decimal_mark, without_sign, with_sign, a_word, a_number, a_mark}

@@ -3,6 +3,8 @@ use Rattle.std.proofs.Common.{◌≡◌, ◌⊎◌, inl, inr, ℕ, suc, ◌+◌,
 use Rattle.std.specs.Prelude.{◌||◌}
 use Rattle.std.specs.List.{list_all, AllByRecursion, All}
 use Rattle.std.specs.Str.{bytes_eq}
+use Rattle.std.specs.Char.{to_ascii_uppercase}
+use Rattle.std.specs.Prelude.{IfSome}
 use Rattle.std.proofs.lemmas.Bool.{and_parts, eq-eqb}
 use Rattle.std.proofs.lemmas.Bool.Decides.{nat_tests}
 use Rattle.std.proofs.lemmas.Slice.Eq.{bytes_eq-Decides}
@@ -12,7 +14,8 @@ use Rattle.cob_tree.specs.declared.token.Rel.TheVariants.{Equal, Less, Greater, 
 use Rattle.cob_tree.specs.declared.token.Tok.{Tok}
 use Rattle.cob_tree.specs.declared.token.Token.{Token}
 use Rattle.cob_tree.specs.Keywords.{text_of, keywords, keyword_among, keyword_of}
-use Rattle.cob_tree.proofs.KeywordLemmas.{keyword_of-text}
+use Rattle.cob_tree.proofs.KeywordLemmas.{keyword_of-text, among-written}
+use Rattle.cob_tree.specs.declared.keyword.Keyword.TheVariants.{Is}
 use Rattle.cob_lex.specs.declared.text.Mark.{Mark}
 use Rattle.cob_lex.specs.declared.cut.Shape.{Shape}
 use Rattle.cob_lex.specs.declared.cut.Shape.TheVariants.{Word, Number, Padded, Literal, Symbol, Relation, Stop, PictureString}
@@ -20,8 +23,9 @@ use Rattle.cob_lex.specs.declared.cut.Due.{Due}
 use Rattle.cob_lex.specs.declared.cut.Due.TheVariants.{Nothing, BehindPic, BehindIs}
 use Rattle.cob_lex.specs.declared.piece.Piece.{Piece}
 use Rattle.cob_lex.specs.Characters.{ch_at, last_ch, characters, is_digit, is_gap, goes_on, ends_rightly}
-use Rattle.cob_lex.specs.Words.{raised, spelled_keyword, is_word}
-use Rattle.cob_lex.specs.Tokens.{IsNumber, IsUnsigned, without_sign, with_sign, is_decimal_mark, is_digit_mark, is_point, written_relation, is_strict, RelationEnds, MarkEnds, NumberFollows, Stands, a_separator, a_word, a_number, a_text, a_mark, a_relation, a_stop, the_word_is, a_picture, is_opening, due_after}
+use Rattle.cob_lex.specs.Words.{raised, spelled_keyword}
+use Rattle.cob_lex.specs.WordTests.{is_word}
+use Rattle.cob_lex.specs.Tokens.{IsNumber, IsUnsigned, without_sign, with_sign, is_decimal_mark, is_digit_mark, is_point, written_relation, is_strict, RelationEnds, MarkEnds, NumberFollows, IsFollows, Stands, a_separator, a_word, a_number, a_text, a_mark, a_relation, a_stop, the_word_is, a_picture, is_opening, due_after}
 use Rattle.cob_lex.specs.Spelled as spelled
 use Rattle.cob_lex.specs.Spelled.{Part, StandBehind, pieces, IsSpelled}
 use Rattle.cob_lex.specs.Rows.{rewritten}
@@ -30,7 +34,8 @@ use Rattle.cob_lex.specs.declared.refusal.Place.{Place}
 use Rattle.cob_lex.specs.Text.{numbered_lines}
 use Rattle.cob_lex.specs.Plain.{IsPlain, plain_text}
 use Rattle.cob_lex.specs.Scan.{Tokens, ScansBy, Scans}
-use Rattle.cob_lex.specs.Spellable.{IsOwn, IsSpellable, IsSpellableToken, AreSpellable, ends_before_stop, IsSpaced, IsPlaced, IsPrinted, tokens_of}
+use Rattle.cob_lex.specs.Spellable.{IsOwn, IsSpellable, IsSpellableToken, AreSpellable}
+use Rattle.cob_lex.specs.Printed.{ends_before_stop, is_letter_i, IsSpaced, IsPlaced, IsPrinted, tokens_of}
 use Rattle.cob_lex.proofs.PlainLemmas.{plain_source}
 use Rattle.cob_lex.proofs.RowsCut.{one_character}
 use Rattle.cob_lex.proofs.Runs.{count_on, weight, or_first}
@@ -202,6 +207,26 @@ no_number_at_space behind space h = by_first h.number h.is (subst (λ (t : List 
 mark_ends : (free : Bool) (ch : ℕ) (behind : List Mark) → ch_at behind 0 ≡ 32 → MarkEnds free ch behind
 mark_ends free ch behind e = record { hyphen = λ h. rw e refl; plus = λ h f. no_number_at_space behind e }
 
+-- the word IS begins with an I
+capital_i : (ch : ℕ) → to_ascii_uppercase ch ≡ 73 → is_letter_i ch ≡ true
+capital_i ch e = grind (arith, nat_tests)
+
+written_is : (word : List Mark) → spelled_keyword word ≡ Some Is → text_of Is ≡ raised word
+unfolding keyword_of
+written_is word e = subst (λ (o : Option Keyword). IfSome o (λ k. text_of k ≡ raised word)) e (among-written (raised word) keywords)
+
+begins_with_i : (word rest : List Mark) → spelled_keyword word ≡ Some Is → is_letter_i (ch_at (word ++ rest) 0) ≡ true
+begins_with_i [] rest e = absurd (let f : ◌≡◌ {A = List ℕ} (73 ∷ 83 ∷ []) [] = written_is [] e in cc)
+begins_with_i (m ∷ word) rest e =
+    let f : 73 ∷ 83 ∷ [] ≡ to_ascii_uppercase m.ch ∷ raised word = written_is (m ∷ word) e in
+    capital_i m.ch (let g : to_ascii_uppercase m.ch ≡ 73 = cc in g)
+
+no_word_is : (front behind : List Mark) → 0 < length front → is_letter_i (ch_at front 0) ≡ false → IsFollows (front ++ behind) → ⊥
+no_word_is [] behind some none h = absurd (omega (arith, some))
+no_word_is (m ∷ front) behind some none h =
+    let there : is_letter_i m.ch ≡ true = subst (λ (t : List Mark). is_letter_i (ch_at t 0) ≡ true) (sym h.parts) (begins_with_i h.word h.rest h.is.spelled) in
+    cc
+
 placed : (free : Bool) (due : Due) (shape : Option Shape) (front behind : List Mark) → IsPlaced free due shape front behind → Stands free due front behind shape
 placed free due None front behind h =
     let one = one_character front 32 h in
@@ -226,7 +251,7 @@ placed free BehindPic (Some Literal) front behind h = absurd h
 placed free BehindPic (Some Symbol) front behind h = absurd h
 placed free BehindPic (Some (Relation r)) front behind h = absurd h
 placed free BehindPic (Some Stop) front behind h = absurd h
-placed free BehindPic (Some PictureString) front behind h = absurd h
+placed free BehindPic (Some PictureString) front behind (is, ends, no_i) = a_picture is ends (no_word_is front behind is.some no_i)
 placed free BehindIs (Some (Word word)) front behind h = absurd h
 placed free BehindIs (Some Number) front behind h = absurd h
 placed free BehindIs (Some Padded) front behind h = absurd h

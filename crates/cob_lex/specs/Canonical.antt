@@ -43,7 +43,8 @@ scale (Some k) count = min (count - k - 1) 18
 abbrev pub number : List ℕ → List Mark → Num
 number spelled front = record { sign = sign front; digits = spelled; scale = scale (point front) (length front) }
 
--- what a token of this shape is, from its characters
+-- What a token of this shape is, from its characters. The content of a text is what stands doubled between its marks
+-- (the law `texts_stand_doubled`).
 abbrev pub tok_of : Shape → List Mark → Tok
 tok_of (Word word) front = tok.Word (written word front)
 tok_of Number front = tok.Number (number (digits front) front)

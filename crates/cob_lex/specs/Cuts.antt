@@ -15,7 +15,8 @@ use Rattle.cob_lex.specs.declared.cut.State.{State}
 use Rattle.cob_lex.specs.declared.cut.Cut.{Cut}
 use Rattle.cob_lex.specs.Marks.{class_of, run_of, literal_len, content, solid_len, stripped}
 use Rattle.cob_lex.specs.Characters.{ch_at, is_digit, is_gap, ends_rightly}
-use Rattle.cob_lex.specs.Words.{spelled_keyword, is_word, is_unsigned, is_minus}
+use Rattle.cob_lex.specs.Words.{spelled_keyword}
+use Rattle.cob_lex.specs.WordTests.{is_word, is_unsigned, is_minus}
 use Rattle.cob_lex.specs.Tokens.{is_opening, due_after}
 
 -- a separator

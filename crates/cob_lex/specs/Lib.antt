@@ -6,6 +6,7 @@ pub mod Plain
 pub mod Characters
 pub mod Marks
 pub mod Words
+pub mod WordTests
 pub mod Tokens
 pub mod Cuts
 pub mod Bounds
@@ -15,4 +16,5 @@ pub mod Rows
 pub mod Canonical
 pub mod Spellable
 pub mod Scan
+pub mod Printed
 pub mod Few

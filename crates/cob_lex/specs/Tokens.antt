@@ -157,15 +157,24 @@ IsDue BehindIs text = Unit {0}
 -- The characters `front` before `behind` are a token of this shape, or a separator. `free` says that a space or `(`
 -- stands before them, and `due` whether PIC does, with or without IS.
 pub data Stands (free : Bool) : Due → List Mark → List Mark → Option Shape → Type 0 where
-  a_separator : {due : Due} {m : Mark} {behind : List Mark} → is_gap (m ∷ behind) ≡ true → Stands free due (m ∷ []) behind None
-  a_word : {front behind : List Mark} → IsWord front → ends_rightly behind ≡ true → Stands free Nothing front behind (Some (Word (spelled_keyword front)))
-  a_number : {front behind : List Mark} → IsNumber front → MayHaveSign free front → ends_rightly behind ≡ true → Stands free Nothing front behind (Some Number)
-  a_text : {front behind : List Mark} → IsText front → ends_rightly behind ≡ true → Stands free Nothing front behind (Some Literal)
-  a_mark : {front behind : List Mark} → IsMark front → MarkEnds free (ch_at front 0) behind → Stands free Nothing front behind (Some Symbol)
-  a_relation : {front behind : List Mark} (r : Rel) → IsRelation r front → RelationEnds r behind → Stands free Nothing front behind (Some (Relation r))
-  a_stop : {front behind : List Mark} → IsStop front → ch_at behind 0 ≡ 32 → Stands free Nothing front behind (Some Stop)
-  the_word_is : {front behind : List Mark} → IsTheWordIs front → ends_rightly behind ≡ true → Stands free BehindPic front behind (Some (Word (Some Is)))
-  a_picture : {due : Due} {front behind : List Mark} → IsPicture front → PictureEnds front behind → IsDue due (front ++ behind) → Stands free due front behind (Some PictureString)
+  a_separator : {due : Due} {m : Mark} {behind : List Mark} → is_gap (m ∷ behind) ≡ true
+      → Stands free due (m ∷ []) behind None
+  a_word : {front behind : List Mark} → IsWord front → ends_rightly behind ≡ true
+      → Stands free Nothing front behind (Some (Word (spelled_keyword front)))
+  a_number : {front behind : List Mark} → IsNumber front → MayHaveSign free front → ends_rightly behind ≡ true
+      → Stands free Nothing front behind (Some Number)
+  a_text : {front behind : List Mark} → IsText front → ends_rightly behind ≡ true
+      → Stands free Nothing front behind (Some Literal)
+  a_mark : {front behind : List Mark} → IsMark front → MarkEnds free (ch_at front 0) behind
+      → Stands free Nothing front behind (Some Symbol)
+  a_relation : {front behind : List Mark} (r : Rel) → IsRelation r front → RelationEnds r behind
+      → Stands free Nothing front behind (Some (Relation r))
+  a_stop : {front behind : List Mark} → IsStop front → ch_at behind 0 ≡ 32
+      → Stands free Nothing front behind (Some Stop)
+  the_word_is : {front behind : List Mark} → IsTheWordIs front → ends_rightly behind ≡ true
+      → Stands free BehindPic front behind (Some (Word (Some Is)))
+  a_picture : {due : Due} {front behind : List Mark} → IsPicture front → PictureEnds front behind
+      → IsDue due (front ++ behind) → Stands free due front behind (Some PictureString)
 
 -- ---- what a token leaves for the next one
 

@@ -1,17 +1,11 @@
 //! Laws of spelling, and how many tokens a source has.
-ghost use Rattle.std.specs.Prelude.{◌≡◌, ℕ, List, false};
-ghost use Rattle.std.specs.List.{All};
-ghost use Rattle.cob_tree.specs.declared.token.Token.{Token};
-ghost use Rattle.cob_lex.specs.declared.cut.Due.TheVariants.{Nothing};
-ghost use Rattle.cob_lex.specs.Text.{numbered_lines};
-ghost use Rattle.cob_lex.specs.Plain.{IsPlain, plain_text};
-ghost use Rattle.cob_lex.specs.Canonical.{AreTokensOf};
-ghost use Rattle.cob_lex.specs.Spellable.{AreSpellable, IsPrinted, tokens_of};
-ghost use Rattle.cob_lex.specs.Scan.{Tokens, Scans};
+ghost use Rattle.std.specs.Prelude.{◌≡◌, List};
+ghost use Rattle.cob_lex.specs.Spellable.{CanonicalAreSpellable};
+ghost use Rattle.cob_lex.specs.Printed.{PrintedAreRead};
 ghost use Rattle.cob_lex.specs.declared.text.Mark.{Mark};
 ghost use Rattle.cob_lex.specs.declared.piece.Place.{Place};
 ghost use Rattle.cob_lex.specs.Tokens.{IsText};
-ghost use Rattle.cob_lex.specs.Spelled.{Part, text_of, IsSpelled, IsStopped};
+ghost use Rattle.cob_lex.specs.Spelled.{Part, IsSpelled, IsStopped};
 ghost use Rattle.cob_lex.specs.Marks.{content};
 ghost use Rattle.cob_lex.specs.Few.{HasFewTokens};
 
@@ -33,13 +27,13 @@ pub fn texts_stand_doubled()
 
 /// A law: some characters are each canonical token.
 pub fn canonical_tokens_are_spellable()
-    ensures { (text : List Mark) (tokens : List Token) → AreTokensOf text tokens → AreSpellable tokens }
+    ensures { CanonicalAreSpellable }
 {}
 
 /// A law: a source of ordinary lines, none blank and none with a literal open at its end, whose text is printed tokens
 /// with spaces between them has these tokens.
 pub fn printed_tokens_are_read()
-    ensures { (bytes : List ℕ) (ps : List Part) → All IsPlain (numbered_lines bytes) → plain_text (numbered_lines bytes) ≡ text_of ps → IsPrinted false Nothing ps → Scans bytes (Tokens (tokens_of ps)) }
+    ensures { PrintedAreRead }
 {}
 
 /// A law: a source of at most 1,048,576 bytes has at most 2^27 canonical tokens.

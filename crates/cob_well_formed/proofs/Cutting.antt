@@ -7,7 +7,7 @@ use Rattle.cob_lex.specs.declared.cut.Shape.{Shape}
 use Rattle.cob_lex.specs.declared.cut.Shape.TheVariants.{Word, Number, Padded, Literal, Symbol, Relation, Stop, PictureString}
 use Rattle.cob_lex.specs.declared.cut.Due.{Due}
 use Rattle.cob_lex.specs.Characters.{is_digit, is_sign}
-use Rattle.cob_lex.specs.Words.{digits_in}
+use Rattle.cob_lex.specs.WordTests.{digits_in}
 use Rattle.cob_lex.specs.Tokens.{IsNumber, without_sign, with_sign, Stands, a_separator, a_word, a_number, a_text, a_mark, a_relation, a_stop, the_word_is, a_picture}
 use Rattle.cob_lex.proofs.EachToken.{HoldsOfRows, IsKept}
 

@@ -8,7 +8,7 @@ use Rattle.cob_tree.specs.declared.token.Token.{Token}
 use Rattle.cob_lex.specs.declared.cut.Shape.{Shape}
 use Rattle.cob_lex.specs.declared.cut.Shape.TheVariants.{Word, Number, Padded, Literal, Symbol, Relation, Stop, PictureString}
 use Rattle.cob_lex.specs.declared.piece.Piece.{Piece}
-use Rattle.cob_lex.specs.Words.{digits_in}
+use Rattle.cob_lex.specs.WordTests.{digits_in}
 use Rattle.cob_lex.specs.Spelled.{pieces}
 use Rattle.cob_lex.specs.Tokens.{is_digit_mark}
 use Rattle.cob_lex.specs.Rows.{rewritten}
