@@ -1,7 +1,7 @@
 //! The reserved words.
-ghost use Rattle.std.specs.Prelude.{◌≡◌, ◌∷◌, ℕ, List, IfSome, IsNone};
+ghost use Rattle.std.specs.Prelude.{◌≡◌, ◌+◌, ◌<◌, ◌&&◌, nat_le, ℕ, IfSome, IsNone};
 ghost use Rattle.cob_tree.specs.declared.keyword.Keyword.{Keyword};
-ghost use Rattle.cob_tree.specs.Keywords.{text_of, keywords, keyword_among, keyword_of, IsReserved};
+ghost use Rattle.cob_tree.specs.Keywords.{text_of, Suffices, keyword_among, keyword_of, IsReserved};
 
 /// A reserved word: one that stands in the grammar, or that is rewritten or dropped before the grammar is
 /// read. Some are own to this reader, as `ID`, `COMP-3` and `RECORDING`; some only stand for two words of the
@@ -455,15 +455,29 @@ const STARTS: [usize; 27] = [
     135, 135, 135, 138,
 ];
 
+/// The reserved words that begin with this letter, counted from A.
+fn with_letter(letter: usize) -> &'static [Keyword]
+    requires { letter < 26 }
+    ensures { (first : ℕ) → first ≡ 65 + letter → Suffices first result.now }
+{
+    &KEYWORDS[STARTS[letter]..STARTS[letter + 1]]
+}
+
+fn is_capital(ch: u8) -> bool
+    ensures { result ≡ (nat_le 65 ch && nat_le ch 90) }
+{
+    b'A' <= ch && ch <= b'Z'
+}
+
 /// The reserved words that may begin with this character.
 fn beginning_with(first: u8) -> &'static [Keyword]
-    ensures { (rest : List ℕ) → keyword_among (first ∷ rest) result.now ≡ keyword_among (first ∷ rest) keywords }
+    ensures { Suffices first result.now }
 {
-    if first < b'A' || b'Z' < first {
-        return &KEYWORDS[..0];
+    if is_capital(first) {
+        with_letter((first - b'A') as usize)
+    } else {
+        &KEYWORDS[..0]
     }
-    let letter = usize::from(first - b'A');
-    &KEYWORDS[STARTS[letter]..STARTS[letter + 1]]
 }
 
 #[tactic(auto, using(crate::proofs::InitialLemmas::found_among, crate::proofs::InitialLemmas::none_in_nothing))]

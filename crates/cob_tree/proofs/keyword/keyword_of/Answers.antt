@@ -7,6 +7,7 @@ unfolding keyword_of
 returns-clause-value c = c.looked_up.ensures
 
 pub returns-clause-reserved : goal.returns-clause-reserved
+unfolding keyword_of
 returns-clause-reserved c = rw c.looked_up.ensures (among-written c.args.name.now keywords)
 
 pub returns-clause-free : goal.returns-clause-free
