@@ -9,8 +9,8 @@ slice_bounds-result-count c = let up = rises c.args.letter c.requires in let low
 pub slice_bounds-result-start : goal.slice_bounds-result-start
 slice_bounds-result-start c = let up = rises c.args.letter c.requires in let low = up.0 in let high = up.1 in grind (arith, nat_tests, low, high)
 
-pub slice_bounds-result-end-2 : goal.slice_bounds-result-end-2
-slice_bounds-result-end-2 c = let up = rises c.args.letter c.requires in let low = up.0 in let high = up.1 in grind (arith, nat_tests, low, high)
+pub slice_bounds-result-end : goal.slice_bounds-result-end
+slice_bounds-result-end c = let up = rises c.args.letter c.requires in let low = up.0 in let high = up.1 in grind (arith, nat_tests, low, high)
 
 pub returns : goal.returns
 returns c first e rest = among_slice first c.args.letter rest c.requires e
