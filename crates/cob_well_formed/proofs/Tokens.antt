@@ -1,5 +1,5 @@
 -- The numerals of a source's tree have at most 18 digits, since those among its tokens have.
-use Rattle.std.proofs.Common.{◌≡◌, ℕ, List, [], ◌∷◌, map, Option, None, Some, Result, Ok, Err, refl, subst}
+use Rattle.std.proofs.Common.{◌≡◌, ℕ, List, [], ◌∷◌, map, Option, None, Some, Result, Ok, Err, subst}
 use Rattle.std.specs.List.{AllByRecursion}
 use Rattle.cob_lex.specs.declared.text.Mark.{Mark}
 use Rattle.cob_lex.specs.declared.refusal.Place as text
