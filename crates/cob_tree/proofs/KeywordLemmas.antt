@@ -4,7 +4,7 @@ use Rattle.std.specs.Prelude.{None, Some, IfSome}
 use Rattle.std.proofs.lemmas.Slice.Eq.{bytes_eq-Decides}
 use Rattle.std.specs.Str.{bytes_eq}
 use Rattle.cob_tree.specs.declared.keyword.Keyword.{Keyword}
-use Rattle.cob_tree.specs.declared.keyword.Keyword.TheVariants.{Access, Add, After, And, Any, Are, Assign, At, Before, Binary, Block, By, Character, Characters, Close, Comp, Comp3, Computational, Computational3, Compute, Configuration, Contains, Continue, Data, Display, Divide, Division, Else, End, EndAdd, EndCompute, EndDivide, EndEvaluate, EndIf, EndMultiply, EndPerform, EndProgram, EndRead, EndSubtract, EndWrite, Environment, Equal, Error, Evaluate, Exit, Fd, File, FileControl, Filler, From, Giving, Go, Greater, HighValue, HighValues, Id, Identification, If, In, Input, InputOutput, Into, Is, Label, Leading, Less, LowValue, LowValues, Mode, Move, Multiply, Negative, Next, Not, Numeric, ObjectComputer, Of, Omitted, On, Open, Or, Organization, Other, Output, PackedDecimal, Perform, Pic, Picture, Positive, Procedure, Program, ProgramId, Quote, Quotes, Read, Record, RecordSize, Recording, Records, Redefines, Remainder, Rounded, Run, Section, Select, Separate, Sequential, Set, Sign, Size, SourceComputer, Space, Spaces, Standard, Status, Stop, Subtract, Test, Than, Then, Through, Thru, Times, To, Trailing, True, Until, Usage, Value, Values, Varying, When, With, WorkingStorage, Write, Zero, Zeroes, Zeros}
+use Rattle.cob_tree.specs.declared.keyword.Keyword.TheVariants.{Access, Add, After, And, Any, Are, Assign, At, Before, Binary, Block, By, Character, Characters, Close, Comp, Comp3, Computational, Computational3, Compute, Configuration, Contains, Continue, Data, Display, Divide, Division, Else, End, EndAdd, EndCompute, EndDivide, EndEvaluate, EndIf, EndMultiply, EndPerform, EndProgram, EndRead, EndSubtract, EndWrite, Environment, Equal, Error, Evaluate, Exit, Fd, File, FileControl, Filler, From, Giving, Go, Greater, HighValue, HighValues, Id, Identification, If, In, Input, InputOutput, Into, Is, Label, Leading, Less, LowValue, LowValues, Mode, Move, Multiply, Negative, Next, Not, Numeric, ObjectComputer, Occurs, Of, Omitted, On, Open, Or, Organization, Other, Output, PackedDecimal, Perform, Pic, Picture, Positive, Procedure, Program, ProgramId, Quote, Quotes, Read, Record, RecordSize, Recording, Records, Redefines, Remainder, Rounded, Run, Section, Select, Separate, Sequential, Set, Sign, Size, SourceComputer, Space, Spaces, Standard, Status, Stop, Subtract, Test, Than, Then, Through, Thru, Times, To, Trailing, True, Until, Usage, Value, Values, Varying, When, With, WorkingStorage, Write, Zero, Zeroes, Zeros}
 use Rattle.cob_tree.specs.Keywords.{text_of, IsReserved, keyword_among, keyword_of}
 
 -- a reserved word is found by its text
@@ -86,6 +86,7 @@ keyword_of-text Next = refl
 keyword_of-text Not = refl
 keyword_of-text Numeric = refl
 keyword_of-text ObjectComputer = refl
+keyword_of-text Occurs = refl
 keyword_of-text Of = refl
 keyword_of-text Omitted = refl
 keyword_of-text On = refl

@@ -50,6 +50,8 @@ pub data Cue : Type 0 where
   EndEvaluate : Cue
   EndRead : Cue
   EndWrite : Cue
+  -- (
+  Subscripts : Cue
 
 abbrev pub number : Cue → ℕ
 number Starts = 0
@@ -88,6 +90,7 @@ number EndIf = 32
 number EndEvaluate = 33
 number EndRead = 34
 number EndWrite = 35
+number Subscripts = 36
 
 abbrev pub is : Cue → Cue → Bool
 is a b = number a == number b
@@ -96,6 +99,7 @@ abbrev pub mark_cue : ℕ → Option Cue
 mark_cue ch =
     if ch == 43 || ch == 45 then Some Signs
     else if ch == 42 || ch == 47 then Some Scales
+    else if ch == 40 then Some Subscripts
     else None
 
 abbrev pub key_cue : Keyword → Option Cue

@@ -2,7 +2,7 @@
 use Rattle.std.specs.Prelude.{◌≡◌, ℕ, if◌then◌else◌, List, [], ◌∷◌, codes, Option, None, Some}
 use Rattle.std.specs.Str.{bytes_eq}
 use Rattle.cob_tree.specs.declared.keyword.Keyword.{Keyword}
-use Rattle.cob_tree.specs.declared.keyword.Keyword.TheVariants.{Access, Add, After, And, Any, Are, Assign, At, Before, Binary, Block, By, Character, Characters, Close, Comp, Comp3, Computational, Computational3, Compute, Configuration, Contains, Continue, Data, Display, Divide, Division, Else, End, EndAdd, EndCompute, EndDivide, EndEvaluate, EndIf, EndMultiply, EndPerform, EndProgram, EndRead, EndSubtract, EndWrite, Environment, Equal, Error, Evaluate, Exit, Fd, File, FileControl, Filler, From, Giving, Go, Greater, HighValue, HighValues, Id, Identification, If, In, Input, InputOutput, Into, Is, Label, Leading, Less, LowValue, LowValues, Mode, Move, Multiply, Negative, Next, Not, Numeric, ObjectComputer, Of, Omitted, On, Open, Or, Organization, Other, Output, PackedDecimal, Perform, Pic, Picture, Positive, Procedure, Program, ProgramId, Quote, Quotes, Read, Record, RecordSize, Recording, Records, Redefines, Remainder, Rounded, Run, Section, Select, Separate, Sequential, Set, Sign, Size, SourceComputer, Space, Spaces, Standard, Status, Stop, Subtract, Test, Than, Then, Through, Thru, Times, To, Trailing, True, Until, Usage, Value, Values, Varying, When, With, WorkingStorage, Write, Zero, Zeroes, Zeros}
+use Rattle.cob_tree.specs.declared.keyword.Keyword.TheVariants.{Access, Add, After, And, Any, Are, Assign, At, Before, Binary, Block, By, Character, Characters, Close, Comp, Comp3, Computational, Computational3, Compute, Configuration, Contains, Continue, Data, Display, Divide, Division, Else, End, EndAdd, EndCompute, EndDivide, EndEvaluate, EndIf, EndMultiply, EndPerform, EndProgram, EndRead, EndSubtract, EndWrite, Environment, Equal, Error, Evaluate, Exit, Fd, File, FileControl, Filler, From, Giving, Go, Greater, HighValue, HighValues, Id, Identification, If, In, Input, InputOutput, Into, Is, Label, Leading, Less, LowValue, LowValues, Mode, Move, Multiply, Negative, Next, Not, Numeric, ObjectComputer, Occurs, Of, Omitted, On, Open, Or, Organization, Other, Output, PackedDecimal, Perform, Pic, Picture, Positive, Procedure, Program, ProgramId, Quote, Quotes, Read, Record, RecordSize, Recording, Records, Redefines, Remainder, Rounded, Run, Section, Select, Separate, Sequential, Set, Sign, Size, SourceComputer, Space, Spaces, Standard, Status, Stop, Subtract, Test, Than, Then, Through, Thru, Times, To, Trailing, True, Until, Usage, Value, Values, Varying, When, With, WorkingStorage, Write, Zero, Zeroes, Zeros}
 
 -- how a reserved word is written in capitals
 abbrev pub text_of : Keyword → List ℕ
@@ -82,6 +82,7 @@ text_of Next = codes "NEXT"
 text_of Not = codes "NOT"
 text_of Numeric = codes "NUMERIC"
 text_of ObjectComputer = codes "OBJECT-COMPUTER"
+text_of Occurs = codes "OCCURS"
 text_of Of = codes "OF"
 text_of Omitted = codes "OMITTED"
 text_of On = codes "ON"
@@ -152,7 +153,7 @@ IsReserved name = (k : Keyword) × (text_of k ≡ name)
 -- each of them
 abbrev pub keywords : List Keyword
 keywords =
-    Access ∷ Add ∷ After ∷ And ∷ Any ∷ Are ∷ Assign ∷ At ∷ Before ∷ Binary ∷ Block ∷ By ∷ Character ∷ Characters ∷ Close ∷ Comp ∷ Comp3 ∷ Computational ∷ Computational3 ∷ Compute ∷ Configuration ∷ Contains ∷ Continue ∷ Data ∷ Display ∷ Divide ∷ Division ∷ Else ∷ End ∷ EndAdd ∷ EndCompute ∷ EndDivide ∷ EndEvaluate ∷ EndIf ∷ EndMultiply ∷ EndPerform ∷ EndProgram ∷ EndRead ∷ EndSubtract ∷ EndWrite ∷ Environment ∷ Equal ∷ Error ∷ Evaluate ∷ Exit ∷ Fd ∷ File ∷ FileControl ∷ Filler ∷ From ∷ Giving ∷ Go ∷ Greater ∷ HighValue ∷ HighValues ∷ Id ∷ Identification ∷ If ∷ In ∷ Input ∷ InputOutput ∷ Into ∷ Is ∷ Label ∷ Leading ∷ Less ∷ LowValue ∷ LowValues ∷ Mode ∷ Move ∷ Multiply ∷ Negative ∷ Next ∷ Not ∷ Numeric ∷ ObjectComputer ∷ Of ∷ Omitted ∷ On ∷ Open ∷ Or ∷ Organization ∷ Other ∷ Output ∷ PackedDecimal ∷ Perform ∷ Pic ∷ Picture ∷ Positive ∷ Procedure ∷ Program ∷ ProgramId ∷ Quote ∷ Quotes ∷ Read ∷ Record ∷ RecordSize ∷ Recording ∷ Records ∷ Redefines ∷ Remainder ∷ Rounded ∷ Run ∷ Section ∷ Select ∷ Separate ∷ Sequential ∷ Set ∷ Sign ∷ Size ∷ SourceComputer ∷ Space ∷ Spaces ∷ Standard ∷ Status ∷ Stop ∷ Subtract ∷ Test ∷ Than ∷ Then ∷ Through ∷ Thru ∷ Times ∷ To ∷ Trailing ∷ True ∷ Until ∷ Usage ∷ Value ∷ Values ∷ Varying ∷ When ∷ With ∷ WorkingStorage ∷ Write ∷ Zero ∷ Zeroes ∷ Zeros ∷ []
+    Access ∷ Add ∷ After ∷ And ∷ Any ∷ Are ∷ Assign ∷ At ∷ Before ∷ Binary ∷ Block ∷ By ∷ Character ∷ Characters ∷ Close ∷ Comp ∷ Comp3 ∷ Computational ∷ Computational3 ∷ Compute ∷ Configuration ∷ Contains ∷ Continue ∷ Data ∷ Display ∷ Divide ∷ Division ∷ Else ∷ End ∷ EndAdd ∷ EndCompute ∷ EndDivide ∷ EndEvaluate ∷ EndIf ∷ EndMultiply ∷ EndPerform ∷ EndProgram ∷ EndRead ∷ EndSubtract ∷ EndWrite ∷ Environment ∷ Equal ∷ Error ∷ Evaluate ∷ Exit ∷ Fd ∷ File ∷ FileControl ∷ Filler ∷ From ∷ Giving ∷ Go ∷ Greater ∷ HighValue ∷ HighValues ∷ Id ∷ Identification ∷ If ∷ In ∷ Input ∷ InputOutput ∷ Into ∷ Is ∷ Label ∷ Leading ∷ Less ∷ LowValue ∷ LowValues ∷ Mode ∷ Move ∷ Multiply ∷ Negative ∷ Next ∷ Not ∷ Numeric ∷ ObjectComputer ∷ Occurs ∷ Of ∷ Omitted ∷ On ∷ Open ∷ Or ∷ Organization ∷ Other ∷ Output ∷ PackedDecimal ∷ Perform ∷ Pic ∷ Picture ∷ Positive ∷ Procedure ∷ Program ∷ ProgramId ∷ Quote ∷ Quotes ∷ Read ∷ Record ∷ RecordSize ∷ Recording ∷ Records ∷ Redefines ∷ Remainder ∷ Rounded ∷ Run ∷ Section ∷ Select ∷ Separate ∷ Sequential ∷ Set ∷ Sign ∷ Size ∷ SourceComputer ∷ Space ∷ Spaces ∷ Standard ∷ Status ∷ Stop ∷ Subtract ∷ Test ∷ Than ∷ Then ∷ Through ∷ Thru ∷ Times ∷ To ∷ Trailing ∷ True ∷ Until ∷ Usage ∷ Value ∷ Values ∷ Varying ∷ When ∷ With ∷ WorkingStorage ∷ Write ∷ Zero ∷ Zeroes ∷ Zeros ∷ []
 
 abbrev pub keyword_among : List ℕ → List Keyword → Option Keyword
 keyword_among name [] = None

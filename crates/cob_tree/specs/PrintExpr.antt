@@ -4,6 +4,8 @@ use Rattle.cob_tree.specs.declared.keyword.Keyword.TheVariants as key
 use Rattle.cob_tree.specs.declared.operand.Const.{Const}
 use Rattle.cob_tree.specs.declared.operand.Const.TheVariants as const
 use Rattle.cob_tree.specs.declared.operand.Ref.{Ref}
+use Rattle.cob_tree.specs.declared.operand.Subscript.{Subscript}
+use Rattle.cob_tree.specs.declared.operand.Subscript.TheVariants as subscript
 use Rattle.cob_tree.specs.declared.operand.Opnd.{Opnd}
 use Rattle.cob_tree.specs.declared.operand.Opnd.TheVariants as opnd
 use Rattle.cob_tree.specs.declared.operand.Recv.{Recv}
@@ -39,8 +41,18 @@ print_const d c = item d (const_symbol c) ∷ []
 abbrev pub print_qualifier : ℕ → List ℕ → List Item
 print_qualifier d text = items.key d key.Of ∷ name d text ∷ []
 
+-- ( and ), which are open at what stands between them
+abbrev pub print_sub : ℕ → Subscript → List Item
+print_sub d (subscript.Item text of) =
+    item (suc d) (Mark 40) ∷ (name (suc d) text ∷ (each (print_qualifier (suc d)) of ++ item (suc d) (Mark 41) ∷ []))
+print_sub d (subscript.Number n) = item (suc d) (Mark 40) ∷ (item (suc d) (Number n) ∷ item (suc d) (Mark 41) ∷ [])
+
+abbrev pub print_sub_if : ℕ → Option Subscript → List Item
+print_sub_if d None = []
+print_sub_if d (Some s) = print_sub d s
+
 abbrev pub print_ref : ℕ → Ref → List Item
-print_ref d r = name d r.name ∷ each (print_qualifier d) r.of
+print_ref d r = name d r.name ∷ (each (print_qualifier d) r.of ++ print_sub_if d r.sub)
 
 abbrev pub print_opnd : ℕ → Opnd → List Item
 print_opnd d (opnd.Ref r) = print_ref d r

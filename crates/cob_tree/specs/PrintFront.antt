@@ -24,7 +24,7 @@ use Rattle.cob_tree.specs.declared.front.Clause.{Clause}
 use Rattle.cob_tree.specs.declared.front.Clause.TheVariants as clause
 use Rattle.cob_tree.specs.declared.front.Range.{Range}
 use Rattle.cob_tree.specs.Symbols.{Key, Number, Text, Pic}
-use Rattle.cob_tree.specs.Items.{Item, item, item_on, key, keys, name, stop, behind, each}
+use Rattle.cob_tree.specs.Items.{Item, item, item_on, key, keys, name, stop, word_if, behind, each}
 use Rattle.cob_tree.specs.PrintExpr.{print_const}
 
 -- nothing is open in these divisions
@@ -99,6 +99,7 @@ print_clause clause.PackedDecimal = word_ word.PackedDecimal ∷ []
 print_clause clause.LeadingSeparate = keys 0 (word.Leading ∷ word.Separate ∷ [])
 print_clause clause.TrailingSeparate = keys 0 (word.Trailing ∷ word.Separate ∷ [])
 print_clause (clause.Value ranges) = word_ word.Value ∷ each print_range ranges
+print_clause (clause.Occurs n with_times) = word_ word.Occurs ∷ item 0 (Number n) ∷ word_if 0 with_times word.Times
 
 abbrev pub print_described : Described → List Item
 print_described (described.Name text) = name 0 text ∷ []

@@ -181,6 +181,7 @@ clause_kind clause.PackedDecimal = 2
 clause_kind clause.LeadingSeparate = 3
 clause_kind clause.TrailingSeparate = 3
 clause_kind (clause.Value ranges) = 4
+clause_kind (clause.Occurs n _) = 5
 
 abbrev pub ShapedFdClause : FdClause → Type 0
 ShapedFdClause (fd.Data names) = IsNotEmpty names

@@ -4,26 +4,35 @@ use Rattle.cob_tree.specs.declared.operand.Opnd.{Opnd}
 use Rattle.cob_tree.specs.declared.operand.Opnd.TheVariants as opnd
 use Rattle.cob_tree.specs.declared.operand.Recv.{Recv}
 use Rattle.cob_tree.specs.declared.operand.Ref.{Ref}
+use Rattle.cob_tree.specs.declared.operand.Subscript.{Subscript}
 use Rattle.cob_tree.specs.Expr.{Expr, MkExpr, Terms, no_terms, more_terms, Term, MkTerm, Facts, no_facts, more_facts, Fact, MkFact, Primary, operand, group}
 use Rattle.cob_tree.specs.Cond.{Cond, MkCond, Conjs, no_conjs, more_conjs, Conj, MkConj, Negs, no_negs, more_negs, Neg, MkNeg, Simple, parenthesised, relation, abbreviated, numeric, alone}
 use Rattle.cob_tree.specs.Cond as cond
 use Rattle.cob_tree.specs.Stmt.{Sel, any, range, choice, Loop, times, until, Stmt, MkStmt, Verb, move, set, display, add_to, add_giving, subtract_from, subtract_giving, multiply_by, multiply_giving, divide_into, divide_giving, compute, if_, evaluate, perform_range, perform_inline, go, exit, continue, stop_run, open_, close, read, write, Stmts, no_stmts, more_stmts, Phrase, left_out, given, Tail, MkTail, Whens, no_whens, more_whens, When, MkWhen}
 use Rattle.cob_tree.specs.PrintExpr.{one_alone}
-use Rattle.cob_tree.specs.Cues.{Cue, is, Starts, Qualifies, Rounds, Names, Constants, Zeros, Signs, Scales, Relates, NotRelates, Tests, NotTests, Ands, Ors, Throughs, Givings, Remainders, Intos, Froms, Modes, Loops, Size, NotSize, AtEnd, NotAtEnd, Else, EndAdd, EndSubtract, EndMultiply, EndDivide, EndCompute, EndIf, EndEvaluate, EndRead, EndWrite}
+use Rattle.cob_tree.specs.Cues.{Cue, is, Starts, Qualifies, Rounds, Subscripts, Names, Constants, Zeros, Signs, Scales, Relates, NotRelates, Tests, NotTests, Ands, Ors, Throughs, Givings, Remainders, Intos, Froms, Modes, Loops, Size, NotSize, AtEnd, NotAtEnd, Else, EndAdd, EndSubtract, EndMultiply, EndDivide, EndCompute, EndIf, EndEvaluate, EndRead, EndWrite}
 use Rattle.cob_tree.specs.Cues as cue
 
 -- ---- operands
 
-abbrev pub takes_ref : Cue → Bool
-takes_ref m = is Qualifies m
+-- a subscript is the last part of a reference
+abbrev pub takes_behind : Option Subscript → Cue → Bool
+takes_behind None m = is Qualifies m || is Subscripts m
+takes_behind (Some s) m = false
+
+abbrev pub takes_ref : Ref → Cue → Bool
+takes_ref r m = takes_behind r.sub m
 
 abbrev pub takes_opnd : Opnd → Cue → Bool
-takes_opnd (opnd.Ref r) m = takes_ref m
+takes_opnd (opnd.Ref r) m = takes_ref r m
 takes_opnd (opnd.Const c) m = false
 
-abbrev pub takes_recv : Bool → Cue → Bool
-takes_recv true m = false
-takes_recv false m = takes_ref m || is Rounds m
+abbrev pub takes_rounded : Bool → Ref → Cue → Bool
+takes_rounded true r m = false
+takes_rounded false r m = takes_ref r m || is Rounds m
+
+abbrev pub takes_recv : Recv → Cue → Bool
+takes_recv r m = takes_rounded r.rounded r.item m
 
 -- a constant or a reference begins
 abbrev pub begins_opnd : Cue → Bool
@@ -34,12 +43,14 @@ takes_opnds [] m = begins_opnd m
 takes_opnds (o ∷ []) m = takes_opnd o m || begins_opnd m
 takes_opnds (o ∷ p ∷ os) m = takes_opnds (p ∷ os) m
 
-abbrev pub takes_refs : Cue → Bool
-takes_refs m = takes_ref m || is Names m
+abbrev pub takes_refs : List Ref → Cue → Bool
+takes_refs [] m = is Names m
+takes_refs (r ∷ []) m = takes_ref r m || is Names m
+takes_refs (r ∷ q ∷ rs) m = takes_refs (q ∷ rs) m
 
 abbrev pub takes_recvs : List Recv → Cue → Bool
 takes_recvs [] m = is Names m
-takes_recvs (r ∷ []) m = takes_recv r.rounded m || is Names m
+takes_recvs (r ∷ []) m = takes_recv r m || is Names m
 takes_recvs (r ∷ q ∷ rs) m = takes_recvs (q ∷ rs) m
 
 -- ---- expressions
@@ -131,15 +142,15 @@ takes_giving _ m = false
 
 abbrev pub takes_remainder : List Recv → Option Ref → Cue → Bool
 takes_remainder giving None m = takes_recvs giving m || is Remainders m
-takes_remainder giving (Some r) m = takes_ref m
+takes_remainder giving (Some r) m = takes_ref r m
 
 abbrev pub takes_into : Option Ref → Cue → Bool
 takes_into None m = is Intos m
-takes_into (Some r) m = takes_ref m
+takes_into (Some r) m = takes_ref r m
 
-abbrev pub takes_from : Option Opnd → Cue → Bool
-takes_from None m = takes_ref m || is Froms m
-takes_from (Some o) m = takes_opnd o m
+abbrev pub takes_from : Ref → Option Opnd → Cue → Bool
+takes_from rec None m = takes_ref rec m || is Froms m
+takes_from rec (Some o) m = takes_opnd o m
 
 -- Nothing goes on behind an END- word; without it, what stands before does, or the word.
 abbrev pub unless : Bool → Bool → Bool → Bool
@@ -177,7 +188,7 @@ abbrev mutual
   takes_when (MkWhen choices body) m = takes_stmts body m
 
   pub takes_verb : Verb → Cue → Bool
-  takes_verb (move from to) m = takes_refs m
+  takes_verb (move from to) m = takes_refs to m
   takes_verb (set text) m = false
   takes_verb (display operands) m = takes_opnds operands m
   takes_verb (add_to addends to tail) m = takes_tail tail (takes_recvs to m || takes_giving to m) (is EndAdd m) m
@@ -201,4 +212,4 @@ abbrev mutual
   takes_verb (close names) m = is Names m
   takes_verb (read file into end not_end ended) m =
       unless ended (takes_phrase not_end (takes_phrase end (takes_into into m) (is AtEnd m) m) (is NotAtEnd m) m) (is EndRead m)
-  takes_verb (write rec from ended) m = unless ended (takes_from from m) (is EndWrite m)
+  takes_verb (write rec from ended) m = unless ended (takes_from rec from m) (is EndWrite m)

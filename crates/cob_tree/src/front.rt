@@ -120,6 +120,8 @@ pub enum Clause {
     LeadingSeparate,
     TrailingSeparate,
     Value(Many<Range>),
+    /// OCCURS, with the number and whether TIMES stands behind it
+    Occurs(Num, bool),
 }
 
 /// A constant of a VALUE clause, or all values from one to another.

@@ -84,6 +84,7 @@ pub enum Keyword {
     Not,
     Numeric,
     ObjectComputer,
+    Occurs,
     Of,
     Omitted,
     On,
@@ -148,7 +149,7 @@ pub enum Keyword {
     Zeros,
 }
 
-const KEYWORDS: [Keyword; 138] = [
+const KEYWORDS: [Keyword; 139] = [
     Keyword::Access,
     Keyword::Add,
     Keyword::After,
@@ -225,6 +226,7 @@ const KEYWORDS: [Keyword; 138] = [
     Keyword::Not,
     Keyword::Numeric,
     Keyword::ObjectComputer,
+    Keyword::Occurs,
     Keyword::Of,
     Keyword::Omitted,
     Keyword::On,
@@ -371,6 +373,7 @@ impl Keyword {
             Keyword::Not => b"NOT",
             Keyword::Numeric => b"NUMERIC",
             Keyword::ObjectComputer => b"OBJECT-COMPUTER",
+            Keyword::Occurs => b"OCCURS",
             Keyword::Of => b"OF",
             Keyword::Omitted => b"OMITTED",
             Keyword::On => b"ON",

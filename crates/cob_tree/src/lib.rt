@@ -32,7 +32,7 @@ pub use keyword::{Keyword, keyword_of, keywords_differ};
 pub use kinds::{Kinds, all_kinds};
 pub use laws::{one_form, picture_form_is};
 pub use list::Many;
-pub use operand::{Const, Opnd, Recv, Ref};
+pub use operand::{Const, Opnd, Recv, Ref, Subscript};
 pub use picture::{PicEnd, picture_of};
 pub use stmt::{
     Loop, Mode, OpenPhrase, Sel, Stmt, Subject, Tail, TestPoint, Varying, Verb, Way, When,

@@ -15,11 +15,19 @@ pub enum Const {
     LowValue,
 }
 
-/// A name with its qualifiers, the nearest first (ISO 1989:1985, "Qualification").
+/// What stands in the parentheses of a subscript (ISO 1989:1985, "Subscripting"): a name with its qualifiers, or a number.
+#[derive(Drop)]
+pub enum Subscript {
+    Item(Name, Many<Name>),
+    Number(Num),
+}
+
+/// A name with its qualifiers, the nearest first (ISO 1989:1985, "Qualification"), and its subscript, if it has one.
 #[derive(Drop)]
 pub struct Ref {
     pub name: Name,
     pub of: Many<Name>,
+    pub sub: Option<Subscript>,
 }
 
 /// An operand: a reference or a constant.
