@@ -15,7 +15,7 @@ use Rattle.cob_tree.specs.Symbols.{Symbol, Key, Name, Number, Text, Mark, Relati
 use Rattle.cob_tree.specs.Items.{Item, item, item_on, Fits}
 use Rattle.cob_tree.specs.PrintExpr.{const_symbol}
 use Rattle.cob_tree.specs.PrintFront.{print_label}
-use Rattle.cob_parse_expr.specs.LexemeClasses.{name_symbol, word_symbol, by_symbol, of, is, the, on_line, on_its_line, stop_symbol}
+use Rattle.cob_parse_expr.specs.LexemeClasses.{number_symbol, name_symbol, word_symbol, by_symbol, of, is, the, on_line, on_its_line, stop_symbol}
 use Rattle.cob_parse_expr.specs.Classes.{const_key, const_as}
 use Rattle.cob_parse_expr.proofs.WordLemmas.{own_key, only_the}
 use Rattle.reading.specs.Readers.{Reader, lead}
@@ -24,7 +24,7 @@ use Rattle.reading.specs.Law.{Syntax, Law}
 use Rattle.reading.proofs.Texts.{Always}
 use Rattle.reading.proofs.Lead.{Class, lead_syntax, lead_law}
 use Rattle.reading.proofs.Starts.{Begins, Starts, OneToken, starts_by_one}
-use Rattle.cob_parse_data.specs.Tokens.{number_symbol, pic_symbol, external_symbol, label_key, label_symbol, filler_key, described_symbol}
+use Rattle.cob_parse_data.specs.Tokens.{pic_symbol, external_symbol, label_key, label_symbol, filler_key, described_symbol}
 
 -- What isn't there is no value. At each of the many words this is one step, where `cc` would be a search.
 abbrev none_of : (A : Type 0) → Option A

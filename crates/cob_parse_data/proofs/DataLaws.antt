@@ -24,15 +24,15 @@ use Rattle.cob_tree.specs.Items as items
 use Rattle.cob_tree.specs.PrintExpr.{const_symbol, print_const}
 use Rattle.cob_tree.specs.PrintFront.{print_if, print_name, print_label, print_fd_clause, print_range, print_clause, print_described, print_entry, print_fd, print_files, print_storage, print_data}
 use Rattle.cob_tree.specs.Shaped.{fd_kind, clause_kind, ShapedFdClause, ShapedClause, ShapedEntry, ShapedFd, ShapedData}
-use Rattle.cob_parse_expr.specs.LexemeClasses.{name_symbol, by_symbol, of, is, the, stop_symbol}
+use Rattle.cob_parse_expr.specs.LexemeClasses.{number_symbol, name_symbol, by_symbol, of, is, the, stop_symbol}
 use Rattle.cob_parse_expr.specs.Classes.{const_as}
-use Rattle.reading.specs.Readers.{seq, stands}
+use Rattle.reading.specs.Readers.{seq, maybe, stands}
 use Rattle.reading.specs.Printing.{Matches, begins}
 use Rattle.reading.specs.Law.{Syntax, Law, onward}
 use Rattle.reading.proofs.Texts.{Always, takes_nothing}
 use Rattle.reading.proofs.Seen.{View, seen_law}
 use Rattle.reading.proofs.Lead.{nothing_law}
-use Rattle.reading.proofs.Maybe.{maybe_syntax, maybe_law}
+use Rattle.reading.proofs.Maybe.{maybe_syntax, maybe_tail, maybe_law}
 use Rattle.reading.proofs.Dependent.{seq_syntax, seq_law}
 use Rattle.reading.proofs.Starts.{Begins}
 use Rattle.reading.proofs.Optional.{optional_syntax}
@@ -40,10 +40,10 @@ use Rattle.cob_parse_data.specs.declared.head.FdHead.{FdHead}
 use Rattle.cob_parse_data.specs.declared.head.FdHead.TheVariants as fd_head
 use Rattle.cob_parse_data.specs.declared.head.ClauseHead.{ClauseHead}
 use Rattle.cob_parse_data.specs.declared.head.ClauseHead.TheVariants as head
-use Rattle.cob_parse_data.specs.Tokens.{number_symbol, described_symbol}
+use Rattle.cob_parse_data.specs.Tokens.{described_symbol}
 use Rattle.cob_parse_data.specs.Heads.{fd_word, fd_key, fd_symbol, fd_kind_of, fd_head_of, clause_word, clause_key, clause_symbol, clause_kind_of, clause_head_of}
 use Rattle.cob_parse_data.specs.Reading as reading
-use Rattle.cob_parse_data.specs.Reading.{stop, word, to_clause, clause_body, fd_body, first_and, entry_clauses, fd_clauses, make_range, make_entry, make_fd, make_data}
+use Rattle.cob_parse_data.specs.Reading.{stop, one, word, to_clause, to_occurs, clause_body, fd_body, first_and, entry_clauses, fd_clauses, make_range, make_entry, make_fd, make_data}
 use Rattle.cob_parse_data.specs.Takes.{takes_entries, takes_fds, takes_data}
 use Rattle.cob_parse_data.proofs.Parts.{law_as, then_law, pair_law, pair_syntax, list_syntax, list_law, last_takes, some_syntax, some_law, last_ended, last_free}
 use Rattle.cob_parse_data.proofs.ClassLaws.{Spelling, fits_is, tokens, one_token, begins_with, starts_with, one_syntax, one_law, line_syntax, line_law, words, one_word, is_the, free_of, stops, numbers, pics, names, labels, describeds, spelled_described, consts}
@@ -100,8 +100,20 @@ takes_ranges = last_takes (is const_as) range_syntax
 
 -- ---- clauses of an entry
 
+-- TIMES may stand behind the number of OCCURS
+abbrev takes_times : Bool → Symbol → Bool
+takes_times true y = false
+takes_times false y = is (the key.Times) y
+
+abbrev times_part : Syntax Item Symbol (Option (Unit {0}))
+times_part = maybe_syntax (is (the key.Times)) Always (λ x. item 0 (Key key.Times))
+
+abbrev occurs_syntax : Syntax Item Symbol (Num × Option (Unit {0}))
+occurs_syntax = pair_syntax (one_syntax (λ n. Number n)) times_part is_some
+
 abbrev takes_clause : Clause → Symbol → Bool
 takes_clause (clause.Value ranges) y = takes_ranges ranges y
+takes_clause (clause.Occurs n b) y = takes_times b y
 takes_clause _ y = false
 
 abbrev clause_rest : Clause → List Item
@@ -110,6 +122,7 @@ clause_rest (clause.Redefines text) = item 0 (Name text) ∷ []
 clause_rest clause.LeadingSeparate = items.key 0 key.Separate ∷ []
 clause_rest clause.TrailingSeparate = items.key 0 key.Separate ∷ []
 clause_rest (clause.Value ranges) = each print_range ranges
+clause_rest (clause.Occurs n b) = item 0 (Number n) ∷ items.word_if 0 b key.Times
 clause_rest _ = []
 
 abbrev clause_bodies : ClauseHead → Syntax Item Symbol Clause
@@ -131,6 +144,14 @@ abbrev clause_ranges : Clause → Range × List Range
 clause_ranges (clause.Value ranges) = split no_range ranges
 clause_ranges _ = (no_range, [])
 
+abbrev no_number : Num
+no_number = record { sign = 0; digits = []; scale = 0 }
+
+abbrev clause_occurs : Clause → Num × Option (Unit {0})
+clause_occurs (clause.Occurs n true) = (n, Some tt)
+clause_occurs (clause.Occurs n false) = (n, None)
+clause_occurs _ = (no_number, None)
+
 all_any : {A : Type 0} (xs : List A) → AllByRecursion Always xs
 all_any = all_always
 
@@ -151,9 +172,11 @@ module _ (top : ℕ) (low : 0 < top) where
   ranges_free : (y : Symbol) → is const_as y ≡ false → is (the key.Thru) y ≡ false → (rs : List Range) → takes_ranges rs y ≡ false
   ranges_free y e f rs = last_free (is const_as) range_syntax y e (λ r good. range_free y f r) rs (all_any rs)
 
-  clause_free : (y : Symbol) → is const_as y ≡ false → is (the key.Thru) y ≡ false → (c : Clause) → takes_clause c y ≡ false
-  clause_free y e f (clause.Value ranges) = ranges_free y e f ranges
-  clause_free y e f _ = refl
+  clause_free : (y : Symbol) → is const_as y ≡ false → is (the key.Thru) y ≡ false → is (the key.Times) y ≡ false → (c : Clause) → takes_clause c y ≡ false
+  clause_free y e f g (clause.Value ranges) = ranges_free y e f ranges
+  clause_free y e f g (clause.Occurs n true) = refl
+  clause_free y e f g (clause.Occurs n false) = g
+  clause_free y e f g _ = refl
 
   clause_reads : (x : ClauseHead) → clause_key (clause_word x) ≡ Some x
   clause_reads head.Pic = refl
@@ -168,6 +191,7 @@ module _ (top : ℕ) (low : 0 < top) where
   clause_only key.Leading x e = let same : head.Leading ≡ x = cc in ap clause_word same
   clause_only key.Trailing x e = let same : head.Trailing ≡ x = cc in ap clause_word same
   clause_only key.Value x e = let same : head.Value ≡ x = cc in ap clause_word same
+  clause_only key.Occurs x e = let same : head.Occurs ≡ x = cc in ap clause_word same
   clause_only _ x e = absurd cc
 
   clause_spelling : Spelling clause_symbol (λ k. Key (clause_word k))
@@ -195,7 +219,7 @@ module _ (top : ℕ) (low : 0 < top) where
     numbered = numbered;
     printed = clause_printed;
     law = law;
-    never = λ c good. clause_free Stop refl refl c;
+    never = λ c good. clause_free Stop refl refl refl c;
     free = λ c y good e. let w = clause_begins y e in ap (takes_clause c) w.1 ∙ at_word w.0 c;
     no_stop = refl;
   }
@@ -205,14 +229,15 @@ module _ (top : ℕ) (low : 0 < top) where
       numbered _ = refl
 
       at_word : (k : ClauseHead) (c : Clause) → takes_clause c (Key (clause_word k)) ≡ false
-      at_word head.Pic c = clause_free (Key key.Pic) refl refl c
-      at_word head.Redefines c = clause_free (Key key.Redefines) refl refl c
-      at_word head.Display c = clause_free (Key key.Display) refl refl c
-      at_word head.Binary c = clause_free (Key key.Binary) refl refl c
-      at_word head.PackedDecimal c = clause_free (Key key.PackedDecimal) refl refl c
-      at_word head.Leading c = clause_free (Key key.Leading) refl refl c
-      at_word head.Trailing c = clause_free (Key key.Trailing) refl refl c
-      at_word head.Value c = clause_free (Key key.Value) refl refl c
+      at_word head.Pic c = clause_free (Key key.Pic) refl refl refl c
+      at_word head.Redefines c = clause_free (Key key.Redefines) refl refl refl c
+      at_word head.Display c = clause_free (Key key.Display) refl refl refl c
+      at_word head.Binary c = clause_free (Key key.Binary) refl refl refl c
+      at_word head.PackedDecimal c = clause_free (Key key.PackedDecimal) refl refl refl c
+      at_word head.Leading c = clause_free (Key key.Leading) refl refl refl c
+      at_word head.Trailing c = clause_free (Key key.Trailing) refl refl refl c
+      at_word head.Value c = clause_free (Key key.Value) refl refl refl c
+      at_word head.Occurs c = clause_free (Key key.Occurs) refl refl refl c
 
       pic : (c : Clause) → clause_head_of c ≡ head.Pic → clause.Pic (clause_text c) ≡ c
       pic (clause.Pic text) e = refl
@@ -247,6 +272,31 @@ module _ (top : ℕ) (low : 0 < top) where
       value (clause.Value (r ∷ rs)) e some = refl
       value _ e some = absurd cc
 
+      occurs : (c : Clause) → clause_head_of c ≡ head.Occurs → to_occurs (clause_occurs c) ≡ c
+      occurs (clause.Occurs n true) e = refl
+      occurs (clause.Occurs n false) e = refl
+      occurs _ e = absurd cc
+
+      occurs_good : (c : Clause) → occurs_syntax.Good (clause_occurs c)
+      occurs_good (clause.Occurs n true) = (tt, tt)
+      occurs_good (clause.Occurs n false) = (tt, tt)
+      occurs_good _ = (tt, tt)
+
+      occurs_print : (x : Num × Option (Unit {0})) → clause_rest (to_occurs x) ≡ occurs_syntax.print x
+      occurs_print (n, None) = refl
+      occurs_print (n, Some u) = refl
+
+      occurs_takes : (x : Num × Option (Unit {0})) (y : Symbol) → takes_clause (to_occurs x) y ≡ occurs_syntax.takes x y
+      occurs_takes (n, None) y = refl
+      occurs_takes (n, Some u) y = refl
+
+      times_told : (ts : List Sign) → begins by_symbol (is (the key.Times)) ts ≡ stands (of (the key.Times)) ts
+      times_told [] = refl
+      times_told (t ∷ ts) = refl
+
+      occurs_law : Law by_symbol (seq (one number_symbol) (maybe (of (the key.Times)))) occurs_syntax top
+      occurs_law = pair_law (one_law numbers top low no_number) (maybe_tail (tokens (one_word key.Times)) top (λ x a. low) tt tt (is (the key.Times)) times_told) Stop (λ x good. refl) (λ x y good e. refl)
+
       separate : Law by_symbol (word key.Separate) (one_syntax (λ x. Key key.Separate)) top
       separate = one_law (one_word key.Separate) top low tt
 
@@ -259,6 +309,7 @@ module _ (top : ℕ) (low : 0 < top) where
       law head.Leading = seen_law {view = to_clause clause.LeadingSeparate} {parts = nothing_of} separate (record { back = λ c good. leading c good.0; print = λ x good. refl; takes = λ x y good. refl; good = λ x good. (refl, tt); good_back = λ c good. tt })
       law head.Trailing = seen_law {view = to_clause clause.TrailingSeparate} {parts = nothing_of} separate (record { back = λ c good. trailing c good.0; print = λ x good. refl; takes = λ x y good. refl; good = λ x good. (refl, tt); good_back = λ c good. tt })
       law head.Value = seen_law {parts = clause_ranges} ranges_law (record { back = λ c good. value c good.0 good.1; print = λ x good. refl; takes = λ x y good. refl; good = λ x good. (refl, tt); good_back = λ c good. (tt, all_any (clause_ranges c).1) })
+      law head.Occurs = seen_law {parts = clause_occurs} occurs_law (record { back = λ c good. occurs c good.0; print = λ x good. occurs_print x; takes = λ x y good. occurs_takes x y; good = λ x good. (refl, tt); good_back = λ c good. occurs_good c })
 
   abbrev entry_list : Syntax Item Symbol (List Clause)
   entry_list = clause_list clause_clausal low

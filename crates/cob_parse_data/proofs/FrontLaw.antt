@@ -12,8 +12,7 @@ use Rattle.reading.specs.Readers.{seq}
 use Rattle.reading.specs.Law.{Syntax, Law}
 use Rattle.reading.proofs.Seen.{View, seen_law}
 use Rattle.reading.proofs.Dependent.{seq_syntax, seq_law}
-use Rattle.cob_parse_expr.specs.LexemeClasses.{by_symbol, is, the}
-use Rattle.cob_parse_data.specs.Tokens.{number_symbol}
+use Rattle.cob_parse_expr.specs.LexemeClasses.{number_symbol, by_symbol, is, the}
 use Rattle.cob_parse_data.specs.Reading.{perhaps, env, data_division, make_front, front_at}
 use Rattle.cob_parse_data.specs.Takes.{takes_front}
 use Rattle.cob_parse_data.proofs.WordLaws.{headed_law, named_syntax, named_law, two_syntax, two_law, two_free}

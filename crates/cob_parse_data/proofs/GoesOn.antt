@@ -23,8 +23,7 @@ use Rattle.reading.specs.Printing.{Matches}
 use Rattle.reading.proofs.Results.{ok_is}
 use Rattle.reading.proofs.Texts.{Always, matches_join}
 use Rattle.reading.specs.Law.{onward}
-use Rattle.cob_parse_expr.specs.LexemeClasses.{by_symbol, is, the}
-use Rattle.cob_parse_data.specs.Tokens.{number_symbol}
+use Rattle.cob_parse_expr.specs.LexemeClasses.{number_symbol, by_symbol, is, the}
 use Rattle.cob_parse_data.specs.Takes.{takes_perhaps, takes_no_more, takes_config, takes_io, takes_env, takes_entries, takes_fds, takes_data, takes_front}
 use Rattle.cob_parse_data.specs.Outcome.{IsFront, Begins}
 use Rattle.cob_parse_data.proofs.ClassLaws.{is_the}

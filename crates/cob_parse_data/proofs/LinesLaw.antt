@@ -110,6 +110,8 @@ range_plain r = go r.high
 clause_plain : (c : Clause) → print_clause c ≡ map blank (print_clause c)
 clause_plain (clause.Value ranges) = ap (λ (z : List Item). item 0 (Key key.Value) ∷ z) (each_plain print_range range_plain ranges)
 clause_plain (clause.Pic text) = refl
+clause_plain (clause.Occurs n true) = refl
+clause_plain (clause.Occurs n false) = refl
 clause_plain _ = refl
 
 described_plain : (d : Described) → print_described d ≡ map blank (print_described d)

@@ -92,6 +92,7 @@ clause_word head.PackedDecimal = key.PackedDecimal
 clause_word head.Leading = key.Leading
 clause_word head.Trailing = key.Trailing
 clause_word head.Value = key.Value
+clause_word head.Occurs = key.Occurs
 
 abbrev pub clause_key : Keyword → Option ClauseHead
 clause_key key.Pic = Some head.Pic
@@ -102,6 +103,7 @@ clause_key key.PackedDecimal = Some head.PackedDecimal
 clause_key key.Leading = Some head.Leading
 clause_key key.Trailing = Some head.Trailing
 clause_key key.Value = Some head.Value
+clause_key key.Occurs = Some head.Occurs
 clause_key _ = None
 
 abbrev pub clause_symbol : Symbol → Option ClauseHead
@@ -116,6 +118,7 @@ clause_kind_of head.PackedDecimal = 2
 clause_kind_of head.Leading = 3
 clause_kind_of head.Trailing = 3
 clause_kind_of head.Value = 4
+clause_kind_of head.Occurs = 5
 
 abbrev pub clause_head_of : Clause → ClauseHead
 clause_head_of (clause.Pic text) = head.Pic
@@ -126,3 +129,4 @@ clause_head_of clause.PackedDecimal = head.PackedDecimal
 clause_head_of clause.LeadingSeparate = head.Leading
 clause_head_of clause.TrailingSeparate = head.Trailing
 clause_head_of (clause.Value ranges) = head.Value
+clause_head_of (clause.Occurs n _) = head.Occurs

@@ -1,5 +1,5 @@
 -- How the divisions before PROCEDURE are read.
-use Rattle.std.specs.Prelude.{ℕ, List, [], ◌∷◌, Option, map}
+use Rattle.std.specs.Prelude.{ℕ, List, [], ◌∷◌, Option, is_some, map}
 use Rattle.cob_tree.specs.declared.keyword.Keyword.{Keyword}
 use Rattle.cob_tree.specs.declared.keyword.Keyword.TheVariants as key
 use Rattle.cob_tree.specs.declared.token.Num.{Num}
@@ -23,7 +23,7 @@ use Rattle.cob_tree.specs.declared.front.Clause.{Clause}
 use Rattle.cob_tree.specs.declared.front.Clause.TheVariants as clause
 use Rattle.cob_tree.specs.declared.front.Range.{Range}
 use Rattle.cob_tree.specs.Symbols.{Symbol, Sign}
-use Rattle.cob_parse_expr.specs.LexemeClasses.{name_symbol, of, here, the, on_its_line, stop_symbol}
+use Rattle.cob_parse_expr.specs.LexemeClasses.{number_symbol, name_symbol, of, here, the, on_its_line, stop_symbol}
 use Rattle.cob_parse_expr.specs.Classes.{const_as}
 use Rattle.reading.specs.Readers.{Reader, nothing, lead, seq, seen, many, plus, optional, here_if, maybe, clauses}
 use Rattle.cob_parse_data.specs.declared.head.SelectHead.{SelectHead}
@@ -32,7 +32,7 @@ use Rattle.cob_parse_data.specs.declared.head.FdHead.{FdHead}
 use Rattle.cob_parse_data.specs.declared.head.FdHead.TheVariants as fd_head
 use Rattle.cob_parse_data.specs.declared.head.ClauseHead.{ClauseHead}
 use Rattle.cob_parse_data.specs.declared.head.ClauseHead.TheVariants as head
-use Rattle.cob_parse_data.specs.Tokens.{number_symbol, pic_symbol, external_symbol, label_symbol, described_symbol}
+use Rattle.cob_parse_data.specs.Tokens.{pic_symbol, external_symbol, label_symbol, described_symbol}
 use Rattle.cob_parse_data.specs.Heads.{same_kind, select_kind, select_symbol, fd_kind_of, fd_symbol, clause_kind_of, clause_symbol}
 
 -- ---- words
@@ -168,6 +168,9 @@ to_clause c x = c
 abbrev pub to_value : Range × List Range → Clause
 to_value x = clause.Value (first_and x)
 
+abbrev pub to_occurs : Num × Option (Unit {0}) → Clause
+to_occurs x = clause.Occurs x.0 (is_some x.1)
+
 abbrev pub clause_body : ClauseHead → Reader Sign Clause
 clause_body head.Pic = seen to_pic (one pic_symbol)
 clause_body head.Redefines = seen to_redefines name
@@ -177,6 +180,7 @@ clause_body head.PackedDecimal = seen (to_clause clause.PackedDecimal) nothing
 clause_body head.Leading = seen (to_clause clause.LeadingSeparate) (word key.Separate)
 clause_body head.Trailing = seen (to_clause clause.TrailingSeparate) (word key.Separate)
 clause_body head.Value = seen to_value ranges
+clause_body head.Occurs = seen to_occurs (seq (one number_symbol) (maybe (of (the key.Times))))
 
 abbrev pub entry_clauses : Reader Sign (List Clause)
 entry_clauses = seen untagged (clauses (same_kind clause_kind_of) (of clause_symbol) clause_body)

@@ -10,8 +10,7 @@ use Rattle.cob_tree.specs.declared.front.Data.{Data}
 use Rattle.cob_tree.specs.declared.front.Fd.{Fd}
 use Rattle.cob_tree.specs.Symbols.{Symbol}
 use Rattle.reading.specs.Law.{onward}
-use Rattle.cob_parse_expr.specs.LexemeClasses.{is, the}
-use Rattle.cob_parse_data.specs.Tokens.{number_symbol}
+use Rattle.cob_parse_expr.specs.LexemeClasses.{number_symbol, is, the}
 
 -- what may be left out goes on with the word that begins it
 abbrev pub takes_perhaps : {A : Type 0} → Keyword → (A → Symbol → Bool) → Option A → Symbol → Bool

@@ -1,6 +1,5 @@
 -- The classes of tokens that stand in the divisions before PROCEDURE alone.
 use Rattle.std.specs.Prelude.{ℕ, List, Option, Some, None}
-use Rattle.cob_tree.specs.declared.token.Num.{Num}
 use Rattle.cob_tree.specs.declared.keyword.Keyword.{Keyword}
 use Rattle.cob_tree.specs.declared.keyword.Keyword.TheVariants as key
 use Rattle.cob_tree.specs.declared.front.External.{External}
@@ -9,12 +8,8 @@ use Rattle.cob_tree.specs.declared.front.Label.{Label}
 use Rattle.cob_tree.specs.declared.front.Label.TheVariants as label
 use Rattle.cob_tree.specs.declared.front.Described.{Described}
 use Rattle.cob_tree.specs.declared.front.Described.TheVariants as described
-use Rattle.cob_tree.specs.Symbols.{Symbol, Key, Name, Number, Text, Pic}
+use Rattle.cob_tree.specs.Symbols.{Symbol, Key, Name, Text, Pic}
 use Rattle.cob_parse_expr.specs.LexemeClasses.{word_symbol}
-
-abbrev pub number_symbol : Symbol → Option Num
-number_symbol (Number n) = Some n
-number_symbol _ = None
 
 abbrev pub pic_symbol : Symbol → Option (List ℕ)
 pic_symbol (Pic text) = Some text

@@ -3,24 +3,15 @@ ghost use Rattle.std.specs.Prelude.{◌≡◌, ◌+◌, ◌<◌, ◌≤◌, leng
 ghost use Rattle.std.specs.Option.{option_map};
 ghost use Rattle.reading.specs.Readers.{lead, maybe};
 ghost use Rattle.cob_parse_expr.specs.Lexemes.{plain_symbol};
-ghost use Rattle.cob_parse_expr.specs.LexemeClasses.{of, here, on_its_line};
+ghost use Rattle.cob_parse_expr.specs.LexemeClasses.{number_symbol, of, here, on_its_line};
 ghost use Rattle.cob_parse_expr.specs.Steps.{signs, Leads, Lacks, Gives};
 ghost use Rattle.cob_parse_expr.specs.Classes.{const_as};
-ghost use Rattle.cob_parse_data.specs.Tokens.{number_symbol, pic_symbol, external_symbol, label_symbol, described_symbol};
+ghost use Rattle.cob_parse_data.specs.Tokens.{pic_symbol, external_symbol, label_symbol, described_symbol};
 ghost use Rattle.cob_parse_data.specs.Reading.{one};
 
-use cob_parse_expr::{Halt, Lexeme, Symbol, is_constant, next};
+use cob_parse_expr::{Halt, Lexeme, Symbol, is_constant, next, number};
 use cob_tree::{Bytes, Described, External, Keyword, Label, Name, Num};
 use std::alloc::{AllocError, Global};
-
-fn number(symbol: &Symbol) -> Option<&Num>
-    ensures { option_map (λ n. n.now) result ≡ number_symbol (plain_symbol symbol.now) }
-{
-    match symbol {
-        Symbol::Number(number) => Some(number),
-        _ => None,
-    }
-}
 
 fn picture(symbol: &Symbol) -> Option<&Bytes>
     ensures { option_map (λ text. text.now) result ≡ pic_symbol (plain_symbol symbol.now) }
@@ -78,26 +69,6 @@ pub fn stands_constant(lexemes: &[Lexeme]) -> bool
     match next(lexemes) {
         Some((lexeme, _)) => is_constant(&lexeme.symbol),
         None => false,
-    }
-}
-
-fn number_in(lexemes: &[Lexeme]) -> Option<(&Num, &[Lexeme])>
-    ensures found { IfSome result (λ x. Leads (of number_symbol) x.0.now (signs lexemes.now) (signs x.1.now)) }
-    ensures none { IfNone result (Lacks (of number_symbol) (signs lexemes.now)) }
-    ensures shorter { IfSome result (λ x. length lexemes.now ≡ length x.1.now + 1) }
-{
-    let (lexeme, rest) = next(lexemes)?;
-    Some((number(&lexeme.symbol)?, rest))
-}
-
-/// A number.
-pub fn number_at(alloc: Global, lexemes: &[Lexeme]) -> Result<(Num, &[Lexeme]), Halt>
-    ensures gives { Gives (λ x. (x.0, signs x.1.now)) result (one number_symbol (signs lexemes.now)) }
-    ensures rest { IfOk result (λ x. length x.1.now < length lexemes.now) }
-{
-    match number_in(lexemes) {
-        Some((number, rest)) => Ok((number.copied(alloc)?, rest)),
-        None => Err(Halt::Stop(lexemes.len())),
     }
 }
 

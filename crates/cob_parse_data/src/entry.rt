@@ -12,7 +12,9 @@ ghost use Rattle.cob_parse_data.specs.Reading.{perhaps, led, constant, range, ra
 
 use crate::class::{described_in, level_at, picture_at, stands_constant, stands_number};
 use crate::head::ClauseHead;
-use cob_parse_expr::{Halt, Lexeme, Symbol, const_at, expect, name_at, next, stands, stop};
+use cob_parse_expr::{
+    Halt, Lexeme, Symbol, behind, const_at, expect, name_at, next, number_at, stands, stop,
+};
 use cob_tree::{Clause, Const, Entry, Keyword, Many, Range};
 use std::alloc::Global;
 
@@ -83,6 +85,7 @@ fn clause_head(symbol: &Symbol) -> Option<ClauseHead>
         Symbol::Key(Keyword::Leading) => Some(ClauseHead::Leading),
         Symbol::Key(Keyword::Trailing) => Some(ClauseHead::Trailing),
         Symbol::Key(Keyword::Value) => Some(ClauseHead::Value),
+        Symbol::Key(Keyword::Occurs) => Some(ClauseHead::Occurs),
         _ => None,
     }
 }
@@ -99,6 +102,7 @@ fn head_of(clause: &Clause) -> ClauseHead
         Clause::LeadingSeparate => ClauseHead::Leading,
         Clause::TrailingSeparate => ClauseHead::Trailing,
         Clause::Value(_) => ClauseHead::Value,
+        Clause::Occurs(..) => ClauseHead::Occurs,
     }
 }
 
@@ -118,6 +122,7 @@ fn same_kind(first: ClauseHead, second: ClauseHead) -> bool
             matches!(second, ClauseHead::Leading | ClauseHead::Trailing)
         }
         ClauseHead::Value => matches!(second, ClauseHead::Value),
+        ClauseHead::Occurs => matches!(second, ClauseHead::Occurs),
     }
 }
 
@@ -176,6 +181,19 @@ fn clause_behind(
             Ok((Clause::TrailingSeparate, rest))
         }
         ClauseHead::Value => value_behind(alloc, lexemes),
+        ClauseHead::Occurs => occurs_behind(alloc, lexemes),
+    }
+}
+
+fn occurs_behind(alloc: Global, lexemes: &[Lexeme]) -> Result<(Clause, &[Lexeme]), Halt>
+    ensures gives { Gives (λ x. (x.0, signs x.1.now)) result (clause_body head.Occurs (signs lexemes.now)) }
+    ensures headed { IfOk result (λ x. clause_head_of x.0 ≡ head.Occurs) }
+    ensures rest { IfOk result (λ x. length x.1.now ≤ length lexemes.now) }
+{
+    let (number, rest) = or_leave!(number_at(alloc, lexemes));
+    match behind(Keyword::Times, rest) {
+        Some(rest) => Ok((Clause::Occurs(number, true), rest)),
+        None => Ok((Clause::Occurs(number, false), rest)),
     }
 }
 

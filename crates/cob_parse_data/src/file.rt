@@ -9,11 +9,13 @@ ghost use Rattle.cob_parse_data.specs.declared.head.FdHead.TheVariants as head;
 ghost use Rattle.cob_parse_data.specs.Heads.{same_kind, fd_symbol, fd_kind_of, fd_head_of};
 ghost use Rattle.cob_parse_data.specs.Reading.{perhaps, name, names, first_and, fd_body, fd_clauses, fd, fds, files, storage, data_division};
 
-use crate::class::{label_at, number_at};
+use crate::class::label_at;
 use crate::entry::entries;
 use crate::head::FdHead;
 use crate::word::heading;
-use cob_parse_expr::{Halt, Lexeme, Symbol, line_of, name_at, next, stands, stands_name, stop};
+use cob_parse_expr::{
+    Halt, Lexeme, Symbol, line_of, name_at, next, number_at, stands, stands_name, stop,
+};
 use cob_tree::{Data, Entry, Fd, FdClause, Keyword, Many, Name};
 use std::alloc::Global;
 

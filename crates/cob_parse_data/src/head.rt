@@ -30,4 +30,5 @@ pub enum ClauseHead {
     Leading,
     Trailing,
     Value,
+    Occurs,
 }

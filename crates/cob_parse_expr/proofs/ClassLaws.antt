@@ -11,16 +11,18 @@ use Rattle.cob_tree.specs.declared.expr.Scaling.{Scaling}
 use Rattle.cob_tree.specs.declared.expr.Scaling.TheVariants as scaling
 use Rattle.cob_tree.specs.declared.cond.SignTest.{SignTest}
 use Rattle.cob_tree.specs.declared.cond.SignTest.TheVariants as test
+use Rattle.cob_tree.specs.declared.token.Num.{Num}
 use Rattle.cob_tree.specs.declared.token.Rel.{Rel}
 use Rattle.cob_tree.specs.Symbols.{Symbol, Key, Name, Number, Text, Mark, Relation, Pic, Stop, Sign}
 use Rattle.cob_tree.specs.Items.{Item, Fits, item, name}
-use Rattle.cob_tree.specs.Cues.{Cue, is, mark_cue, key_cue, not_cue, Qualifies, Names, Constants, Zeros, Signs, Scales, Relates, NotRelates, Tests, NotTests, Ands, Ors, Size, NotSize, NotAtEnd}
+use Rattle.cob_tree.specs.Cues.{Cue, is, mark_cue, key_cue, not_cue, Qualifies, Names, Constants, Zeros, Signs, Scales, Subscripts, Relates, NotRelates, Tests, NotTests, Ands, Ors, Size, NotSize, NotAtEnd}
 use Rattle.cob_parse_expr.specs.Alphabet.{key_front, symbol_front, grammar}
 use Rattle.cob_tree.specs.PrintExpr.{const_symbol, sign_character, scaling_character, sign_word}
+use Rattle.reading.specs.Readers.{stands}
 use Rattle.reading.specs.Printing.{peek_on, on_mark, begins}
 use Rattle.reading.proofs.Texts.{Always}
 use Rattle.reading.proofs.Lead.{Class}
-use Rattle.cob_parse_expr.specs.LexemeClasses.{name_symbol, word_symbol}
+use Rattle.cob_parse_expr.specs.LexemeClasses.{of, name_symbol, number_symbol, word_symbol}
 use Rattle.cob_parse_expr.specs.Classes.{name_of, const_key, const_as, const_of, mark_symbol, open_mark, open_of, close_mark, close_of, sign_mark, sign_of, scaling_mark, scaling_of, of_key, of_of, not_key, not_of, and_key, and_of, or_key, or_of, numeric_key, numeric_of, sign_test_key, sign_test_of, relation_symbol, relation_of}
 use Rattle.cob_parse_expr.specs.Reading.{here}
 use Rattle.cob_parse_expr.proofs.CueLemmas.{not_cues}
@@ -246,7 +248,7 @@ consts d = record { reads = λ x t a f. ap const_as f.symbol ∙ const_reads x; 
 
 module _ {K : Type 0} (c : Cue) (class : Keyword → Option K) (same : (k : Keyword) → on_mark grammar (is c) (key_cue k) ≡ is_some (class k)) (bare : is_some (class key.Not) ≡ false)
     (relates : is c NotRelates ≡ false) (tests : is c NotTests ≡ false) (size : is c NotSize ≡ false) (end : is c NotAtEnd ≡ false)
-    (names : is c Names ≡ false) (constants : is c Constants ≡ false) (signs : is c Signs ≡ false) (scales : is c Scales ≡ false) (relation : is c Relates ≡ false) where
+    (names : is c Names ≡ false) (constants : is c Constants ≡ false) (signs : is c Signs ≡ false) (scales : is c Scales ≡ false) (subscripts : is c Subscripts ≡ false) (relation : is c Relates ≡ false) where
   behind_not : (ts : List Sign) → on_mark grammar (is c) (peek_on grammar (key_front key.Not) ts) ≡ false
   behind_not [] = refl
   behind_not (u ∷ us) = not_cues (is c) relates tests size end u.symbol
@@ -256,12 +258,13 @@ module _ {K : Type 0} (c : Cue) (class : Keyword → Option K) (same : (k : Keyw
   word_told k ts = same k
 
   mark_told : (ch : ℕ) → on_mark grammar (is c) (mark_cue ch) ≡ false
-  mark_told ch = go (ch == 43 || ch == 45) (ch == 42 || ch == 47)
+  mark_told ch = go (ch == 43 || ch == 45) (ch == 42 || ch == 47) (ch == 40)
     where
-      go : (p q : Bool) → on_mark grammar (is c) (if p then Some Signs else if q then Some Scales else None) ≡ false
-      go true q = signs
-      go false true = scales
-      go false false = refl
+      go : (p q r : Bool) → on_mark grammar (is c) (if p then Some Signs else if q then Some Scales else if r then Some Subscripts else None) ≡ false
+      go true q r = signs
+      go false true r = scales
+      go false false true = subscripts
+      go false false false = refl
 
   pub told : (t : Sign) (ts : List Sign) → here c (t ∷ ts) ≡ is_some (word_symbol class t.symbol)
   told t ts = go t.symbol
@@ -277,21 +280,21 @@ module _ {K : Type 0} (c : Cue) (class : Keyword → Option K) (same : (k : Keyw
       go Stop = refl
 
 pub of_told : (t : Sign) (ts : List Sign) → here Qualifies (t ∷ ts) ≡ is_some (of_of t)
-of_told = told Qualifies of_key same refl refl refl refl refl refl refl refl refl refl
+of_told = told Qualifies of_key same refl refl refl refl refl refl refl refl refl refl refl
   where
     same : (k : Keyword) → on_mark grammar (is Qualifies) (key_cue k) ≡ is_some (of_key k)
     same key.Of = refl
     same _ = refl
 
 pub and_told : (t : Sign) (ts : List Sign) → here Ands (t ∷ ts) ≡ is_some (and_of t)
-and_told = told Ands and_key same refl refl refl refl refl refl refl refl refl refl
+and_told = told Ands and_key same refl refl refl refl refl refl refl refl refl refl refl
   where
     same : (k : Keyword) → on_mark grammar (is Ands) (key_cue k) ≡ is_some (and_key k)
     same key.And = refl
     same _ = refl
 
 pub or_told : (t : Sign) (ts : List Sign) → here Ors (t ∷ ts) ≡ is_some (or_of t)
-or_told = told Ors or_key same refl refl refl refl refl refl refl refl refl refl
+or_told = told Ors or_key same refl refl refl refl refl refl refl refl refl refl refl
   where
     same : (k : Keyword) → on_mark grammar (is Ors) (key_cue k) ≡ is_some (or_key k)
     same key.Or = refl
@@ -311,24 +314,25 @@ sign_told t ts = go t.symbol
     none key.Of = refl
     none _ = refl
 
-    at_mark : (a b c : Bool) → on_mark grammar (is Signs) (if a || b then Some Signs else if c then Some Scales else None) ≡ is_some (if a then Some sign.Plus else if b then Some sign.Minus else None)
-    at_mark true b c = refl
-    at_mark false true c = refl
-    at_mark false false true = refl
-    at_mark false false false = refl
+    at_mark : (a b c d : Bool) → on_mark grammar (is Signs) (if a || b then Some Signs else if c then Some Scales else if d then Some Subscripts else None) ≡ is_some (if a then Some sign.Plus else if b then Some sign.Minus else None)
+    at_mark true b c d = refl
+    at_mark false true c d = refl
+    at_mark false false true d = refl
+    at_mark false false false true = refl
+    at_mark false false false false = refl
 
     go : (y : Symbol) → on_mark grammar (is Signs) (peek_on grammar (symbol_front y) ts) ≡ is_some (mark_symbol sign_mark y)
     go (Key k) = no_word Signs none refl refl refl refl k ts
     go (Name text) = refl
     go (Number n) = refl
     go (Text text) = refl
-    go (Mark ch) = at_mark (ch == 43) (ch == 45) (ch == 42 || ch == 47)
+    go (Mark ch) = at_mark (ch == 43) (ch == 45) (ch == 42 || ch == 47) (ch == 40)
     go (Relation r) = refl
     go (Pic text) = refl
     go Stop = refl
 
-abbrev so : Bool → Bool → Bool → Bool → Type 0
-so a b c d = on_mark grammar (is Scales) (if a || b then Some Signs else if c || d then Some Scales else None) ≡ is_some (if c then Some scaling.Times else if d then Some scaling.Over else None)
+abbrev so : Bool → Bool → Bool → Bool → Bool → Type 0
+so a b c d f = on_mark grammar (is Scales) (if a || b then Some Signs else if c || d then Some Scales else if f then Some Subscripts else None) ≡ is_some (if c then Some scaling.Times else if d then Some scaling.Over else None)
 
 pub scaling_told : (t : Sign) (ts : List Sign) → here Scales (t ∷ ts) ≡ is_some (scaling_of t)
 scaling_told t ts = go t.symbol
@@ -337,25 +341,80 @@ scaling_told t ts = go t.symbol
     none key.Of = refl
     none _ = refl
 
-    at_mark : (ch : ℕ) (a b c d : Bool) → (ch == 43) ≡ a → (ch == 45) ≡ b → (ch == 42) ≡ c → (ch == 47) ≡ d → so a b c d
-    at_mark ch false false true d ea eb ec ed = refl
-    at_mark ch false false false true ea eb ec ed = refl
-    at_mark ch false false false false ea eb ec ed = refl
-    at_mark ch true b c d ea eb ec ed =
+    at_mark : (ch : ℕ) (a b c d f : Bool) → (ch == 43) ≡ a → (ch == 45) ≡ b → (ch == 42) ≡ c → (ch == 47) ≡ d → so a b c d f
+    at_mark ch false false true d f ea eb ec ed = refl
+    at_mark ch false false false true f ea eb ec ed = refl
+    at_mark ch false false false false true ea eb ec ed = refl
+    at_mark ch false false false false false ea eb ec ed = refl
+    at_mark ch true b c d f ea eb ec ed =
         let times : c ≡ false = sym ec ∙ ap (λ (n : ℕ). n == 42) (eqb-true ch 43 ea) in
         let over : d ≡ false = sym ed ∙ ap (λ (n : ℕ). n == 47) (eqb-true ch 43 ea) in
-        subst (λ (x : Bool). so true b x d) (sym times) (subst (λ (x : Bool). so true b false x) (sym over) refl)
-    at_mark ch false true c d ea eb ec ed =
+        subst (λ (x : Bool). so true b x d f) (sym times) (subst (λ (x : Bool). so true b false x f) (sym over) refl)
+    at_mark ch false true c d f ea eb ec ed =
         let times : c ≡ false = sym ec ∙ ap (λ (n : ℕ). n == 42) (eqb-true ch 45 eb) in
         let over : d ≡ false = sym ed ∙ ap (λ (n : ℕ). n == 47) (eqb-true ch 45 eb) in
-        subst (λ (x : Bool). so false true x d) (sym times) (subst (λ (x : Bool). so false true false x) (sym over) refl)
+        subst (λ (x : Bool). so false true x d f) (sym times) (subst (λ (x : Bool). so false true false x f) (sym over) refl)
 
     go : (y : Symbol) → on_mark grammar (is Scales) (peek_on grammar (symbol_front y) ts) ≡ is_some (mark_symbol scaling_mark y)
     go (Key k) = no_word Scales none refl refl refl refl k ts
     go (Name text) = refl
     go (Number n) = refl
     go (Text text) = refl
-    go (Mark ch) = at_mark ch (ch == 43) (ch == 45) (ch == 42) (ch == 47) refl refl refl refl
+    go (Mark ch) = at_mark ch (ch == 43) (ch == 45) (ch == 42) (ch == 47) (ch == 40) refl refl refl refl
     go (Relation r) = refl
     go (Pic text) = refl
     go Stop = refl
+
+-- ( alone begins a subscript
+abbrev opened : Bool → Option (Unit {0})
+opened f = if f then Some tt else None
+
+abbrev opens_so : Bool → Bool → Bool → Bool → Bool → Type 0
+opens_so a b c d f = on_mark grammar (is Subscripts) (if a || b then Some Signs else if c || d then Some Scales else if f then Some Subscripts else None) ≡ is_some (opened f)
+
+pub open_told : (t : Sign) (ts : List Sign) → here Subscripts (t ∷ ts) ≡ is_some (open_of t)
+open_told t ts = go t.symbol
+  where
+    none : (k : Keyword) → on_mark grammar (is Subscripts) (key_cue k) ≡ false
+    none key.Of = refl
+    none _ = refl
+
+    other : (ch n : ℕ) (a b c d f : Bool) → ch ≡ n → (n == 40) ≡ false → (ch == 40) ≡ f → opens_so a b c d false → opens_so a b c d f
+    other ch n a b c d f e differ ef fine = subst (opens_so a b c d) (sym differ ∙ (ap (λ (k : ℕ). k == 40) (sym e) ∙ ef)) fine
+
+    at_mark : (ch : ℕ) (a b c d f : Bool) → (ch == 43) ≡ a → (ch == 45) ≡ b → (ch == 42) ≡ c → (ch == 47) ≡ d → (ch == 40) ≡ f → opens_so a b c d f
+    at_mark ch false false false false true ea eb ec ed ef = refl
+    at_mark ch false false false false false ea eb ec ed ef = refl
+    at_mark ch true b c d f ea eb ec ed ef = other ch 43 true b c d f (eqb-true ch 43 ea) refl ef refl
+    at_mark ch false true c d f ea eb ec ed ef = other ch 45 false true c d f (eqb-true ch 45 eb) refl ef refl
+    at_mark ch false false true d f ea eb ec ed ef = other ch 42 false false true d f (eqb-true ch 42 ec) refl ef refl
+    at_mark ch false false false true f ea eb ec ed ef = other ch 47 false false false true f (eqb-true ch 47 ed) refl ef refl
+
+    go : (y : Symbol) → on_mark grammar (is Subscripts) (peek_on grammar (symbol_front y) ts) ≡ is_some (mark_symbol open_mark y)
+    go (Key k) = no_word Subscripts none refl refl refl refl k ts
+    go (Name text) = refl
+    go (Number n) = refl
+    go (Text text) = refl
+    go (Mark ch) = at_mark ch (ch == 43) (ch == 45) (ch == 42) (ch == 47) (ch == 40) refl refl refl refl refl
+    go (Relation r) = refl
+    go (Pic text) = refl
+    go Stop = refl
+
+pub here_open : (ts : List Sign) → here Subscripts ts ≡ stands open_of ts
+here_open [] = refl
+here_open (t ∷ ts) = open_told t ts
+
+-- ---- numbers
+
+only_number : (y : Symbol) (n : Num) → number_symbol y ≡ Some n → y ≡ Number n
+only_number (Number m) n e = ap (λ (k : Num). Number k) cc
+only_number (Key k) n e = absurd cc
+only_number (Name text) n e = absurd cc
+only_number (Text text) n e = absurd cc
+only_number (Mark ch) n e = absurd cc
+only_number (Relation r) n e = absurd cc
+only_number (Pic text) n e = absurd cc
+only_number Stop n e = absurd cc
+
+pub numbers : (d : ℕ) → Class grammar (of number_symbol) Always (λ n. item d (Number n))
+numbers d = record { reads = λ x t a f. ap number_symbol f.symbol; only = λ t x e. (tt, record { symbol = only_number t.symbol x e; line = tt }) }

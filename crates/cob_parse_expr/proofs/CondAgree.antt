@@ -11,12 +11,12 @@ use Rattle.reading.specs.Law.{Agrees}
 use Rattle.reading.proofs.Wider.{agree_same, agree_seen, agree_follow, agree_branch, agree_choose, agree_many, agree_opt, agree_closed, agree_full}
 use Rattle.cob_parse_expr.specs.Alphabet.{grammar}
 use Rattle.cob_parse_expr.specs.Classes.{open_of, close_of, sign_of, scaling_of, not_of, and_of, or_of, numeric_of, sign_test_of, relation_of}
-use Rattle.cob_parse_expr.specs.Reading.{here, opnd_at, group_at}
+use Rattle.cob_parse_expr.specs.Reading.{here, Inner, opnd_with, inner_at}
 use Rattle.cob_parse_expr.specs.CondReading.{Begun, goes_on, make_head, head_with, begun_factors, begun_term, head_term, begun_summands, begun_expr, head_expr, make_asked, compared_with, asked_with, make_test, test_with, make_subject, subject_with, make_further, further_with, negated_with, plain_with, make_neg, neg_with, negs_with, make_conj, conj_with, conjs_with, make_cond, cond_with, cond_goes, inside_cond, paren_at, cond_at}
 use Rattle.cob_parse_expr.proofs.StepLemmas.{paren_lacks}
-use Rattle.cob_parse_expr.proofs.ExprAgree.{agree_primary, agree_fact, agree_term, agree_expr, lacks, group_wider}
+use Rattle.cob_parse_expr.proofs.ExprAgree.{AgreesInner, agree_opnd, agree_primary, agree_fact, agree_term, agree_expr, lacks, inner_wider}
 
-module _ {i j : Reader Sign Expr} (same : Agrees i j) where
+module _ {i j : Inner} (same : AgreesInner i j) where
   agree_begun_factors : (h : Begun Fact) → Agrees (begun_factors i h) (begun_factors j h)
   agree_begun_factors h = agree_many (begins grammar (λ c. goes_on h && is Scales c)) _ _ (agree_branch scaling_of _ _ (λ s. agree_fact same))
 
@@ -32,9 +32,9 @@ module _ {i j : Reader Sign Expr} (same : Agrees i j) where
   agree_test : Agrees (test_with i) (test_with j)
   agree_test = agree_seen make_test _ _ (agree_choose (stands not_of) _ _ _ _ (agree_branch not_of _ _ (λ x. agree_asked)) agree_asked)
 
-module _ {p q : Reader Sign Cond} {i j : Reader Sign Expr} (same_cond : Agrees p q) (same : Agrees i j) where
+module _ {p q : Reader Sign Cond} {i j : Inner} (same_cond : Agrees p q) (same : AgreesInner i j) where
   agree_head : Agrees (head_with p i) (head_with q j)
-  agree_head = agree_seen make_head _ _ (agree_choose (stands open_of) p q _ _ same_cond (agree_choose (stands sign_of) _ _ opnd_at opnd_at (agree_branch sign_of _ _ (λ s. agree_primary same)) (agree_same opnd_at)))
+  agree_head = agree_seen make_head _ _ (agree_choose (stands open_of) p q _ _ same_cond (agree_choose (stands sign_of) _ _ (opnd_with i.subs) (opnd_with j.subs) (agree_branch sign_of _ _ (λ s. agree_primary same)) (agree_opnd same.subs)))
 
   agree_head_term : Agrees (head_term p i) (head_term q j)
   agree_head_term = agree_seen begun_term _ _ (agree_follow _ _ _ _ agree_head (agree_begun_factors same))
@@ -69,7 +69,7 @@ paren_wider zero more = subst (λ (x : ℕ). Agrees (paren_at zero) (paren_at x)
 paren_wider (suc room) more =
     let k : suc (room + more) ≡ suc room + more = omega arith in
     subst (λ (x : ℕ). Agrees (paren_at (suc room)) (paren_at x)) k
-    (agree_seen inside_cond _ _ (agree_branch open_of _ _ (λ x. agree_closed (cond_at room) (cond_at (room + more)) close_of cond_goes (agree_cond (paren_wider room more) (group_wider room more)))))
+    (agree_seen inside_cond _ _ (agree_branch open_of _ _ (λ x. agree_closed (cond_at room) (cond_at (room + more)) close_of cond_goes (agree_cond (paren_wider room more) (inner_wider room more)))))
 
 pub cond_wider : (room more : ℕ) → Agrees (cond_at room) (cond_at (room + more))
-cond_wider room more = agree_cond (paren_wider room more) (group_wider room more)
+cond_wider room more = agree_cond (paren_wider room more) (inner_wider room more)

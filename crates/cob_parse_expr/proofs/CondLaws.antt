@@ -16,7 +16,7 @@ use Rattle.cob_tree.specs.declared.keyword.Keyword.TheVariants as key
 use Rattle.cob_tree.specs.Symbols.{Symbol, Key, Name, Mark, Relation, Sign}
 use Rattle.cob_tree.specs.Items.{Item, item}
 use Rattle.cob_tree.specs.Items as items
-use Rattle.cob_tree.specs.Cues.{Cue, is, Qualifies, Signs, Scales, Relates, Ands, Ors}
+use Rattle.cob_tree.specs.Cues.{Cue, is, Qualifies, Subscripts, Signs, Scales, Relates, Ands, Ors}
 use Rattle.cob_parse_expr.specs.Alphabet.{grammar}
 use Rattle.cob_tree.specs.Expr.{Expr, MkExpr, terms_of, Term, MkTerm, facts_of, Fact, MkFact, Primary, operand, group}
 use Rattle.cob_tree.specs.Cond.{Cond, MkCond, Conjs, no_conjs, more_conjs, Conj, MkConj, Negs, no_negs, more_negs, Neg, MkNeg, Simple, parenthesised, relation, abbreviated, numeric, alone, conjs_of, negs_of}
@@ -40,7 +40,7 @@ use Rattle.reading.proofs.Choose.{choose_syntax, choose_law}
 use Rattle.cob_parse_expr.specs.Classes.{mark_symbol, open_of, sign_mark, sign_of, scaling_of, not_key, not_of, numeric_key, numeric_of, sign_test_key, sign_test_of, relation_symbol, relation_of, and_of, or_of}
 use Rattle.cob_parse_expr.specs.LexemeClasses.{word_symbol}
 use Rattle.cob_parse_expr.specs.Classes as class
-use Rattle.cob_parse_expr.specs.Reading.{here, second, primary_with, expr_with, opnd_at}
+use Rattle.cob_parse_expr.specs.Reading.{here, second, Inner, primary_with, expr_with, opnd_with}
 use Rattle.cob_parse_expr.specs.CondReading.{Begun, whole, part, goes_on, begun_fact, make_head, head_with, begun_factors, begun_term, head_term, begun_summands, begun_expr, head_expr, Asked, compared, for_digits, for_sign, make_asked, compared_with, asked_with, make_test, test_with, tested, make_subject, subject_with, make_further, further_with, negated_with, plain_with, make_neg, neg_with, negs_with, make_conj, conj_with, conjs_with, make_cond, cond_with}
 use Rattle.cob_parse_expr.specs.Parsing.{expr_syntax, cond_syntax}
 use Rattle.cob_parse_expr.proofs.CueLemmas.{only, not_taken}
@@ -48,7 +48,7 @@ use Rattle.cob_parse_expr.proofs.ClassLaws.{signs, relations, numerics, sign_tes
 use Rattle.cob_parse_expr.proofs.Generic.{tells_by_one, all_good}
 use Rattle.cob_parse_expr.proofs.GuardLaws.{guarded, guarded_tail, both}
 use Rattle.cob_parse_expr.proofs.OperandLaws.{opnd_syntax, opnd_law}
-use Rattle.cob_parse_expr.proofs.ExprLaws.{fact_syntax, term_syntax, group_syntax, signed_syntax, signed_law, factors, factors_back, factors_print, factors_take, factor_syntax, factor_law, factor_starts, summands, summands_back, summands_print, summands_take, summand_syntax, summand_law, summand_starts, fact_never, term_never, expr_never, expr_law, first_symbol, first_of, some_first, some_expr}
+use Rattle.cob_parse_expr.proofs.ExprLaws.{fact_syntax, term_syntax, InnerLaw, signed_syntax, signed_law, factors, factors_back, factors_print, factors_take, factor_syntax, factor_law, factor_starts, summands, summands_back, summands_print, summands_take, summand_syntax, summand_law, summand_starts, fact_never, term_never, expr_never, expr_law, first_symbol, first_of, some_first, some_expr}
 use Rattle.cob_parse_expr.proofs.TestLaws.{asked_syntax, test_syntax, compared_syntax, compared_law, test_law, test_starts, asked_cues}
 
 -- ---- a condition that is one expression alone
@@ -177,7 +177,7 @@ begun_term_view d = record { back = back; print = λ x g. print x.0 x.1 g; takes
 
     good_back : (h : Begun Term) → begun_good d (term_syntax d) h → (term_raw d).Good (begun_term_parts h)
     good_back (whole c) g = (g, tt, tt)
-    good_back (part (MkTerm f fs)) g = (tt, all_good (guarded true (is Scales)) (when (true ≡ true) (factor_syntax d)) Scales (λ x good. fact_never Scales refl x.1) (λ x. ((tt, tt), refl)) (factors fs), apart (is_given (factors fs)) (takes_fact f Scales) (fact_never Scales refl f))
+    good_back (part (MkTerm f fs)) g = (tt, all_good (guarded true (is Scales)) (when (true ≡ true) (factor_syntax d)) Scales (λ x good. fact_never Scales refl refl x.1) (λ x. ((tt, tt), refl)) (factors fs), apart (is_given (factors fs)) (takes_fact f Scales) (fact_never Scales refl refl f))
 
 abbrev expr_raw : ℕ → Syntax Item Cue (Begun Term × List (plus_minus.Sign × Term))
 expr_raw d = tail_syntax (begun_syntax d (term_syntax d)) (λ h. guarded_syntax (is Signs) (summand_syntax d) Signs (goes_on h)) is_given Signs
@@ -207,7 +207,7 @@ begun_expr_view d = record { back = back; print = λ x g. print x.0 x.1 g; takes
 
     good_back : (h : Begun Expr) → begun_good d (expr_syntax d) h → (expr_raw d).Good (begun_expr_parts h)
     good_back (whole c) g = (g, tt, tt)
-    good_back (part (MkExpr t ts)) g = (tt, all_good (guarded true (is Signs)) (when (true ≡ true) (summand_syntax d)) Signs (λ x good. term_never Signs refl refl x.1) (λ x. ((tt, tt), refl)) (summands ts), apart (is_given (summands ts)) (takes_term t Signs) (term_never Signs refl refl t))
+    good_back (part (MkExpr t ts)) g = (tt, all_good (guarded true (is Signs)) (when (true ≡ true) (summand_syntax d)) Signs (λ x good. term_never Signs refl refl refl x.1) (λ x. ((tt, tt), refl)) (summands ts), apart (is_given (summands ts)) (takes_term t Signs) (term_never Signs refl refl refl t))
 
 -- ---- a simple condition but one without its subject
 
@@ -265,10 +265,10 @@ subject_view d = record { back = back; print = λ x g. print x.0 x.1 g; takes = 
 
     good_back : (s : Simple) → (subject_syntax d).Good s → (subject_raw d).Good (subject_parts s)
     good_back (parenthesised c) g = (g.0, tt, tt)
-    good_back (relation e not_ r right) g = (tt, (tt, refl), expr_never Relates refl refl refl e)
+    good_back (relation e not_ r right) g = (tt, (tt, refl), expr_never Relates refl refl refl refl e)
     good_back (abbreviated not_ r right) g = absurd g.1
-    good_back (numeric e not_) g = (tt, (tt, refl), expr_never Relates refl refl refl e)
-    good_back (cond.sign e not_ t) g = (tt, (tt, refl), expr_never Relates refl refl refl e)
+    good_back (numeric e not_) g = (tt, (tt, refl), expr_never Relates refl refl refl refl e)
+    good_back (cond.sign e not_ t) g = (tt, (tt, refl), expr_never Relates refl refl refl refl e)
     good_back (alone e) g = (tt, tt, tt)
 
 -- ---- with what it begins
@@ -449,14 +449,14 @@ neg_view d = record { back = back; print = print; takes = takes; good = good; go
 
 -- ---- what a condition never takes
 
-module _ (c : Cue) (qualifies : is Qualifies c ≡ false) (scales : is Scales c ≡ false) (signs : is Signs c ≡ false) (tests : takes_test c ≡ false) where
+module _ (c : Cue) (qualifies : is Qualifies c ≡ false) (subscripts : is Subscripts c ≡ false) (scales : is Scales c ≡ false) (signs : is Signs c ≡ false) (tests : takes_test c ≡ false) where
   simple_never : (s : Simple) → takes_simple s c ≡ false
   simple_never (parenthesised x) = refl
-  simple_never (relation e not_ r right) = expr_never c qualifies scales signs right
-  simple_never (abbreviated not_ r right) = expr_never c qualifies scales signs right
+  simple_never (relation e not_ r right) = expr_never c qualifies subscripts scales signs right
+  simple_never (abbreviated not_ r right) = expr_never c qualifies subscripts scales signs right
   simple_never (numeric e not_) = refl
   simple_never (cond.sign e not_ t) = refl
-  simple_never (alone e) = or_false (takes_expr e c) (takes_test c) (expr_never c qualifies scales signs e) tests
+  simple_never (alone e) = or_false (takes_expr e c) (takes_test c) (expr_never c qualifies subscripts scales signs e) tests
 
   pub neg_never : (n : Neg) → takes_neg n c ≡ false
   neg_never (MkNeg not_ s) = simple_never s
@@ -524,10 +524,10 @@ conj_view d = record { back = back; print = λ x g. ap (λ (z : List Item). prin
 
     listed_good : (ns : Negs) → ShapedNegs ns → (ands_syntax d).Good (listed_negs ns)
     listed_good no_negs g = tt
-    listed_good (more_negs n ns) g = ((tt, g.0), listed_good ns g.1, apart (is_given (listed_negs ns)) (takes_neg n Ands) (neg_never Ands refl refl refl refl n))
+    listed_good (more_negs n ns) g = ((tt, g.0), listed_good ns g.1, apart (is_given (listed_negs ns)) (takes_neg n Ands) (neg_never Ands refl refl refl refl refl n))
 
     good_back : (x : Conj) → ShapedConj x → (conj_raw d).Good (conj_parts x)
-    good_back (MkConj n ns) g = (g.0, listed_good ns g.1, apart (is_given (listed_negs ns)) (takes_neg n Ands) (neg_never Ands refl refl refl refl n))
+    good_back (MkConj n ns) g = (g.0, listed_good ns g.1, apart (is_given (listed_negs ns)) (takes_neg n Ands) (neg_never Ands refl refl refl refl refl n))
 
 -- ---- OR
 
@@ -571,10 +571,10 @@ cond_view d = record { back = back; print = λ x g. ap (λ (z : List Item). prin
 
     listed_good : (cs : Conjs) → ShapedConjs cs → (ors_syntax d).Good (listed_conjs cs)
     listed_good no_conjs g = tt
-    listed_good (more_conjs c cs) g = ((tt, g.0), listed_good cs g.1, apart (is_given (listed_conjs cs)) (takes_conj c Ors) (conj_never Ors refl refl refl refl refl c))
+    listed_good (more_conjs c cs) g = ((tt, g.0), listed_good cs g.1, apart (is_given (listed_conjs cs)) (takes_conj c Ors) (conj_never Ors refl refl refl refl refl refl c))
 
     good_back : (x : Cond) → ShapedCond x → (cond_raw d).Good (cond_parts x)
-    good_back (MkCond c cs) g = (g.0, listed_good cs g.1, apart (is_given (listed_conjs cs)) (takes_conj c Ors) (conj_never Ors refl refl refl refl refl c))
+    good_back (MkCond c cs) g = (g.0, listed_good cs g.1, apart (is_given (listed_conjs cs)) (takes_conj c Ors) (conj_never Ors refl refl refl refl refl refl c))
 
 -- ---- what stands first is no mark, where it is an operand
 
@@ -598,9 +598,9 @@ no_open plus_minus_of.Minus = refl
 
 -- ---- the laws
 
-module _ (d top : ℕ) (low : d < top) (paren : Reader Sign Cond) (inner : Reader Sign Expr) (LP : Law grammar paren (paren_syntax d) top) (LG : Law grammar inner (group_syntax d) top) where
+module _ (d top : ℕ) (low : d < top) (paren : Reader Sign Cond) (inner : Inner) (LP : Law grammar paren (paren_syntax d) top) (LI : InnerLaw d top inner) where
   head_law : Law grammar (head_with paren inner) (begun_syntax d (fact_syntax d)) top
-  head_law = seen_law (choose_law LP (choose_law (signed_law d top low inner LG) (opnd_law d top low) (tells_by_one (λ t y z. refl) signed (λ o text rest good spells. opnd_stands sign_mark d o text rest spells))) (tells_by_one (λ t y z. refl) opened closed)) (head_view d)
+  head_law = seen_law (choose_law LP (choose_law (signed_law d top low inner LI) (opnd_law d top low inner.subs LI.subs) (tells_by_one (λ t y z. refl) signed (λ o text rest good spells. opnd_stands sign_mark d o text rest spells))) (tells_by_one (λ t y z. refl) opened closed)) (head_view d)
     where
       signed : (x : plus_minus.Sign × Primary) (text rest : List Sign) → (signed_syntax d).Good x → Matches grammar ((signed_syntax d).print x) text → stands sign_of (text ++ rest) ≡ true
       signed x [] rest good spells = absurd spells
@@ -617,32 +617,32 @@ module _ (d top : ℕ) (low : d < top) (paren : Reader Sign Cond) (inner : Reade
 
   head_term_law : Law grammar (head_term paren inner) (begun_syntax d (term_syntax d)) top
   head_term_law = seen_law (tail_law head_law Scales (λ h p good e. ap (begun_takes d (fact_syntax d) h) (only Scales p (both (goes_on h) (is Scales p) e).1))
-      (λ h. guarded_tail (factor_law d top low inner LG) (goes_on h) (is Scales) Scales (λ x p good e. ap ((factor_syntax d).takes x) (only Scales p e)) (factor_starts d top low inner LG))) (begun_term_view d)
+      (λ h. guarded_tail (factor_law d top low inner LI) (goes_on h) (is Scales) Scales (λ x p good e. ap ((factor_syntax d).takes x) (only Scales p e)) (factor_starts d top low inner LI))) (begun_term_view d)
 
   head_expr_law : Law grammar (head_expr paren inner) (begun_syntax d (expr_syntax d)) top
   head_expr_law = seen_law (tail_law head_term_law Signs (λ h p good e. ap (begun_takes d (term_syntax d) h) (only Signs p (both (goes_on h) (is Signs p) e).1))
-      (λ h. guarded_tail (summand_law d top low inner LG) (goes_on h) (is Signs) Signs (λ x p good e. ap ((summand_syntax d).takes x) (only Signs p e)) (summand_starts d top low inner LG))) (begun_expr_view d)
+      (λ h. guarded_tail (summand_law d top low inner LI) (goes_on h) (is Signs) Signs (λ x p good e. ap ((summand_syntax d).takes x) (only Signs p e)) (summand_starts d top low inner LI))) (begun_expr_view d)
 
   subject_law : Law grammar (subject_with paren inner) (subject_syntax d) top
-  subject_law = seen_law (opt_law head_expr_law (test_law d top low inner LG) goes_on takes_test Relates alike (test_starts d top low inner LG)) (subject_view d)
+  subject_law = seen_law (opt_law head_expr_law (test_law d top low inner LI) goes_on takes_test Relates alike (test_starts d top low inner LI)) (subject_view d)
     where
       alike : (h : Begun Expr) (p : Cue) → begun_good d (expr_syntax d) h → takes_test p ≡ true → begun_takes d (expr_syntax d) h p ≡ begun_takes d (expr_syntax d) h Relates
       alike (whole c) p good e = refl
-      alike (part x) p good e = let w = asked_cues p e in expr_never p w.0 w.1 w.2 x ∙ sym (expr_never Relates refl refl refl x)
+      alike (part x) p good e = let w = asked_cues p e in expr_never p w.0 w.1 w.2 w.3 x ∙ sym (expr_never Relates refl refl refl refl x)
 
   compared_first : (x : Rel × Expr) (text rest : List Sign) → (compared_syntax d).Good x → Matches grammar ((compared_syntax d).print x) text → stands relation_of (text ++ rest) ≡ true
   compared_first x [] rest good spells = absurd spells
   compared_first x (t ∷ text) rest good spells = ap is_some ((relations d).reads x.0 t tt spells.0)
 
   further_law : Law grammar (further_with paren inner) (further_syntax d) top
-  further_law = seen_law (choose_law (branch_law (nots d) top (λ x a. low) tt tt (λ x. compared_with inner) (λ x. compared_syntax d) (λ x a. compared_law d top low inner LG)) subject_law (tells_by_one (λ t y z. refl) first (no_not d))) (further_view d)
+  further_law = seen_law (choose_law (branch_law (nots d) top (λ x a. low) tt tt (λ x. compared_with inner) (λ x. compared_syntax d) (λ x a. compared_law d top low inner LI)) subject_law (tells_by_one (λ t y z. refl) first (no_not d))) (further_view d)
     where
       first : (x : Unit {0} × (Rel × Expr)) (text rest : List Sign) → (not_compared_syntax d).Good x → Matches grammar ((not_compared_syntax d).print x) text → stands not_of (text ++ rest) ≡ true
       first x [] rest good spells = absurd spells
       first x (t ∷ text) rest good spells = ap is_some ((nots d).reads tt t tt spells.0)
 
   negated_law : Law grammar (negated_with paren inner) (choose_syntax (compared_syntax d) (further_syntax d)) top
-  negated_law = choose_law (compared_law d top low inner LG) further_law (tells_by_one (λ t y z. refl) compared_first free)
+  negated_law = choose_law (compared_law d top low inner LI) further_law (tells_by_one (λ t y z. refl) compared_first free)
     where
       free : (s : Simple) (text rest : List Sign) → (further_syntax d).Good s → Matches grammar (print_simple d s) text → stands relation_of (text ++ rest) ≡ false
       free (abbreviated true r right) [] rest good spells = absurd spells
@@ -655,7 +655,7 @@ module _ (d top : ℕ) (low : d < top) (paren : Reader Sign Cond) (inner : Reade
       free (alone e) text rest good spells = no_relation d (alone e) text rest (tt, tt) spells
 
   plain_law : Law grammar (plain_with paren inner) (plain_syntax d) top
-  plain_law = choose_law (compared_law d top low inner LG) subject_law (tells_by_one (λ t y z. refl) compared_first (no_relation d))
+  plain_law = choose_law (compared_law d top low inner LI) subject_law (tells_by_one (λ t y z. refl) compared_first (no_relation d))
 
   neg_law : Law grammar (neg_with paren inner) (neg_syntax d) top
   neg_law = seen_law (choose_law (branch_law (nots d) top (λ x a. low) tt tt (λ x. negated_with paren inner) (λ x. choose_syntax (compared_syntax d) (further_syntax d)) (λ x a. negated_law)) plain_law (tells_by_one (λ t y z. refl) first free)) (neg_view d)

@@ -16,7 +16,7 @@ use Rattle.reading.proofs.Texts.{next_none}
 use Rattle.reading.proofs.Results.{ok_is, done}
 use Rattle.cob_parse_expr.specs.Alphabet.{grammar}
 use Rattle.cob_parse_expr.specs.Classes.{open_of, not_of, sign_of, scaling_of, bare_first}
-use Rattle.cob_parse_expr.specs.Reading.{primary_with, fact_with, factors_with, term_with, summands_with, opnd_at}
+use Rattle.cob_parse_expr.specs.Reading.{primary_with, fact_with, factors_with, term_with, summands_with, opnd_with, Inner}
 use Rattle.cob_parse_expr.specs.CondReading.{Begun, whole, part, goes_on, begun_fact, head_with, begun_factors, begun_term, begun_summands, begun_expr, Asked, test_with, make_subject, subject_with, further_with, negated_with, plain_with, neg_with, negs_with, conj_with, conjs_with, cond_with}
 use Rattle.cob_parse_expr.specs.CondSteps.{from_fact, make_value, subject_behind, subject_after, negated_neg, plain_neg_at, last_neg, last_conj}
 use Rattle.cob_parse_expr.specs.declared.halt.Halt.{Halt}
@@ -43,7 +43,7 @@ begins_bare (t ∷ ts) none = tests_told (t ∷ ts) ∙ ap (λ (b : Bool). tests
 -- ---- an expression takes no NOT
 
 pub no_not : (e : Expr) → takes_expr e NotRelates ≡ false
-no_not e = expr_never NotRelates refl refl refl e
+no_not e = expr_never NotRelates refl refl refl refl e
 
 -- ---- a subject
 
@@ -52,7 +52,7 @@ none_begin : {A : Type 0} (set : Cue → Bool) (r : Reader Sign A) (ts : List Si
 none_begin set r [] = refl
 none_begin set r (t ∷ ts) = rw (next_none grammar (t ∷ ts)) refl
 
-module _ (paren : Reader Sign Cond) (inner : Reader Sign Expr) where
+module _ (paren : Reader Sign Cond) (inner : Inner) where
   abbrev term_from : Reader Sign (Begun Fact) → Reader Sign (Begun Term)
   term_from r = seen begun_term (follow r (begun_factors inner))
 
@@ -119,13 +119,13 @@ module _ (paren : Reader Sign Cond) (inner : Reader Sign Expr) where
       signed (Err d) e er = rw (opens, e, er) refl
       signed (Ok x) e er = rw (opens, e, er) refl
 
-      plain : (r : Result (Opnd × List Sign) Fault) → stands sign_of ts ≡ false → opnd_at ts ≡ r → head_with paren inner ts ≡ seen begun_part (fact_with inner) ts
+      plain : (r : Result (Opnd × List Sign) Fault) → stands sign_of ts ≡ false → opnd_with inner.subs ts ≡ r → head_with paren inner ts ≡ seen begun_part (fact_with inner) ts
       plain (Err d) e er = rw (opens, e, opens, er) refl
       plain (Ok x) e er = rw (opens, e, opens, er) refl
 
       at : (c : Bool) → stands sign_of ts ≡ c → head_with paren inner ts ≡ seen begun_part (fact_with inner) ts
       at true e = signed (branch sign_of (λ s. primary_with inner) ts) e refl
-      at false e = plain (opnd_at ts) e refl
+      at false e = plain (opnd_with inner.subs ts) e refl
 
   subject_bare : (ts : List Sign) → stands open_of ts ≡ false → subject_with paren inner ts ≡ fact_with inner ts >>= λ x. subject_behind inner x.0 x.1
   subject_bare ts opens = ap subject_on (bare_head ts opens) ∙ go (fact_with inner ts)

@@ -4,7 +4,7 @@ use Rattle.std.proofs.lemmas.Bool.{eqb-true}
 use Rattle.cob_tree.specs.declared.keyword.Keyword.{Keyword}
 use Rattle.cob_tree.specs.declared.keyword.Keyword.TheVariants as key
 use Rattle.cob_tree.specs.Symbols.{Symbol, Key, Name, Number, Text, Mark, Relation, Pic, Stop, Sign}
-use Rattle.cob_tree.specs.Cues.{Cue, number, is, mark_cue, key_cue, not_cue, Starts, Qualifies, Rounds, Names, Constants, Zeros, Signs, Scales, Relates, NotRelates, Tests, NotTests, Ands, Ors, Throughs, Givings, Remainders, Intos, Froms, Modes, Loops, Size, NotSize, AtEnd, NotAtEnd, Else, Whens, EndAdd, EndSubtract, EndMultiply, EndDivide, EndCompute, EndIf, EndEvaluate, EndRead, EndWrite}
+use Rattle.cob_tree.specs.Cues.{Cue, number, is, mark_cue, key_cue, not_cue, Starts, Qualifies, Rounds, Names, Constants, Zeros, Signs, Scales, Relates, NotRelates, Tests, NotTests, Ands, Ors, Throughs, Givings, Remainders, Intos, Froms, Modes, Loops, Size, NotSize, AtEnd, NotAtEnd, Else, Whens, EndAdd, EndSubtract, EndMultiply, EndDivide, EndCompute, EndIf, EndEvaluate, EndRead, EndWrite, Subscripts}
 use Rattle.cob_parse_expr.specs.Alphabet.{key_front, symbol_front, grammar}
 use Rattle.reading.specs.Printing.{Front, Here, Ahead, peek_on, peek, on_mark, begins, Next}
 use Rattle.reading.proofs.Starts.{OneToken}
@@ -12,7 +12,7 @@ use Rattle.reading.proofs.Starts.{OneToken}
 -- ---- cues by their numbers
 
 cues : List Cue
-cues = Starts ∷ Qualifies ∷ Rounds ∷ Names ∷ Constants ∷ Zeros ∷ Signs ∷ Scales ∷ Relates ∷ NotRelates ∷ Tests ∷ NotTests ∷ Ands ∷ Ors ∷ Throughs ∷ Givings ∷ Remainders ∷ Intos ∷ Froms ∷ Modes ∷ Loops ∷ Size ∷ NotSize ∷ AtEnd ∷ NotAtEnd ∷ Else ∷ Whens ∷ EndAdd ∷ EndSubtract ∷ EndMultiply ∷ EndDivide ∷ EndCompute ∷ EndIf ∷ EndEvaluate ∷ EndRead ∷ EndWrite ∷ []
+cues = Starts ∷ Qualifies ∷ Rounds ∷ Names ∷ Constants ∷ Zeros ∷ Signs ∷ Scales ∷ Relates ∷ NotRelates ∷ Tests ∷ NotTests ∷ Ands ∷ Ors ∷ Throughs ∷ Givings ∷ Remainders ∷ Intos ∷ Froms ∷ Modes ∷ Loops ∷ Size ∷ NotSize ∷ AtEnd ∷ NotAtEnd ∷ Else ∷ Whens ∷ EndAdd ∷ EndSubtract ∷ EndMultiply ∷ EndDivide ∷ EndCompute ∷ EndIf ∷ EndEvaluate ∷ EndRead ∷ EndWrite ∷ Subscripts ∷ []
 
 numbered : (c : Cue) → get_or cues (number c) Starts ≡ c
 unfolding cues

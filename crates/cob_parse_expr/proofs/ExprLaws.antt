@@ -1,7 +1,9 @@
--- The laws of expressions: with the reader of one in parentheses given, and then for each room.
+-- The laws of expressions: with the readers of what stands in parentheses given, and then for each room.
 use Rattle.std.proofs.Common.{◌≡◌, ℕ, zero, suc, ◌+◌, ◌<◌, ◌⊎◌, inl, inr, Bool, true, false, ◌||◌, List, [], ◌∷◌, ◌++◌, Option, Some, None, is_some, refl, sym, ap, subst, ◌∙◌, arith}
 use Rattle.cob_tree.specs.declared.operand.Opnd.{Opnd}
 use Rattle.cob_tree.specs.declared.operand.Opnd.TheVariants as opnd
+use Rattle.cob_tree.specs.declared.operand.Ref.{Ref}
+use Rattle.cob_tree.specs.declared.operand.Subscript.{Subscript}
 use Rattle.cob_tree.specs.declared.operand.Const.{Const}
 use Rattle.cob_tree.specs.declared.operand.Const.TheVariants as const
 use Rattle.cob_tree.specs.declared.expr.Sign as plus_minus
@@ -10,11 +12,11 @@ use Rattle.cob_tree.specs.declared.expr.Scaling.{Scaling}
 use Rattle.cob_tree.specs.declared.expr.Scaling.TheVariants as scaling
 use Rattle.cob_tree.specs.Symbols.{Symbol, Key, Name, Mark, Sign}
 use Rattle.cob_tree.specs.Items.{Item, Fits, item}
-use Rattle.cob_tree.specs.Cues.{Cue, is, Qualifies, Signs, Scales, NotRelates, NotTests, NotSize, NotAtEnd}
+use Rattle.cob_tree.specs.Cues.{Cue, is, Qualifies, Subscripts, Signs, Scales, NotRelates, NotTests, NotSize, NotAtEnd}
 use Rattle.cob_parse_expr.specs.Alphabet.{symbol_front, grammar}
 use Rattle.cob_tree.specs.Expr.{Expr, MkExpr, Terms, no_terms, more_terms, terms_of, Term, MkTerm, Facts, no_facts, more_facts, facts_of, Fact, MkFact, Primary, operand, group}
 use Rattle.cob_tree.specs.PrintExpr.{const_symbol, open_mark, close_mark, sign_character, scaling_character, print_expr, print_terms, print_term, print_facts, print_fact, print_primary}
-use Rattle.cob_tree.specs.Takes.{takes_primary, takes_fact, takes_facts, takes_term, takes_terms, takes_expr}
+use Rattle.cob_tree.specs.Takes.{takes_behind, takes_ref, takes_primary, takes_fact, takes_facts, takes_term, takes_terms, takes_expr}
 use Rattle.reading.specs.Readers.{Reader, branch, stands, closed, full}
 use Rattle.reading.specs.Printing.{Matches, Below, peek_on, on_mark, Next}
 use Rattle.reading.specs.Law.{Syntax, Law, onward}
@@ -31,12 +33,12 @@ use Rattle.reading.proofs.Choose.{choose_syntax, choose_law}
 use Rattle.reading.proofs.Full.{full_law}
 use Rattle.cob_parse_expr.specs.Classes.{mark_symbol, open_of, close_of, sign_mark, sign_of, scaling_of}
 use Rattle.cob_parse_expr.specs.Classes as class
-use Rattle.cob_parse_expr.specs.Reading.{make_primary, primary_with, make_fact, fact_with, make_term, term_with, make_expr, expr_with, inside, expr_goes, group_at, expr_at}
+use Rattle.cob_parse_expr.specs.Reading.{Inner, inner_at, sub_at, make_primary, primary_with, make_fact, fact_with, make_term, term_with, make_expr, expr_with, inside, expr_goes, group_at, expr_at}
 use Rattle.cob_parse_expr.specs.Parsing.{expr_syntax}
 use Rattle.cob_parse_expr.proofs.CueLemmas.{only, not_taken}
 use Rattle.cob_parse_expr.proofs.ClassLaws.{opens, closes, signs, scalings, sign_told, scaling_told}
 use Rattle.cob_parse_expr.proofs.Generic.{tells_by_one, all_good}
-use Rattle.cob_parse_expr.proofs.OperandLaws.{opnd_syntax, opnd_law}
+use Rattle.cob_parse_expr.proofs.OperandLaws.{sub_syntax, sub_law, opnd_syntax, opnd_law, close_free}
 
 abbrev pub primary_syntax : ℕ → Syntax Item Cue Primary
 primary_syntax d = record { Good = Always; print = print_primary d; takes = takes_primary }
@@ -53,9 +55,16 @@ group_syntax d = record { Good = Always; print = λ e. print_primary d (group e)
 
 -- ---- what an expression never takes
 
-module _ (c : Cue) (qualifies : is Qualifies c ≡ false) where
+module _ (c : Cue) (qualifies : is Qualifies c ≡ false) (subscripts : is Subscripts c ≡ false) where
+  pub ref_never : (r : Ref) → takes_ref r c ≡ false
+  ref_never r = go r.sub
+    where
+      go : (s : Option Subscript) → takes_behind s c ≡ false
+      go None = or_false (is Qualifies c) (is Subscripts c) qualifies subscripts
+      go (Some s) = refl
+
   pub fact_never : (f : Fact) → takes_fact f c ≡ false
-  fact_never (MkFact s (operand (opnd.Ref r))) = qualifies
+  fact_never (MkFact s (operand (opnd.Ref r))) = ref_never r
   fact_never (MkFact s (operand (opnd.Const k))) = refl
   fact_never (MkFact s (group e)) = refl
 
@@ -127,7 +136,7 @@ factors_take d f [] p = refl
 factors_take d f (x ∷ xs) p = factors_take d x.1 xs p
 
 pub factors_good : (d : ℕ) (xs : List (Scaling × Fact)) → (factors_syntax d).Good xs
-factors_good d = all_good (is Scales) (factor_syntax d) Scales (λ x good. fact_never Scales refl x.1) (λ x. (tt, tt))
+factors_good d = all_good (is Scales) (factor_syntax d) Scales (λ x good. fact_never Scales refl refl x.1) (λ x. (tt, tt))
 
 pub summands_print : (d : ℕ) (xs : List (plus_minus.Sign × Term)) → print_terms d (terms_of xs) ≡ (summands_syntax d).print xs
 summands_print d [] = refl
@@ -138,7 +147,7 @@ summands_take d t [] p = refl
 summands_take d t (x ∷ xs) p = summands_take d x.1 xs p
 
 pub summands_good : (d : ℕ) (xs : List (plus_minus.Sign × Term)) → (summands_syntax d).Good xs
-summands_good d = all_good (is Signs) (summand_syntax d) Signs (λ x good. term_never Signs refl refl x.1) (λ x. (tt, tt))
+summands_good d = all_good (is Signs) (summand_syntax d) Signs (λ x good. term_never Signs refl refl refl x.1) (λ x. (tt, tt))
 
 term_view : (d : ℕ) → View (tail_syntax (fact_syntax d) (λ x. factors_syntax d) is_given Scales) (term_syntax d) make_term term_parts
 term_view d = record {
@@ -153,7 +162,7 @@ term_view d = record {
     back (MkTerm f fs) good = ap (λ (z : Facts). MkTerm f z) (factors_back fs)
 
     good_back : (t : Term) → Always t → (tail_syntax (fact_syntax d) (λ x. factors_syntax d) is_given Scales).Good (term_parts t)
-    good_back (MkTerm f fs) good = (tt, factors_good d (factors fs), apart (is_given (factors fs)) (takes_fact f Scales) (fact_never Scales refl f))
+    good_back (MkTerm f fs) good = (tt, factors_good d (factors fs), apart (is_given (factors fs)) (takes_fact f Scales) (fact_never Scales refl refl f))
 
 expr_view : (d : ℕ) → View (tail_syntax (term_syntax d) (λ x. summands_syntax d) is_given Signs) (expr_syntax d) make_expr expr_parts
 expr_view d = record {
@@ -168,7 +177,7 @@ expr_view d = record {
     back (MkExpr t ts) good = ap (λ (z : Terms). MkExpr t z) (summands_back ts)
 
     good_back : (e : Expr) → Always e → (tail_syntax (term_syntax d) (λ x. summands_syntax d) is_given Signs).Good (expr_parts e)
-    good_back (MkExpr t ts) good = (tt, summands_good d (summands ts), apart (is_given (summands ts)) (takes_term t Signs) (term_never Signs refl refl t))
+    good_back (MkExpr t ts) good = (tt, summands_good d (summands ts), apart (is_given (summands ts)) (takes_term t Signs) (term_never Signs refl refl refl t))
 
 -- ---- the first token of a primary
 
@@ -204,9 +213,14 @@ first_is_no_mark class none (group e) = none
 abbrev pub signed_syntax : ℕ → Syntax Item Cue (plus_minus.Sign × Primary)
 signed_syntax d = dependent_syntax (lead_syntax Always (λ x. item d (Mark (sign_character x)))) (λ x. primary_syntax d)
 
-module _ (d top : ℕ) (low : d < top) (inner : Reader Sign Expr) (LG : Law grammar inner (group_syntax d) top) where
+-- those of what stands in parentheses
+pub record InnerLaw (d top : ℕ) (inner : Inner) : Type 0 where
+  pub exprs : Law grammar inner.exprs (group_syntax d) top
+  pub subs : Law grammar inner.subs (sub_syntax d) top
+
+module _ (d top : ℕ) (low : d < top) (inner : Inner) (LI : InnerLaw d top inner) where
   pub primary_law : Law grammar (primary_with inner) (primary_syntax d) top
-  primary_law = seen_law (choose_law LG (opnd_law d top low) (tells_by_one (λ t y z. refl) opened free)) (record { back = back; print = print; takes = takes; good = λ x good. tt; good_back = good_back })
+  primary_law = seen_law (choose_law LI.exprs (opnd_law d top low inner.subs LI.subs) (tells_by_one (λ t y z. refl) opened free)) (record { back = back; print = print; takes = takes; good = λ x good. tt; good_back = good_back })
     where
       opened : (e : Expr) (text rest : List Sign) → Always e → Matches grammar (print_primary d (group e)) text → stands open_of (text ++ rest) ≡ true
       opened e [] rest good spells = absurd spells
@@ -303,20 +317,11 @@ module _ (d top : ℕ) (low : d < top) (inner : Reader Sign Expr) (LG : Law gram
 
 -- ---- in parentheses
 
--- a parenthesis that closes ends whatever is open
-pub close_free : (takes : Cue → Bool) (ts : List Sign) → stands close_of ts ≡ true → Next grammar takes ts
-close_free takes [] e = refl
-close_free takes (t ∷ ts) e = go (close_of t) refl e
-  where
-    go : (o : Option (Unit {0})) → close_of t ≡ o → is_some o ≡ true → Next grammar takes (t ∷ ts)
-    go None eo e0 = absurd cc
-    go (Some x) eo e0 = ap (λ (y : Symbol). on_mark grammar takes (peek_on grammar (symbol_front y) ts)) ((closes 0).only t x eo).1.symbol
-
 expr_ends : (d top : ℕ) → Ends grammar (expr_syntax d) top expr_goes (stands close_of)
 expr_ends d top = record {
   ends = λ e ts good here. close_free (takes_expr e) ts here;
   grows = λ e t good below goes. absurd cc;
-  steady = λ e t good goes. not_taken (takes_expr e) (expr_never NotRelates refl refl refl e) (expr_never NotTests refl refl refl e) (expr_never NotSize refl refl refl e) (expr_never NotAtEnd refl refl refl e) t;
+  steady = λ e t good goes. not_taken (takes_expr e) (expr_never NotRelates refl refl refl refl e) (expr_never NotTests refl refl refl refl e) (expr_never NotSize refl refl refl refl e) (expr_never NotAtEnd refl refl refl refl e) t;
 }
 
 abbrev pub some_expr : Expr
@@ -334,10 +339,13 @@ group_law zero d top e = full_law (record { first = λ x good. (open_mark (suc d
         go (Some x) eo e0 = (some_expr, open_mark (suc d), print_expr (suc d) some_expr ++ close_mark (suc d) ∷ [], tt, refl, ((opens (suc d)).only t x eo).1, omega (arith, e))
 group_law (suc room) d top e =
     let low : suc d < top = omega (arith, e) in
-    let law = expr_law (suc d) top low (group_at room) (group_law room (suc d) top (omega (arith, e))) in
-    seen_law (branch_law (opens (suc d)) top (λ x a. low) tt tt (λ x. closed (expr_with (group_at room)) close_of expr_goes) (λ x. seq_syntax (expr_syntax (suc d)) (lead_syntax Always (λ y. item (suc d) (Mark 41))))
+    let law = expr_law (suc d) top low (inner_at room) (record { exprs = group_law room (suc d) top (omega (arith, e)); subs = sub_law room (suc d) top (omega (arith, e)) }) in
+    seen_law (branch_law (opens (suc d)) top (λ x a. low) tt tt (λ x. closed (expr_with (inner_at room)) close_of expr_goes) (λ x. seq_syntax (expr_syntax (suc d)) (lead_syntax Always (λ y. item (suc d) (Mark 41))))
     (λ x a. closed_law law (closes (suc d)) (λ y b. low) tt tt (expr_ends (suc d) top)))
     (record { back = λ y good. refl; print = λ x good. refl; takes = λ x p good. refl; good = λ x good. tt; good_back = λ y good. (tt, (tt, tt)) })
 
+pub inner_law : (room d top : ℕ) → top ≡ suc (d + room) → InnerLaw d top (inner_at room)
+inner_law room d top e = record { exprs = group_law room d top e; subs = sub_law room d top e }
+
 pub law : (room d top : ℕ) → top ≡ suc (d + room) → Law grammar (expr_at room) (expr_syntax d) top
-law room d top e = expr_law d top (omega (arith, e)) (group_at room) (group_law room d top e)
+law room d top e = expr_law d top (omega (arith, e)) (inner_at room) (inner_law room d top e)

@@ -3,6 +3,9 @@ use Rattle.std.proofs.Common.{◌≡◌, ℕ, zero, suc, Bool, true, false, List
 use Rattle.cob_tree.specs.declared.keyword.Keyword.TheVariants as key
 use Rattle.cob_tree.specs.declared.operand.Opnd.{Opnd}
 use Rattle.cob_tree.specs.declared.operand.Opnd.TheVariants as opnd
+use Rattle.cob_tree.specs.declared.operand.Ref.{Ref}
+use Rattle.cob_tree.specs.declared.operand.Subscript.{Subscript}
+use Rattle.cob_tree.specs.declared.operand.Subscript.TheVariants as subscript
 use Rattle.cob_tree.specs.declared.operand.Const.{Const}
 use Rattle.cob_tree.specs.declared.operand.Const.TheVariants as const
 use Rattle.cob_tree.specs.declared.expr.Sign as plus_minus
@@ -17,7 +20,7 @@ use Rattle.cob_tree.specs.Items as items
 use Rattle.cob_tree.specs.Expr.{Expr, MkExpr, Terms, no_terms, more_terms, Term, MkTerm, Facts, no_facts, more_facts, Fact, MkFact, Primary, operand, group}
 use Rattle.cob_tree.specs.Cond.{Cond, MkCond, Conjs, no_conjs, more_conjs, Conj, MkConj, Negs, no_negs, more_negs, Neg, MkNeg, Simple, parenthesised, relation, abbreviated, numeric, alone}
 use Rattle.cob_tree.specs.Cond as cond
-use Rattle.cob_tree.specs.PrintExpr.{const_symbol, open_mark, close_mark, sign_character, scaling_character, print_qualifier, print_opnd, print_sign, print_scaling, print_sign_if, print_expr, print_terms, print_term, print_facts, print_fact, print_primary, print_not, print_relation, sign_word, print_cond, print_conjs, print_conj, print_negs, print_neg, print_simple}
+use Rattle.cob_tree.specs.PrintExpr.{const_symbol, open_mark, close_mark, sign_character, scaling_character, print_qualifier, print_sub, print_sub_if, print_ref, print_opnd, print_sign, print_scaling, print_sign_if, print_expr, print_terms, print_term, print_facts, print_fact, print_primary, print_not, print_relation, sign_word, print_cond, print_conjs, print_conj, print_negs, print_neg, print_simple}
 use Rattle.cob_parse_expr.proofs.OneAnswer.{depth_at, depth_behind, Leveled, leveled_join}
 
 -- ---- a token that is no parenthesis
@@ -50,8 +53,19 @@ qualifiers_level : (d : ℕ) (of : List (List ℕ)) → Leveled d (each (print_q
 qualifiers_level d [] = refl
 qualifiers_level d (x ∷ xs) = (refl, (refl, qualifiers_level d xs))
 
-opnd_level : (d : ℕ) (o : Opnd) → Leveled d (print_opnd d o) d
-opnd_level d (opnd.Ref r) = (refl, qualifiers_level d r.of)
+sub_level : (d : ℕ) (s : Subscript) → Leveled d (print_sub d s) d
+sub_level d (subscript.Item text of) = (refl, (refl, leveled_join (suc d) (suc d) d (each (print_qualifier (suc d)) of) (close_mark (suc d) ∷ []) (qualifiers_level (suc d) of) (refl, refl)))
+sub_level d (subscript.Number n) = (refl, (refl, (refl, refl)))
+
+sub_if_level : (d : ℕ) (o : Option Subscript) → Leveled d (print_sub_if d o) d
+sub_if_level d None = refl
+sub_if_level d (Some s) = sub_level d s
+
+pub ref_level : (d : ℕ) (r : Ref) → Leveled d (print_ref d r) d
+ref_level d r = (refl, leveled_join d d d (each (print_qualifier d) r.of) (print_sub_if d r.sub) (qualifiers_level d r.of) (sub_if_level d r.sub))
+
+pub opnd_level : (d : ℕ) (o : Opnd) → Leveled d (print_opnd d o) d
+opnd_level d (opnd.Ref r) = ref_level d r
 opnd_level d (opnd.Const c) = leveled_more d (const_symbol c) [] (const_level d c) refl
 
 sign_if_level : (d : ℕ) (s : Option plus_minus.Sign) → Leveled d (print_sign_if d s) d

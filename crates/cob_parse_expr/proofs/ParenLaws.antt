@@ -27,12 +27,13 @@ use Rattle.reading.proofs.Must.{Ends, closed_law}
 use Rattle.reading.proofs.Full.{full_law}
 use Rattle.cob_parse_expr.specs.Classes.{open_of, close_of, not_key, not_of}
 use Rattle.cob_parse_expr.specs.LexemeClasses.{word_symbol}
-use Rattle.cob_parse_expr.specs.Reading.{group_at}
+use Rattle.cob_parse_expr.specs.Reading.{inner_at}
 use Rattle.cob_parse_expr.specs.CondReading.{cond_with, cond_goes, inside_cond, paren_at, cond_at}
 use Rattle.cob_parse_expr.specs.Parsing.{cond_syntax}
 use Rattle.cob_parse_expr.proofs.CueLemmas.{not_alone, not_cues}
 use Rattle.cob_parse_expr.proofs.ClassLaws.{opens, closes, nots}
-use Rattle.cob_parse_expr.proofs.ExprLaws.{group_law, close_free, expr_never, some_expr}
+use Rattle.cob_parse_expr.proofs.ExprLaws.{inner_law, expr_never, some_expr}
+use Rattle.cob_parse_expr.proofs.OperandLaws.{close_free}
 use Rattle.cob_parse_expr.proofs.CondLaws.{paren_syntax, cond_law, cond_never, alone_cond}
 
 -- ---- a condition that goes on with NOT
@@ -72,7 +73,7 @@ module _ (d : ℕ) where
   tail = items.key d key.Not ∷ behind
 
   never : (e : Expr) {P : Type 0} → takes_expr e NotRelates ≡ true → P
-  never e h = let no : true ≡ false = sym h ∙ expr_never NotRelates refl refl refl e in absurd cc
+  never e h = let no : true ≡ false = sym h ∙ expr_never NotRelates refl refl refl refl e in absurd cc
 
   simple_text : (s : Simple) → takes_simple s NotRelates ≡ true → print_simple d (grown_simple s) ≡ print_simple d s ++ tail
   simple_text (alone e) h = refl
@@ -145,10 +146,10 @@ cond_shaped (MkCond c (more_conjs p ps)) g = (g.0, conjs_shaped p ps g.1)
 -- ---- what NOT opens is taken alike
 
 not_alike : (s : Simple) → takes_simple s NotTests ≡ takes_simple s NotRelates
-not_alike (alone e) = rw (expr_never NotTests refl refl refl e, expr_never NotRelates refl refl refl e) refl
+not_alike (alone e) = rw (expr_never NotTests refl refl refl refl e, expr_never NotRelates refl refl refl refl e) refl
 not_alike (parenthesised c) = refl
-not_alike (relation e not_ r right) = expr_never NotTests refl refl refl right ∙ sym (expr_never NotRelates refl refl refl right)
-not_alike (abbreviated not_ r right) = expr_never NotTests refl refl refl right ∙ sym (expr_never NotRelates refl refl refl right)
+not_alike (relation e not_ r right) = expr_never NotTests refl refl refl refl right ∙ sym (expr_never NotRelates refl refl refl refl right)
+not_alike (abbreviated not_ r right) = expr_never NotTests refl refl refl refl right ∙ sym (expr_never NotRelates refl refl refl refl right)
 not_alike (numeric e not_) = refl
 not_alike (cond.sign e not_ t) = refl
 
@@ -199,7 +200,7 @@ cond_ends d top low = record { ends = λ c ts good here. close_free (takes_cond 
     steady c t good goes mark front u =
         let not_ : is_some (not_of t) ≡ true = ahead_is_not t.symbol (subst IsAhead (sym front) tt) in
         let no : takes_cond c NotRelates ≡ false = sym (ap (λ (b : Bool). b && takes_cond c NotRelates) not_) ∙ goes in
-        ap (on_mark grammar (takes_cond c)) (not_alone t mark front u) ∙ not_cues (takes_cond c) no (cond_alike c ∙ no) (cond_never NotSize refl refl refl refl refl refl c) (cond_never NotAtEnd refl refl refl refl refl refl c) u.symbol
+        ap (on_mark grammar (takes_cond c)) (not_alone t mark front u) ∙ not_cues (takes_cond c) no (cond_alike c ∙ no) (cond_never NotSize refl refl refl refl refl refl refl c) (cond_never NotAtEnd refl refl refl refl refl refl refl c) u.symbol
 
 -- ---- the laws
 
@@ -218,10 +219,10 @@ paren_law zero d top e = full_law (record { first = λ x good. (open_mark (suc d
         go (Some x) eo e0 = (alone_cond some_expr, open_mark (suc d), print_cond (suc d) (alone_cond some_expr) ++ close_mark (suc d) ∷ [], some_good, refl, ((opens (suc d)).only t x eo).1, omega (arith, e))
 paren_law (suc room) d top e =
     let low : suc d < top = omega (arith, e) in
-    let law = cond_law (suc d) top low (paren_at room) (group_at room) (paren_law room (suc d) top (omega (arith, e))) (group_law room (suc d) top (omega (arith, e))) in
-    seen_law (branch_law (opens (suc d)) top (λ x a. low) tt tt (λ x. closed (cond_with (paren_at room) (group_at room)) close_of cond_goes) (λ x. seq_syntax (cond_syntax (suc d)) (lead_syntax Always (λ y. item (suc d) (Mark 41))))
+    let law = cond_law (suc d) top low (paren_at room) (inner_at room) (paren_law room (suc d) top (omega (arith, e))) (inner_law room (suc d) top (omega (arith, e))) in
+    seen_law (branch_law (opens (suc d)) top (λ x a. low) tt tt (λ x. closed (cond_with (paren_at room) (inner_at room)) close_of cond_goes) (λ x. seq_syntax (cond_syntax (suc d)) (lead_syntax Always (λ y. item (suc d) (Mark 41))))
     (λ x a. closed_law law (closes (suc d)) (λ y b. low) tt tt (cond_ends (suc d) top low)))
     (record { back = λ y good. refl; print = λ x good. refl; takes = λ x p good. refl; good = λ x good. good.1.0; good_back = λ y good. (tt, (good, tt)) })
 
 pub law_of_conditions : (room d top : ℕ) → top ≡ suc (d + room) → Law grammar (cond_at room) (cond_syntax d) top
-law_of_conditions room d top e = cond_law d top (omega (arith, e)) (paren_at room) (group_at room) (paren_law room d top e) (group_law room d top e)
+law_of_conditions room d top e = cond_law d top (omega (arith, e)) (paren_at room) (inner_at room) (paren_law room d top e) (inner_law room d top e)

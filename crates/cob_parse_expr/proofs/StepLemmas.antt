@@ -9,7 +9,7 @@ use Rattle.reading.proofs.Results.{done, ok_is}
 use Rattle.cob_parse_expr.specs.declared.halt.Halt.{Halt}
 use Rattle.cob_parse_expr.specs.declared.halt.Halt.TheVariants as halt
 use Rattle.cob_parse_expr.specs.Classes.{open_of, close_of, not_of}
-use Rattle.cob_parse_expr.specs.Reading.{second, expr_goes, group_at, expr_at}
+use Rattle.cob_parse_expr.specs.Reading.{second, inner_sub_at, sub_goes, sub_at, expr_goes, group_at, expr_at}
 use Rattle.cob_parse_expr.specs.CondReading.{cond_goes, paren_at, cond_at}
 use Rattle.cob_parse_expr.specs.CondSteps.{unclosed}
 use Rattle.cob_parse_expr.specs.Steps.{behind_word, Leads, Lacks, Fails}
@@ -161,7 +161,7 @@ module _ {A : Type 0} (p r : ℕ → Reader Sign A) (goes : A → Sign → Bool)
     pub nested_closed : (a : A) (after end : List Sign) → r (room - 1) rest ≡ Ok (a, after) → Leads close_of tt after end → p room ts ≡ Ok (a, end)
     nested_closed a after end read close = one_less ∙ inside_closed (r (room - 1)) goes ts rest lead a after end read close
 
--- ---- an expression in parentheses, and a condition
+-- ---- an expression in parentheses, a condition, and a subscript
 
 pub group_none : (ts : List Sign) → group_at zero ts ≡ full (stands open_of) ts
 unfolding group_at
@@ -178,6 +178,17 @@ paren_none ts = refl
 pub paren_some : (room : ℕ) (ts : List Sign) → paren_at (suc room) ts ≡ in_parentheses (cond_at room) cond_goes ts
 unfolding paren_at
 paren_some room ts = refl
+
+pub sub_none : (ts : List Sign) → sub_at zero ts ≡ full (stands open_of) ts
+unfolding sub_at
+sub_none ts = refl
+
+pub sub_some : (room : ℕ) (ts : List Sign) → sub_at (suc room) ts ≡ in_parentheses inner_sub_at sub_goes ts
+unfolding sub_at
+sub_some room ts = refl
+
+pub sub_lacks : (room : ℕ) (ts : List Sign) (n : ℕ) → Lacks open_of ts → n ≡ length ts → sub_at room ts ≡ Err (Stop n)
+sub_lacks = nested_lacks sub_at (λ room. inner_sub_at) sub_goes sub_none sub_some
 
 pub group_lacks : (room : ℕ) (ts : List Sign) (n : ℕ) → Lacks open_of ts → n ≡ length ts → group_at room ts ≡ Err (Stop n)
 group_lacks = nested_lacks group_at expr_at expr_goes group_none group_some

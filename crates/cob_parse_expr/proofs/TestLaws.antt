@@ -27,12 +27,12 @@ use Rattle.reading.proofs.Starts.{Starts, enters}
 use Rattle.reading.proofs.Choose.{choose_syntax, choose_law}
 use Rattle.cob_parse_expr.specs.LexemeClasses.{word_symbol}
 use Rattle.cob_parse_expr.specs.Classes.{not_key, not_of, numeric_key, numeric_of, sign_test_key, sign_test_of, relation_symbol, relation_of, bare_symbol, bare_first}
-use Rattle.cob_parse_expr.specs.Reading.{expr_with}
+use Rattle.cob_parse_expr.specs.Reading.{Inner, expr_with}
 use Rattle.cob_parse_expr.specs.CondReading.{Asked, compared, for_digits, for_sign, make_asked, compared_with, asked_with, make_test, test_with}
 use Rattle.cob_parse_expr.specs.Parsing.{expr_syntax}
 use Rattle.cob_parse_expr.proofs.ClassLaws.{relations, numerics, sign_tests, nots}
 use Rattle.cob_parse_expr.proofs.Generic.{tells_by_one}
-use Rattle.cob_parse_expr.proofs.ExprLaws.{group_syntax, expr_law, some_expr}
+use Rattle.cob_parse_expr.proofs.ExprLaws.{InnerLaw, expr_law, some_expr}
 
 abbrev pub compared_syntax : ℕ → Syntax Item Cue (Rel × Expr)
 compared_syntax d = dependent_syntax (lead_syntax Always (λ x. item d (Relation x))) (λ r. expr_syntax d)
@@ -103,10 +103,11 @@ at_key : (k : Keyword) (line : ℕ) (ts : List Sign) → on_mark grammar takes_t
 at_key key.Not line ts = not_first ts
 at_key _ line ts = refl
 
-at_mark : (a b : Bool) → on_mark grammar takes_test (if a then Some Signs else if b then Some Scales else None) ≡ false
-at_mark true b = refl
-at_mark false true = refl
-at_mark false false = refl
+at_mark : (a b c : Bool) → on_mark grammar takes_test (if a then Some Signs else if b then Some Scales else if c then Some cue.Subscripts else None) ≡ false
+at_mark true b c = refl
+at_mark false true c = refl
+at_mark false false true = refl
+at_mark false false false = refl
 
 pub tests_told : (ts : List Sign) → begins grammar takes_test ts ≡ tests ts
 tests_told [] = refl
@@ -117,7 +118,7 @@ tests_told (t ∷ ts) = go t.symbol t.line
     go (Name text) line = refl
     go (Number n) line = refl
     go (Text text) line = refl
-    go (Mark ch) line = at_mark (ch == 43 || ch == 45) (ch == 42 || ch == 47)
+    go (Mark ch) line = at_mark (ch == 43 || ch == 45) (ch == 42 || ch == 47) (ch == 40)
     go (Relation r) line = refl
     go (Pic text) line = refl
     go Stop line = refl
@@ -139,20 +140,20 @@ Holds true = Unit {0}
 Holds false = ⊥
 
 -- what an expression never takes
-pub asked_cues : (c : Cue) → takes_test c ≡ true → (cue.is cue.Qualifies c ≡ false) × (cue.is Scales c ≡ false) × (cue.is Signs c ≡ false)
+pub asked_cues : (c : Cue) → takes_test c ≡ true → (cue.is cue.Qualifies c ≡ false) × (cue.is cue.Subscripts c ≡ false) × (cue.is Scales c ≡ false) × (cue.is Signs c ≡ false)
 asked_cues c e = go c (subst Holds (sym e) tt)
   where
-    go : (c : Cue) → Holds (takes_test c) → (cue.is cue.Qualifies c ≡ false) × (cue.is Scales c ≡ false) × (cue.is Signs c ≡ false)
-    go cue.Relates a = (refl, refl, refl)
-    go cue.NotRelates a = (refl, refl, refl)
-    go cue.Tests a = (refl, refl, refl)
-    go cue.NotTests a = (refl, refl, refl)
-    go cue.Zeros a = (refl, refl, refl)
+    go : (c : Cue) → Holds (takes_test c) → (cue.is cue.Qualifies c ≡ false) × (cue.is cue.Subscripts c ≡ false) × (cue.is Scales c ≡ false) × (cue.is Signs c ≡ false)
+    go cue.Relates a = (refl, refl, refl, refl)
+    go cue.NotRelates a = (refl, refl, refl, refl)
+    go cue.Tests a = (refl, refl, refl, refl)
+    go cue.NotTests a = (refl, refl, refl, refl)
+    go cue.Zeros a = (refl, refl, refl, refl)
     go _ a = absurd a
 
-module _ (d top : ℕ) (low : d < top) (inner : Reader Sign Expr) (LG : Law grammar inner (group_syntax d) top) where
+module _ (d top : ℕ) (low : d < top) (inner : Inner) (LI : InnerLaw d top inner) where
   pub compared_law : Law grammar (compared_with inner) (compared_syntax d) top
-  compared_law = branch_law (relations d) top (λ x a. low) rel.Equal tt (λ r. expr_with inner) (λ r. expr_syntax d) (λ r a. expr_law d top low inner LG)
+  compared_law = branch_law (relations d) top (λ x a. low) rel.Equal tt (λ r. expr_with inner) (λ r. expr_syntax d) (λ r a. expr_law d top low inner LI)
 
   abbrev words_syntax : Syntax Item Cue (Unit {0} ⊎ SignTest)
   words_syntax = choose_syntax (lead_syntax Always (λ x. item d (Key key.Numeric))) (lead_syntax Always (λ x. item d (Key (sign_word x))))
@@ -261,7 +262,7 @@ module _ (d top : ℕ) (low : d < top) (inner : Reader Sign Expr) (LG : Law gram
       go (Some r) b c ea eb ec some stop =
           let at : choose_on true (compared_with inner) (choose (stands numeric_of) (lead numeric_of) (lead sign_test_of)) (t ∷ ts) ≡ Err n = sym (ap (λ (o : Option Rel). choose_on (is_some o) (compared_with inner) (choose (stands numeric_of) (lead numeric_of) (lead sign_test_of)) (t ∷ ts)) ea) ∙ stop in
           let err = fault_before (compared_with inner (t ∷ ts)) (λ x. (left_compared x.0, x.1)) n at in
-          (enters {G = grammar} {b = expr_syntax d} {top = top} relation_of (λ r. expr_with inner) t ts r n (expr_law d top low inner LG) ea err).1
+          (enters {G = grammar} {b = expr_syntax d} {top = top} relation_of (λ r. expr_with inner) t ts r n (expr_law d top low inner LI) ea err).1
       go None (Some x) c ea eb ec some stop = let read : done (right_words (inl x), ts) ≡ faulty n = sym (rw (ea, eb, eb) refl) ∙ stop in ok_fails (right_words (inl x), ts) n read
       go None None (Some x) ea eb ec some stop = let read : done (right_words (inr x), ts) ≡ faulty n = sym (rw (ea, eb, ec) refl) ∙ stop in ok_fails (right_words (inr x), ts) n read
       go None None None ea eb ec some stop = absurd cc

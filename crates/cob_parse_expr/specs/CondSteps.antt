@@ -17,7 +17,7 @@ use Rattle.reading.specs.Readers.{Fault, Reader, seq, seen, opt, left_on}
 use Rattle.reading.specs.Printing.{begins}
 use Rattle.cob_parse_expr.specs.Alphabet.{grammar}
 use Rattle.cob_parse_expr.specs.Classes.{not_of}
-use Rattle.cob_parse_expr.specs.Reading.{factors_with, summands_with}
+use Rattle.cob_parse_expr.specs.Reading.{Inner, factors_with, summands_with}
 use Rattle.cob_parse_expr.specs.CondReading.{Asked, compared, for_digits, for_sign, test_with, tested, make_neg, negated_with, plain_with}
 
 -- ---- one expression alone
@@ -44,28 +44,28 @@ plain_asked (variant.Sign test) = for_sign test
 abbrev pub from_fact : Fact → List (Scaling × Fact) × List (plus_minus.Sign × Term) → Expr
 from_fact f x = MkExpr (MkTerm f (facts_of x.0)) (terms_of x.1)
 
-abbrev pub expr_behind : Reader Sign Expr → Fact → Reader Sign Expr
+abbrev pub expr_behind : Inner → Fact → Reader Sign Expr
 expr_behind inner f = seen (from_fact f) (seq (factors_with inner) (summands_with inner))
 
 abbrev pub make_value : Expr × Option (Bool × Asked) → Simple
 make_value (e, None) = alone e
 make_value (e, Some t) = tested e t.0 t.1
 
-abbrev pub subject_behind : Reader Sign Expr → Fact → Reader Sign Simple
+abbrev pub subject_behind : Inner → Fact → Reader Sign Simple
 subject_behind inner f = seen make_value (opt (expr_behind inner f) (λ e. begins grammar takes_test) (test_with inner))
 
 -- What may follow a condition in parentheses, which may be an expression.
-abbrev pub subject_after : Reader Sign Expr → Cond → Option Expr → Reader Sign Simple
+abbrev pub subject_after : Inner → Cond → Option Expr → Reader Sign Simple
 subject_after inner c None ts = Ok (parenthesised c, ts)
 subject_after inner c (Some e) ts = subject_behind inner (MkFact None (group e)) ts
 
 -- ---- NOT
 
 -- the two of what NOT opens and what it doesn't, seen as what they are
-abbrev pub negated_neg : Reader Sign Cond → Reader Sign Expr → Reader Sign Neg
+abbrev pub negated_neg : Reader Sign Cond → Inner → Reader Sign Neg
 negated_neg paren inner = seen (λ x. make_neg (inl (tt, x))) (negated_with paren inner)
 
-abbrev pub plain_neg_at : Reader Sign Cond → Reader Sign Expr → Reader Sign Neg
+abbrev pub plain_neg_at : Reader Sign Cond → Inner → Reader Sign Neg
 plain_neg_at paren inner = seen (λ x. make_neg (inr x)) (plain_with paren inner)
 
 -- whether the last takes NOT, where the one before them all does or doesn't

@@ -6,7 +6,7 @@ ghost use Rattle.cob_tree.specs.CondView.{plain_simple};
 ghost use Rattle.cob_tree.specs.Takes.{takes_test, takes_simple};
 ghost use Rattle.reading.specs.Printing.{begins};
 ghost use Rattle.cob_parse_expr.specs.Alphabet.{grammar};
-ghost use Rattle.cob_parse_expr.specs.Reading.{group_at};
+ghost use Rattle.cob_parse_expr.specs.Reading.{inner_at};
 ghost use Rattle.cob_parse_expr.specs.CondReading.{compared_with, asked_with, test_with, tested};
 ghost use Rattle.cob_parse_expr.specs.CondSteps.{plain_asked, expr_behind, subject_behind};
 ghost use Rattle.cob_parse_expr.specs.Steps.{signs, Gives};
@@ -33,7 +33,7 @@ pub fn compared(
     lexemes: &[Lexeme],
     room: u32,
 ) -> Result<(Rel, Expr, &[Lexeme]), Halt>
-    ensures gives { Gives (λ x. ((x.0, plain_expr x.1), signs x.2.now)) result (compared_with (group_at room) (signs lexemes.now)) }
+    ensures gives { Gives (λ x. ((x.0, plain_expr x.1), signs x.2.now)) result (compared_with (inner_at room) (signs lexemes.now)) }
     ensures rest { IfOk result (λ x. length x.2.now ≤ length lexemes.now) }
 {
     let Some((rel, rest)) = relation_in(lexemes) else {
@@ -44,7 +44,7 @@ pub fn compared(
 }
 
 fn asked_in(alloc: Global, lexemes: &[Lexeme], room: u32) -> Result<(Asked, &[Lexeme]), Halt>
-    ensures gives { Gives (λ x. (plain_asked x.0, signs x.1.now)) result (asked_with (group_at room) (signs lexemes.now)) }
+    ensures gives { Gives (λ x. (plain_asked x.0, signs x.1.now)) result (asked_with (inner_at room) (signs lexemes.now)) }
     ensures rest { IfOk result (λ x. length x.1.now ≤ length lexemes.now) }
 {
     if relation_in(lexemes).is_some() {
@@ -62,7 +62,7 @@ fn asked_in(alloc: Global, lexemes: &[Lexeme], room: u32) -> Result<(Asked, &[Le
 
 // What is asked, with NOT before it or without.
 fn test_in(alloc: Global, lexemes: &[Lexeme], room: u32) -> Result<(bool, Asked, &[Lexeme]), Halt>
-    ensures gives { Gives (λ x. ((x.0, plain_asked x.1), signs x.2.now)) result (test_with (group_at room) (signs lexemes.now)) }
+    ensures gives { Gives (λ x. ((x.0, plain_asked x.1), signs x.2.now)) result (test_with (inner_at room) (signs lexemes.now)) }
     ensures rest { IfOk result (λ x. length x.2.now ≤ length lexemes.now) }
 {
     match behind(Mark::Not, lexemes) {
@@ -104,7 +104,7 @@ fn expr_behind(
     lexemes: &[Lexeme],
     room: u32,
 ) -> Result<(Expr, &[Lexeme]), Halt>
-    ensures gives { Gives (λ x. (plain_expr x.0, signs x.1.now)) result (expr_behind (group_at room) (plain_fact first) (signs lexemes.now)) }
+    ensures gives { Gives (λ x. (plain_expr x.0, signs x.1.now)) result (expr_behind (inner_at room) (plain_fact first) (signs lexemes.now)) }
     ensures rest { IfOk result (λ x. length x.1.now ≤ length lexemes.now) }
 {
     let (factors, rest) = or_leave!(factors_in(alloc, lexemes, room), first);
@@ -119,7 +119,7 @@ pub fn subject_behind(
     lexemes: &[Lexeme],
     room: u32,
 ) -> Result<(Simple, bool, &[Lexeme]), Halt>
-    ensures gives { Gives (λ x. (plain_simple x.0, signs x.2.now)) result (subject_behind (group_at room) (plain_fact first) (signs lexemes.now)) }
+    ensures gives { Gives (λ x. (plain_simple x.0, signs x.2.now)) result (subject_behind (inner_at room) (plain_fact first) (signs lexemes.now)) }
     ensures takes { IfOk result (λ x. x.1 ≡ takes_simple (plain_simple x.0) NotRelates) }
     ensures rest { IfOk result (λ x. length x.2.now ≤ length lexemes.now) }
 {

@@ -4,7 +4,7 @@ ghost use Rattle.cob_tree.specs.Cues.{NotRelates};
 ghost use Rattle.cob_tree.specs.CondView.{plain_cond, plain_conj, plain_neg, plain_simple};
 ghost use Rattle.cob_tree.specs.PrintExpr.{one_alone};
 ghost use Rattle.cob_tree.specs.Takes.{takes_simple, takes_neg, takes_conj, takes_cond};
-ghost use Rattle.cob_parse_expr.specs.Reading.{group_at};
+ghost use Rattle.cob_parse_expr.specs.Reading.{inner_at};
 ghost use Rattle.cob_parse_expr.specs.CondReading.{paren_at, cond_at, subject_with, further_with, neg_with, negs_with, conj_with, conjs_with};
 ghost use Rattle.cob_parse_expr.specs.CondSteps.{subject_after, negated_neg, plain_neg_at, last_neg, last_conj, unclosed};
 ghost use Rattle.cob_parse_expr.specs.Steps.{signs, behind_word, Gives};
@@ -59,7 +59,7 @@ fn subject_after(
     lexemes: &[Lexeme],
     room: u32,
 ) -> Result<(Simple, bool, &[Lexeme]), Halt>
-    ensures gives { Gives (λ x. (plain_simple x.0, signs x.2.now)) result (subject_after (group_at room) (plain_cond cond) (one_alone (plain_cond cond)) (signs lexemes.now)) }
+    ensures gives { Gives (λ x. (plain_simple x.0, signs x.2.now)) result (subject_after (inner_at room) (plain_cond cond) (one_alone (plain_cond cond)) (signs lexemes.now)) }
     ensures takes { IfOk result (λ x. x.1 ≡ takes_simple (plain_simple x.0) NotRelates) }
     ensures rest { IfOk result (λ x. length x.2.now ≤ length lexemes.now) }
 {
@@ -78,7 +78,7 @@ fn subject_after(
 // A simple condition that isn't a relation without its subject.
 #[cycle(cond)]
 fn subject(alloc: Global, lexemes: &[Lexeme], room: u32) -> Result<(Simple, bool, &[Lexeme]), Halt>
-    ensures gives { Gives (λ x. (plain_simple x.0, signs x.2.now)) result (subject_with (paren_at room) (group_at room) (signs lexemes.now)) }
+    ensures gives { Gives (λ x. (plain_simple x.0, signs x.2.now)) result (subject_with (paren_at room) (inner_at room) (signs lexemes.now)) }
     ensures takes { IfOk result (λ x. x.1 ≡ takes_simple (plain_simple x.0) NotRelates) }
     ensures rest { IfOk result (λ x. length x.2.now ≤ length lexemes.now) }
 {
@@ -97,7 +97,7 @@ fn subject(alloc: Global, lexemes: &[Lexeme], room: u32) -> Result<(Simple, bool
 // Behind NOT, where no relation stands.
 #[cycle(cond)]
 fn further(alloc: Global, lexemes: &[Lexeme], room: u32) -> Result<(Simple, bool, &[Lexeme]), Halt>
-    ensures gives { Gives (λ x. (plain_simple x.0, signs x.2.now)) result (further_with (paren_at room) (group_at room) (signs lexemes.now)) }
+    ensures gives { Gives (λ x. (plain_simple x.0, signs x.2.now)) result (further_with (paren_at room) (inner_at room) (signs lexemes.now)) }
     ensures takes { IfOk result (λ x. x.1 ≡ takes_simple (plain_simple x.0) NotRelates) }
     ensures rest { IfOk result (λ x. length x.2.now ≤ length lexemes.now) }
 {
@@ -113,7 +113,7 @@ fn further(alloc: Global, lexemes: &[Lexeme], room: u32) -> Result<(Simple, bool
 // Behind NOT: it is a relation's, where one stands.
 #[cycle(cond)]
 fn negated(alloc: Global, lexemes: &[Lexeme], room: u32) -> Result<(Neg, bool, &[Lexeme]), Halt>
-    ensures gives { Gives (λ x. (plain_neg x.0, signs x.2.now)) result (negated_neg (paren_at room) (group_at room) (signs lexemes.now)) }
+    ensures gives { Gives (λ x. (plain_neg x.0, signs x.2.now)) result (negated_neg (paren_at room) (inner_at room) (signs lexemes.now)) }
     ensures takes { IfOk result (λ x. x.1 ≡ takes_neg (plain_neg x.0) NotRelates) }
     ensures rest { IfOk result (λ x. length x.2.now ≤ length lexemes.now) }
 {
@@ -131,7 +131,7 @@ fn negated(alloc: Global, lexemes: &[Lexeme], room: u32) -> Result<(Neg, bool, &
 
 #[cycle(cond)]
 fn plain(alloc: Global, lexemes: &[Lexeme], room: u32) -> Result<(Neg, bool, &[Lexeme]), Halt>
-    ensures gives { Gives (λ x. (plain_neg x.0, signs x.2.now)) result (plain_neg_at (paren_at room) (group_at room) (signs lexemes.now)) }
+    ensures gives { Gives (λ x. (plain_neg x.0, signs x.2.now)) result (plain_neg_at (paren_at room) (inner_at room) (signs lexemes.now)) }
     ensures takes { IfOk result (λ x. x.1 ≡ takes_neg (plain_neg x.0) NotRelates) }
     ensures rest { IfOk result (λ x. length x.2.now ≤ length lexemes.now) }
 {
@@ -149,7 +149,7 @@ fn plain(alloc: Global, lexemes: &[Lexeme], room: u32) -> Result<(Neg, bool, &[L
 
 #[cycle(cond)]
 fn neg(alloc: Global, lexemes: &[Lexeme], room: u32) -> Result<(Neg, bool, &[Lexeme]), Halt>
-    ensures gives { Gives (λ x. (plain_neg x.0, signs x.2.now)) result (neg_with (paren_at room) (group_at room) (signs lexemes.now)) }
+    ensures gives { Gives (λ x. (plain_neg x.0, signs x.2.now)) result (neg_with (paren_at room) (inner_at room) (signs lexemes.now)) }
     ensures takes { IfOk result (λ x. x.1 ≡ takes_neg (plain_neg x.0) NotRelates) }
     ensures rest { IfOk result (λ x. length x.2.now ≤ length lexemes.now) }
 {
@@ -167,7 +167,7 @@ fn negs(
     room: u32,
     before: bool,
 ) -> Result<(Vec<Neg>, bool, &[Lexeme]), Halt>
-    ensures gives { Gives (λ x. (map behind_word (map plain_neg x.0.items), signs x.2.now)) result (negs_with (paren_at room) (group_at room) (signs lexemes.now)) }
+    ensures gives { Gives (λ x. (map behind_word (map plain_neg x.0.items), signs x.2.now)) result (negs_with (paren_at room) (inner_at room) (signs lexemes.now)) }
     ensures takes { IfOk result (λ x. x.1 ≡ last_neg before (map plain_neg x.0.items)) }
     ensures rest { IfOk result (λ x. length x.2.now ≤ length lexemes.now) }
 {
@@ -185,7 +185,7 @@ fn negs(
 
 #[cycle(cond)]
 fn conj(alloc: Global, lexemes: &[Lexeme], room: u32) -> Result<(Conj, bool, &[Lexeme]), Halt>
-    ensures gives { Gives (λ x. (plain_conj x.0, signs x.2.now)) result (conj_with (paren_at room) (group_at room) (signs lexemes.now)) }
+    ensures gives { Gives (λ x. (plain_conj x.0, signs x.2.now)) result (conj_with (paren_at room) (inner_at room) (signs lexemes.now)) }
     ensures takes { IfOk result (λ x. x.1 ≡ takes_conj (plain_conj x.0) NotRelates) }
     ensures rest { IfOk result (λ x. length x.2.now ≤ length lexemes.now) }
 {
@@ -202,7 +202,7 @@ fn conjs(
     room: u32,
     before: bool,
 ) -> Result<(Vec<Conj>, bool, &[Lexeme]), Halt>
-    ensures gives { Gives (λ x. (map behind_word (map plain_conj x.0.items), signs x.2.now)) result (conjs_with (paren_at room) (group_at room) (signs lexemes.now)) }
+    ensures gives { Gives (λ x. (map behind_word (map plain_conj x.0.items), signs x.2.now)) result (conjs_with (paren_at room) (inner_at room) (signs lexemes.now)) }
     ensures takes { IfOk result (λ x. x.1 ≡ last_conj before (map plain_conj x.0.items)) }
     ensures rest { IfOk result (λ x. length x.2.now ≤ length lexemes.now) }
 {

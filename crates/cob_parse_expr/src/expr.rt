@@ -1,7 +1,7 @@
 //! Expressions.
 ghost use Rattle.std.specs.Prelude.{◌≡◌, ◌≤◌, ◌<◌, length, IfOk, map};
 ghost use Rattle.cob_tree.specs.ExprView.{plain_expr, plain_term, plain_fact, plain_prim, added, multiplied};
-ghost use Rattle.cob_parse_expr.specs.Reading.{group_at, primary_with, fact_with, factors_with, term_with, summands_with, expr_with, expr_at};
+ghost use Rattle.cob_parse_expr.specs.Reading.{group_at, inner_at, primary_with, fact_with, factors_with, term_with, summands_with, expr_with, expr_at};
 ghost use Rattle.cob_parse_expr.specs.Steps.{signs, Gives};
 
 use crate::class::{Mark, behind, scaling_in, sign_in};
@@ -35,7 +35,7 @@ pub fn group(alloc: Global, lexemes: &[Lexeme], room: u32) -> Result<(Expr, &[Le
 
 #[cycle(expr)]
 fn primary(alloc: Global, lexemes: &[Lexeme], room: u32) -> Result<(Primary, &[Lexeme]), Halt>
-    ensures gives { Gives (λ x. (plain_prim x.0, signs x.1.now)) result (primary_with (group_at room) (signs lexemes.now)) }
+    ensures gives { Gives (λ x. (plain_prim x.0, signs x.1.now)) result (primary_with (inner_at room) (signs lexemes.now)) }
     ensures rest { IfOk result (λ x. length x.1.now ≤ length lexemes.now) }
 {
     match behind(Mark::Open, lexemes) {
@@ -50,7 +50,7 @@ fn primary(alloc: Global, lexemes: &[Lexeme], room: u32) -> Result<(Primary, &[L
             }
         }
         None => {
-            let (opnd, rest) = or_leave!(opnd_in(alloc, lexemes));
+            let (opnd, rest) = or_leave!(opnd_in(alloc, lexemes, room));
             Ok((Primary::Opnd(opnd), rest))
         }
     }
@@ -59,7 +59,7 @@ fn primary(alloc: Global, lexemes: &[Lexeme], room: u32) -> Result<(Primary, &[L
 /// An operand or an expression in parentheses, with a sign before it or without.
 #[cycle(expr)]
 pub fn fact_in(alloc: Global, lexemes: &[Lexeme], room: u32) -> Result<(Fact, &[Lexeme]), Halt>
-    ensures gives { Gives (λ x. (plain_fact x.0, signs x.1.now)) result (fact_with (group_at room) (signs lexemes.now)) }
+    ensures gives { Gives (λ x. (plain_fact x.0, signs x.1.now)) result (fact_with (inner_at room) (signs lexemes.now)) }
     ensures rest { IfOk result (λ x. length x.1.now ≤ length lexemes.now) }
 {
     match sign_in(lexemes) {
@@ -81,7 +81,7 @@ pub fn factors_in(
     lexemes: &[Lexeme],
     room: u32,
 ) -> Result<(Vec<(Scaling, Fact)>, &[Lexeme]), Halt>
-    ensures gives { Gives (λ x. (map multiplied x.0.items, signs x.1.now)) result (factors_with (group_at room) (signs lexemes.now)) }
+    ensures gives { Gives (λ x. (map multiplied x.0.items, signs x.1.now)) result (factors_with (inner_at room) (signs lexemes.now)) }
     ensures rest { IfOk result (λ x. length x.1.now ≤ length lexemes.now) }
 {
     let mut left = lexemes;
@@ -96,7 +96,7 @@ pub fn factors_in(
 
 #[cycle(expr)]
 fn term(alloc: Global, lexemes: &[Lexeme], room: u32) -> Result<(Term, &[Lexeme]), Halt>
-    ensures gives { Gives (λ x. (plain_term x.0, signs x.1.now)) result (term_with (group_at room) (signs lexemes.now)) }
+    ensures gives { Gives (λ x. (plain_term x.0, signs x.1.now)) result (term_with (inner_at room) (signs lexemes.now)) }
     ensures rest { IfOk result (λ x. length x.1.now ≤ length lexemes.now) }
 {
     let (first, rest) = or_leave!(fact_in(alloc, lexemes, room));
@@ -111,7 +111,7 @@ pub fn summands_in(
     lexemes: &[Lexeme],
     room: u32,
 ) -> Result<(Vec<(Sign, Term)>, &[Lexeme]), Halt>
-    ensures gives { Gives (λ x. (map added x.0.items, signs x.1.now)) result (summands_with (group_at room) (signs lexemes.now)) }
+    ensures gives { Gives (λ x. (map added x.0.items, signs x.1.now)) result (summands_with (inner_at room) (signs lexemes.now)) }
     ensures rest { IfOk result (λ x. length x.1.now ≤ length lexemes.now) }
 {
     let mut left = lexemes;

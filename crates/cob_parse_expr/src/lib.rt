@@ -44,7 +44,7 @@ pub use halt::Halt;
 pub use laws::{one_answer_for_conds, one_answer_for_exprs, one_cond, one_expr};
 pub use lexeme::{Lexeme, Symbol, lexemes};
 pub use operand::{const_at, name_at, opnd_in, ref_in};
-pub use other::{behind_stop, is_name, is_stop, name, stands_name, stop};
+pub use other::{behind_stop, is_name, is_stop, name, number, number_at, stands_name, stop};
 pub use parse::{cond_of, expr_of};
 pub use place::{end_at, lexemes_from, line_at};
 pub use simple::one_alone;

@@ -1,15 +1,16 @@
-//! Names and points in front of lexemes.
-ghost use Rattle.std.specs.Prelude.{◌≡◌, ◌<◌, length, IfOk, IfSome};
+//! Names, numbers and points in front of lexemes.
+ghost use Rattle.std.specs.Prelude.{◌≡◌, ◌+◌, ◌<◌, length, IfOk, IfSome, IfNone};
 ghost use Rattle.std.specs.Option.{option_map};
 ghost use Rattle.reading.specs.Readers.{lead, behind};
 ghost use Rattle.cob_parse_expr.specs.Lexemes.{plain_symbol};
-ghost use Rattle.cob_parse_expr.specs.LexemeClasses.{of, is, here, name_symbol, stop_symbol};
-ghost use Rattle.cob_parse_expr.specs.Steps.{signs, Gives};
+ghost use Rattle.cob_parse_expr.specs.LexemeClasses.{of, is, here, name_symbol, number_symbol, stop_symbol};
+ghost use Rattle.cob_parse_expr.specs.Steps.{signs, Leads, Lacks, Gives};
 
 use crate::halt::Halt;
 use crate::lexeme::{Lexeme, Symbol};
 use crate::word::next;
-use cob_tree::Name;
+use cob_tree::{Name, Num};
+use std::alloc::Global;
 
 /// The name that a symbol is.
 pub fn name(symbol: &Symbol) -> Option<&Name>
@@ -35,6 +36,36 @@ pub fn stands_name(lexemes: &[Lexeme]) -> bool
     match next(lexemes) {
         Some((lexeme, _)) => is_name(&lexeme.symbol),
         None => false,
+    }
+}
+
+/// The number that a symbol is.
+pub fn number(symbol: &Symbol) -> Option<&Num>
+    ensures { option_map (λ n. n.now) result ≡ number_symbol (plain_symbol symbol.now) }
+{
+    match symbol {
+        Symbol::Number(number) => Some(number),
+        _ => None,
+    }
+}
+
+fn number_in(lexemes: &[Lexeme]) -> Option<(&Num, &[Lexeme])>
+    ensures found { IfSome result (λ x. Leads (of number_symbol) x.0.now (signs lexemes.now) (signs x.1.now)) }
+    ensures none { IfNone result (Lacks (of number_symbol) (signs lexemes.now)) }
+    ensures shorter { IfSome result (λ x. length lexemes.now ≡ length x.1.now + 1) }
+{
+    let (lexeme, rest) = next(lexemes)?;
+    Some((number(&lexeme.symbol)?, rest))
+}
+
+/// A number.
+pub fn number_at(alloc: Global, lexemes: &[Lexeme]) -> Result<(Num, &[Lexeme]), Halt>
+    ensures gives { Gives (λ x. (x.0, signs x.1.now)) result (lead (of number_symbol) (signs lexemes.now)) }
+    ensures rest { IfOk result (λ x. length x.1.now < length lexemes.now) }
+{
+    match number_in(lexemes) {
+        Some((number, rest)) => Ok((number.copied(alloc)?, rest)),
+        None => Err(Halt::Stop(lexemes.len())),
     }
 }
 

@@ -5,7 +5,7 @@ use Rattle.cob_tree.specs.declared.keyword.Keyword.{Keyword}
 use Rattle.cob_tree.specs.declared.keyword.Keyword.TheVariants as word
 use Rattle.cob_tree.specs.declared.token.Rel.TheVariants as rel
 use Rattle.cob_tree.specs.Symbols.{Symbol, Key, Name, Number, Text, Mark, Relation, Pic, Stop, Sign}
-use Rattle.cob_tree.specs.Cues.{Cue, number, is, not_cue, Starts, Qualifies, Rounds, Names, Constants, Zeros, Signs, Scales, Relates, NotRelates, Tests, NotTests, Ands, Ors, Throughs, Givings, Remainders, Intos, Froms, Modes, Loops, Size, NotSize, AtEnd, NotAtEnd, Else, Whens, EndAdd, EndSubtract, EndMultiply, EndDivide, EndCompute, EndIf, EndEvaluate, EndRead, EndWrite}
+use Rattle.cob_tree.specs.Cues.{Cue, number, is, not_cue, Starts, Qualifies, Rounds, Names, Constants, Zeros, Signs, Scales, Relates, NotRelates, Tests, NotTests, Ands, Ors, Throughs, Givings, Remainders, Intos, Froms, Modes, Loops, Size, NotSize, AtEnd, NotAtEnd, Else, Whens, EndAdd, EndSubtract, EndMultiply, EndDivide, EndCompute, EndIf, EndEvaluate, EndRead, EndWrite, Subscripts}
 use Rattle.reading.specs.Printing.{Front, Here, Ahead, on_mark, begins, Next, any_of}
 use Rattle.reading.proofs.Texts.{left_false, right_false, next_at}
 use Rattle.reading.proofs.Starts.{OneToken}
@@ -15,7 +15,7 @@ use Rattle.cob_parse_verb.specs.Procedure.{procedure, word_front, token_front}
 use Rattle.cob_parse_proc.specs.Reading.{nots}
 
 cues : List Cue
-cues = Starts ∷ Qualifies ∷ Rounds ∷ Names ∷ Constants ∷ Zeros ∷ Signs ∷ Scales ∷ Relates ∷ NotRelates ∷ Tests ∷ NotTests ∷ Ands ∷ Ors ∷ Throughs ∷ Givings ∷ Remainders ∷ Intos ∷ Froms ∷ Modes ∷ Loops ∷ Size ∷ NotSize ∷ AtEnd ∷ NotAtEnd ∷ Else ∷ Whens ∷ EndAdd ∷ EndSubtract ∷ EndMultiply ∷ EndDivide ∷ EndCompute ∷ EndIf ∷ EndEvaluate ∷ EndRead ∷ EndWrite ∷ []
+cues = Starts ∷ Qualifies ∷ Rounds ∷ Names ∷ Constants ∷ Zeros ∷ Signs ∷ Scales ∷ Relates ∷ NotRelates ∷ Tests ∷ NotTests ∷ Ands ∷ Ors ∷ Throughs ∷ Givings ∷ Remainders ∷ Intos ∷ Froms ∷ Modes ∷ Loops ∷ Size ∷ NotSize ∷ AtEnd ∷ NotAtEnd ∷ Else ∷ Whens ∷ EndAdd ∷ EndSubtract ∷ EndMultiply ∷ EndDivide ∷ EndCompute ∷ EndIf ∷ EndEvaluate ∷ EndRead ∷ EndWrite ∷ Subscripts ∷ []
 
 numbered : (c : Cue) → get_or cues (number c) Starts ≡ c
 unfolding cues

@@ -51,10 +51,10 @@ may_size f e = rw e (third (f NotRelates) (f NotTests) (f NotAtEnd || false))
 -- ---- conditions
 
 simple_alike : (s : Simple) → takes_simple s NotTests ≡ takes_simple s NotRelates
-simple_alike (alone e) = rw (expr_never NotTests refl refl refl e, expr_never NotRelates refl refl refl e) refl
+simple_alike (alone e) = rw (expr_never NotTests refl refl refl refl e, expr_never NotRelates refl refl refl refl e) refl
 simple_alike (parenthesised c) = refl
-simple_alike (relation e not_ r right) = expr_never NotTests refl refl refl right ∙ sym (expr_never NotRelates refl refl refl right)
-simple_alike (abbreviated not_ r right) = expr_never NotTests refl refl refl right ∙ sym (expr_never NotRelates refl refl refl right)
+simple_alike (relation e not_ r right) = expr_never NotTests refl refl refl refl right ∙ sym (expr_never NotRelates refl refl refl refl right)
+simple_alike (abbreviated not_ r right) = expr_never NotTests refl refl refl refl right ∙ sym (expr_never NotRelates refl refl refl refl right)
 simple_alike (numeric e not_) = refl
 simple_alike (cond.sign e not_ t) = refl
 
@@ -70,7 +70,7 @@ cond_alike : (c : Cond) → takes_cond c NotTests ≡ takes_cond c NotRelates
 cond_alike (MkCond c cs) = ap (λ (b : Bool). b || false) (conjs_alike c cs)
 
 pub cond_may : (c : Cond) → may (takes_cond c) ≡ takes_cond c NotRelates
-cond_may c = may_tests (takes_cond c) (cond_alike c) (cond_never NotSize refl refl refl refl refl refl c) (cond_never NotAtEnd refl refl refl refl refl refl c)
+cond_may c = may_tests (takes_cond c) (cond_alike c) (cond_never NotSize refl refl refl refl refl refl refl c) (cond_never NotAtEnd refl refl refl refl refl refl refl c)
 
 loop_may : (l : Loop) → may (takes_loop l) ≡ takes_loop l NotRelates
 loop_may (times o) = refl
@@ -79,10 +79,17 @@ loop_may (until test varying c) = cond_may c
 -- ---- heads
 
 opnds_may : (os : List Opnd) → may (takes_opnds os) ≡ takes_opnds os NotRelates
-opnds_may [] = refl
-opnds_may (opnd.Ref r ∷ []) = refl
-opnds_may (opnd.Const c ∷ []) = refl
-opnds_may (o ∷ p ∷ os) = opnds_may (p ∷ os)
+opnds_may os = may_tests (takes_opnds os) (opnds_never NotTests refl refl refl os ∙ sym (opnds_never NotRelates refl refl refl os)) (opnds_never NotSize refl refl refl os) (opnds_never NotAtEnd refl refl refl os)
+
+refs_may : (rs : List Ref) → may (takes_refs rs) ≡ takes_refs rs NotRelates
+refs_may rs = may_tests (takes_refs rs) (refs_never NotTests refl refl refl rs ∙ sym (refs_never NotRelates refl refl refl rs)) (refs_never NotSize refl refl refl rs) (refs_never NotAtEnd refl refl refl rs)
+
+write_never : (c : Cue) → is cue.Qualifies c ≡ false → is cue.Subscripts c ≡ false → is cue.Froms c ≡ false → is cue.EndWrite c ≡ false → (rec : Ref) (from : Option Opnd) → takes_verb (write rec from false) c ≡ false
+write_never c q s f e rec None = or_false (takes_ref rec c || is cue.Froms c) (is cue.EndWrite c) (or_false (takes_ref rec c) (is cue.Froms c) (ref_never c q s rec) f) e
+write_never c q s f e rec (Some o) = or_false (takes_opnd o c) (is cue.EndWrite c) (opnd_never c q s o) e
+
+write_may : (rec : Ref) (from : Option Opnd) → may (takes_verb (write rec from false)) ≡ takes_verb (write rec from false) NotRelates
+write_may rec from = may_tests (takes_verb (write rec from false)) (write_never NotTests refl refl refl refl rec from ∙ sym (write_never NotRelates refl refl refl refl rec from)) (write_never NotSize refl refl refl refl rec from) (write_never NotAtEnd refl refl refl refl rec from)
 
 pub if_head_may : (c : Cond) → may (takes_behind (if_head c)) ≡ takes_behind (if_head c) NotRelates
 if_head_may c = cond_may c
@@ -93,10 +100,10 @@ perform_head_may (Some l) = loop_may l
 
 pub evaluate_head_may : (s : Subject) → may (takes_behind (evaluate_head s)) ≡ false
 evaluate_head_may subject.True = refl
-evaluate_head_may (subject.Ref r) = refl
+evaluate_head_may (subject.Ref r) = may_tests (takes_ref r) (ref_never NotTests refl refl r ∙ sym (ref_never NotRelates refl refl r)) (ref_never NotSize refl refl r) (ref_never NotAtEnd refl refl r) ∙ ref_never NotRelates refl refl r
 
 pub done_may : (v : Verb) → (verb_start v ≡ None → ⊥) → may (takes_verb v) ≡ takes_done v NotRelates
-done_may (move from to) e = refl
+done_may (move from to) e = refs_may to
 done_may (set text) e = refl
 done_may (display os) e = opnds_may os
 done_may (perform_range first None None) e = refl
@@ -110,9 +117,7 @@ done_may stop_run e = refl
 done_may (open_ files) e = refl
 done_may (close names) e = refl
 done_may (write rec from true) e = refl
-done_may (write rec None false) e = refl
-done_may (write rec (Some (opnd.Ref r)) false) e = refl
-done_may (write rec (Some (opnd.Const c)) false) e = refl
+done_may (write rec from false) e = write_may rec from
 done_may _ e = absurd (e refl)
 
 -- ---- WHEN
@@ -126,18 +131,18 @@ sel_takes c p e = rw (thru_never (one_alone c) p e) (or_nothing (takes_cond c p)
 
 sel_tests : (s : Sel) → takes_sel s NotTests ≡ takes_sel s NotRelates
 sel_tests any = refl
-sel_tests (range low high) = expr_never NotTests refl refl refl high ∙ sym (expr_never NotRelates refl refl refl high)
+sel_tests (range low high) = expr_never NotTests refl refl refl refl high ∙ sym (expr_never NotRelates refl refl refl refl high)
 sel_tests (choice c) = sel_takes c NotTests refl ∙ (cond_alike c ∙ sym (sel_takes c NotRelates refl))
 
 sel_size : (s : Sel) → takes_sel s NotSize ≡ false
 sel_size any = refl
-sel_size (range low high) = expr_never NotSize refl refl refl high
-sel_size (choice c) = sel_takes c NotSize refl ∙ cond_never NotSize refl refl refl refl refl refl c
+sel_size (range low high) = expr_never NotSize refl refl refl refl high
+sel_size (choice c) = sel_takes c NotSize refl ∙ cond_never NotSize refl refl refl refl refl refl refl c
 
 sel_end : (s : Sel) → takes_sel s NotAtEnd ≡ false
 sel_end any = refl
-sel_end (range low high) = expr_never NotAtEnd refl refl refl high
-sel_end (choice c) = sel_takes c NotAtEnd refl ∙ cond_never NotAtEnd refl refl refl refl refl refl c
+sel_end (range low high) = expr_never NotAtEnd refl refl refl refl high
+sel_end (choice c) = sel_takes c NotAtEnd refl ∙ cond_never NotAtEnd refl refl refl refl refl refl refl c
 
 abbrev pub sels_take : List Sel → Cue → Bool
 sels_take = takes_listed takes_sel (is cue.Whens)

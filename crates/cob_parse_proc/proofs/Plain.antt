@@ -71,8 +71,16 @@ word_plain d true k = refl
 
 -- ---- operands
 
+sub_plain : (d : ℕ) (s : Subscript) → Plain (print_sub d s)
+sub_plain d (subscript.Item text of) = ap (λ (z : List Item). item (suc d) (Mark 40) ∷ name (suc d) text ∷ z) (both (each (print_qualifier (suc d)) of) (item (suc d) (Mark 41) ∷ []) (each_plain (print_qualifier (suc d)) (λ x. refl) of) refl)
+sub_plain d (subscript.Number n) = refl
+
+sub_if_plain : (d : ℕ) (o : Option Subscript) → Plain (print_sub_if d o)
+sub_if_plain d None = refl
+sub_if_plain d (Some s) = sub_plain d s
+
 pub ref_plain : (d : ℕ) (r : Ref) → Plain (print_ref d r)
-ref_plain d r = ap (λ (z : List Item). name d r.name ∷ z) (each_plain (print_qualifier d) (λ text. refl) r.of)
+ref_plain d r = ap (λ (z : List Item). name d r.name ∷ z) (both (each (print_qualifier d) r.of) (print_sub_if d r.sub) (each_plain (print_qualifier d) (λ text. refl) r.of) (sub_if_plain d r.sub))
 
 pub opnd_plain : (d : ℕ) (o : Opnd) → Plain (print_opnd d o)
 opnd_plain d (opnd.Ref r) = ref_plain d r

@@ -3,7 +3,7 @@ use Rattle.std.proofs.Common.{◌≡◌, ℕ, ◌==◌, if◌then◌else◌, ◌
 use Rattle.cob_tree.specs.declared.keyword.Keyword.{Keyword}
 use Rattle.cob_tree.specs.declared.keyword.Keyword.TheVariants as word
 use Rattle.cob_tree.specs.Symbols.{Symbol, Key, Name, Number, Text, Mark, Relation, Pic, Stop, Sign}
-use Rattle.cob_tree.specs.Cues.{Cue, is, mark_cue, Starts, Signs, Scales}
+use Rattle.cob_tree.specs.Cues.{Cue, is, mark_cue, Starts, Signs, Scales, Subscripts}
 use Rattle.cob_tree.specs.Cues as cue
 use Rattle.reading.specs.Readers.{behind, stands}
 use Rattle.reading.specs.Printing.{on_mark, peek_on}
@@ -26,12 +26,13 @@ at_key word.Not ts = behind_not ts
 at_key _ ts = refl
 
 at_mark : (ch : ℕ) → starts_mark (mark_cue ch) ≡ false
-at_mark ch = go (ch == 43 || ch == 45) (ch == 42 || ch == 47)
+at_mark ch = go (ch == 43 || ch == 45) (ch == 42 || ch == 47) (ch == 40)
   where
-    go : (p q : Bool) → starts_mark (if p then Some Signs else if q then Some Scales else None) ≡ false
-    go true q = refl
-    go false true = refl
-    go false false = refl
+    go : (p q r : Bool) → starts_mark (if p then Some Signs else if q then Some Scales else if r then Some Subscripts else None) ≡ false
+    go true q r = refl
+    go false true r = refl
+    go false false true = refl
+    go false false false = refl
 
 at_symbol : (y : Symbol) (ts : List Sign) → starts_mark (peek_on procedure (token_front y) ts) ≡ is_some (word_symbol start_key y)
 at_symbol (Key k) ts = at_key k ts

@@ -14,7 +14,7 @@ use Rattle.cob_tree.specs.Symbols.{Symbol, Key, Name, Number, Text, Mark, Relati
 use Rattle.cob_tree.specs.Items.{Item, Fits, item_on}
 use Rattle.cob_tree.specs.Expr.{Expr, MkExpr, no_terms, MkTerm, no_facts, MkFact, operand}
 use Rattle.cob_tree.specs.Cond.{Cond, MkCond, no_conjs, MkConj, no_negs, MkNeg, alone}
-use Rattle.cob_tree.specs.Cues.{Cue, is, mark_cue, not_cue, Qualifies, Signs, Scales}
+use Rattle.cob_tree.specs.Cues.{Cue, is, mark_cue, not_cue, Qualifies, Signs, Scales, Subscripts}
 use Rattle.cob_tree.specs.Cues as cue
 use Rattle.cob_tree.specs.Stmt.{any, Stmt, MkStmt, Verb, move, set, display, add_to, subtract_from, multiply_by, divide_into, compute, if_, evaluate, perform_range, go, exit, continue, stop_run, open_, close, read, write, Stmts, no_stmts, more_stmts, stmts_of, left_out, Tail, MkTail, no_whens, more_whens, MkWhen}
 use Rattle.cob_tree.specs.PrintStmt.{first_word, print_stmts, print_stmt, print_verb}
@@ -29,6 +29,7 @@ use Rattle.reading.proofs.Many.{is_given, many_syntax}
 use Rattle.reading.proofs.Plus.{plus_syntax, plus_law}
 use Rattle.reading.proofs.Grows.{Grows, grows_seen, grows_plus, samples_one}
 use Rattle.reading.proofs.Full.{NoRoom, full_law}
+use Rattle.cob_parse_verb.specs.Heads.{makes_item}
 use Rattle.cob_parse_verb.specs.Procedure.{procedure, word_front, token_front}
 use Rattle.cob_parse_verb.proofs.HeadLaws.{law_of_heads}
 use Rattle.cob_parse_verb.proofs.SelLaws.{law_of_choices}
@@ -64,7 +65,7 @@ others_print d [] = refl
 others_print d (x ∷ xs) = ap (λ (z : List Item). print_stmt d x ++ z) (others_print d xs)
 
 others_take : (d : ℕ) (s : Stmt) (xs : List Stmt) (p : Cue) → list_takes (more_stmts s (stmts_of xs)) p ≡ onward (is_given xs) (stmt_takes s p) ((others d).takes xs p)
-others_take d s [] p = or_more (is Qualifies p) (bare_stmt s) (takes_stmt s p) (is cue.Starts p)
+others_take d s [] p = or_more (makes_item p) (bare_stmt s) (takes_stmt s p) (is cue.Starts p)
 others_take d s (x ∷ xs) p = others_take d x xs p
 
 list_good : (d : ℕ) (s : Stmt) (xs : List Stmt) → (some_stmts d).Good (s, xs) → ShapedStmts (more_stmts s (stmts_of xs))
@@ -95,7 +96,7 @@ abbrev some_cond : Cond
 some_cond = MkCond (MkConj (MkNeg false (alone some_expr)) no_negs) no_conjs
 
 abbrev some_ref : Ref
-some_ref = record { name = []; of = [] }
+some_ref = record { name = []; of = []; sub = None }
 
 abbrev some_recv : Recv
 some_recv = record { item = some_ref; rounded = false }
@@ -138,12 +139,13 @@ key_sample word.Not (u ∷ us) e = let never : true ≡ false = sym e ∙ not_cu
 key_sample _ ts e = absurd cc
 
 mark_starts : (ch : ℕ) (ts : List Sign) → on_mark procedure (is cue.Starts) (mark_cue ch) ≡ false
-mark_starts ch ts = go' (ch == 43 || ch == 45) (ch == 42 || ch == 47)
+mark_starts ch ts = go' (ch == 43 || ch == 45) (ch == 42 || ch == 47) (ch == 40)
   where
-    go' : (p q : Bool) → on_mark procedure (is cue.Starts) (if p then Some Signs else if q then Some Scales else None) ≡ false
-    go' true q = refl
-    go' false true = refl
-    go' false false = refl
+    go' : (p q r : Bool) → on_mark procedure (is cue.Starts) (if p then Some Signs else if q then Some Scales else if r then Some Subscripts else None) ≡ false
+    go' true q r = refl
+    go' false true r = refl
+    go' false false true = refl
+    go' false false false = refl
 
 sample : (y : Symbol) (ts : List Sign) → on_mark procedure (is cue.Starts) (peek_on procedure (token_front y) ts) ≡ true → Sample y
 sample (Key k) ts e = key_sample k ts e

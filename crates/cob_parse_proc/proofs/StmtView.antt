@@ -24,7 +24,7 @@ use Rattle.cob_parse_verb.specs.declared.word.Start.TheVariants as start
 use Rattle.cob_parse_verb.specs.declared.word.Begin.{Begin}
 use Rattle.cob_parse_verb.specs.Words.{start_word}
 use Rattle.cob_parse_verb.specs.Heads as heads
-use Rattle.cob_parse_verb.specs.Heads.{Arithmetic, Head, done, arithmetic, if_head, evaluate_head, perform_head, read_head, with_tail, end_word, end_cue, head_start, HasStart, print_arithmetic, print_behind, takes_arithmetic, takes_done, takes_behind, GoodHead}
+use Rattle.cob_parse_verb.specs.Heads.{makes_item, Arithmetic, Head, done, arithmetic, if_head, evaluate_head, perform_head, read_head, with_tail, end_word, end_cue, head_start, HasStart, print_arithmetic, print_behind, takes_arithmetic, takes_done, takes_behind, GoodHead}
 use Rattle.cob_parse_proc.specs.Bare.{bare_stmts, bare_phrase, bare_tail, bare_whens, bare_when, bare_verb, or_of, list_takes, stmt_takes}
 use Rattle.cob_parse_proc.specs.Reading.{Case, whens_in, other_in, Inside, no_inside, list_inside, whens_inside, verb_of, Parts, make_stmt}
 use Rattle.cob_parse_proc.proofs.Syntaxes.{stmt_syntax, foreign, Known}
@@ -351,15 +351,15 @@ or_last true = refl
 or_last false = refl
 
 cases_take : (d : ℕ) (w : When) (cs : List Case) (p : Cue) → (cases_syntax d).Good cs
-    → or_of (is Qualifies p) (bare_phrase (other_in cs) (bare_whens (more_whens w (whens_in cs)))) (takes_phrase (other_in cs) (takes_whens (more_whens w (whens_in cs)) p) (is cue.Whens p) p) ≡ (whens_syntax d).takes (w, cs) p
-cases_take d w [] p good = or_more (is Qualifies p) (bare_when w) (takes_when w p) (is cue.Whens p)
+    → or_of (makes_item p) (bare_phrase (other_in cs) (bare_whens (more_whens w (whens_in cs)))) (takes_phrase (other_in cs) (takes_whens (more_whens w (whens_in cs)) p) (is cue.Whens p) p) ≡ (whens_syntax d).takes (w, cs) p
+cases_take d w [] p good = or_more (makes_item p) (bare_when w) (takes_when w p) (is cue.Whens p)
 cases_take d w (inl ss ∷ []) p good = sym (or_last (list_takes ss p))
 cases_take d w (inl ss ∷ c ∷ cs) p good = let never : true ≡ false = good.1.0.1 in absurd cc
 cases_take d w (inr v ∷ cs) p good = cases_take d v cs p good.1
 
 module _ (d : ℕ) (q : Bool) (before : Bool) (bare : Bool) where
   -- a phrase behind what takes so
-  phrase_take : (o : Option Stmts) (own : Bool) (p : Cue) → is Qualifies p ≡ q → or_of q (bare_phrase (phrase_of o) bare) (takes_phrase (phrase_of o) before own p) ≡ onward (is_some o) (or_of q bare before) (opt_takes o own p)
+  phrase_take : (o : Option Stmts) (own : Bool) (p : Cue) → makes_item p ≡ q → or_of q (bare_phrase (phrase_of o) bare) (takes_phrase (phrase_of o) before own p) ≡ onward (is_some o) (or_of q bare before) (opt_takes o own p)
   phrase_take None own p e = or_more q bare before own
   phrase_take (Some ss) own p e = ap (λ (c : Bool). or_of c (bare_stmts ss) (takes_stmts ss p)) (sym e)
 
@@ -369,7 +369,7 @@ module _ (d : ℕ) (q : Bool) (before : Bool) (bare : Bool) where
 
 module _ (d : ℕ) (b : Begin) (p : Cue) where
   abbrev q : Bool
-  q = is Qualifies p
+  q = makes_item p
 
   -- the syntaxes of phrases, in these words
   size_take : (a : Arithmetic) (o : Option Stmts) → (first_syntax d (arithmetic a)).takes o p ≡ opt_takes o (is Size p) p
@@ -514,11 +514,11 @@ abbrev two_on : (Cue → Bool) → Cue → Cue → Option Stmts → Option Stmts
 two_on before m n o u p = onward (is_some u) (one_on before m o p) (opt_takes u (is n p) p)
 
 -- two phrases and a word that ends
-module _ (before : Cue → Bool) (m n e : Cue) (bm : before m ≡ false) (bn : before n ≡ false) (be : before e ≡ false) (mn : is m n ≡ false) (me : is m e ≡ false) (ne : is n e ≡ false) (qn : is Qualifies n ≡ false) (qe : is Qualifies e ≡ false) where
-  listed : (ss : Stmts) (c : Cue) → is Qualifies c ≡ false → list_takes ss c ≡ takes_stmts ss c
+module _ (before : Cue → Bool) (m n e : Cue) (bm : before m ≡ false) (bn : before n ≡ false) (be : before e ≡ false) (mn : is m n ≡ false) (me : is m e ≡ false) (ne : is n e ≡ false) (qn : makes_item n ≡ false) (qe : makes_item e ≡ false) where
+  listed : (ss : Stmts) (c : Cue) → makes_item c ≡ false → list_takes ss c ≡ takes_stmts ss c
   listed ss c q = ap (λ (z : Bool). or_of z (bare_stmts ss) (takes_stmts ss c)) q
 
-  one_is : (o : Option Stmts) (c : Cue) → before c ≡ false → is m c ≡ false → is Qualifies c ≡ false → one_on before m o c ≡ takes_phrase (phrase_of o) false false c
+  one_is : (o : Option Stmts) (c : Cue) → before c ≡ false → is m c ≡ false → makes_item c ≡ false → one_on before m o c ≡ takes_phrase (phrase_of o) false false c
   one_is None c b i q = rw (b, i) refl
   one_is (Some ss) c b i q = listed ss c q
 
@@ -545,7 +545,7 @@ record EndFacts (c : Cue) : Type 0 where
   foreign_one : foreign c ≡ true
   size : is Size c ≡ false
   not_size : is NotSize c ≡ false
-  qualifies : is Qualifies c ≡ false
+  qualifies : makes_item c ≡ false
 
 end_facts : (a : Arithmetic) → EndFacts (end_cue a)
 end_facts (heads.add_to addends to) = record { foreign_one = refl; size = refl; not_size = refl; qualifies = refl }

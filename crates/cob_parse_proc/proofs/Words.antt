@@ -4,7 +4,7 @@ use Rattle.cob_tree.specs.declared.keyword.Keyword.{Keyword}
 use Rattle.cob_tree.specs.declared.keyword.Keyword.TheVariants as word
 use Rattle.cob_tree.specs.Symbols.{Symbol, Key, Name, Number, Text, Mark, Relation, Pic, Stop, Sign}
 use Rattle.cob_tree.specs.Items.{key}
-use Rattle.cob_tree.specs.Cues.{Cue, is, mark_cue, key_cue, not_cue, Names, Constants, Signs, Scales, Relates, NotRelates, NotTests, Loops, Size, NotSize, AtEnd, NotAtEnd, Else, EndAdd, EndSubtract, EndMultiply, EndDivide, EndCompute, EndIf, EndEvaluate, EndRead}
+use Rattle.cob_tree.specs.Cues.{Cue, is, mark_cue, key_cue, not_cue, Names, Constants, Signs, Scales, Subscripts, Relates, NotRelates, NotTests, Loops, Size, NotSize, AtEnd, NotAtEnd, Else, EndAdd, EndSubtract, EndMultiply, EndDivide, EndCompute, EndIf, EndEvaluate, EndRead}
 use Rattle.cob_tree.specs.Cues as cue
 use Rattle.reading.specs.Readers.{behind_on, behind, both_behind_on, both_behind}
 use Rattle.reading.specs.Printing.{peek_on, on_mark, begins}
@@ -42,6 +42,7 @@ pub record Own (c : Cue) : Type 0 where
   pub constants : is c Constants ≡ false
   pub signs : is c Signs ≡ false
   pub scales : is c Scales ≡ false
+  pub subscripts : is c Subscripts ≡ false
   pub relation : is c Relates ≡ false
   pub loops : is c Loops ≡ false
 
@@ -56,12 +57,13 @@ module _ (c : Cue) (own : Own c) (k : Keyword) (same : (j : Keyword) → on_mark
   word_told j ts = same j
 
   mark_told : (ch : ℕ) → on_mark procedure (is c) (mark_cue ch) ≡ false
-  mark_told ch = go (ch == 43 || ch == 45) (ch == 42 || ch == 47)
+  mark_told ch = go (ch == 43 || ch == 45) (ch == 42 || ch == 47) (ch == 40)
     where
-      go : (p q : Bool) → on_mark procedure (is c) (if p then Some Signs else if q then Some Scales else None) ≡ false
-      go true q = own.signs
-      go false true = own.scales
-      go false false = refl
+      go : (p q r : Bool) → on_mark procedure (is c) (if p then Some Signs else if q then Some Scales else if r then Some Subscripts else None) ≡ false
+      go true q r = own.signs
+      go false true r = own.scales
+      go false false true = own.subscripts
+      go false false false = refl
 
   symbol_told : (y : Symbol) (ts : List Sign) → on_mark procedure (is c) (peek_on procedure (token_front y) ts) ≡ is_some (the k y)
   symbol_told (Key j) ts = word_told j ts
@@ -88,7 +90,7 @@ module _ (c : Cue) (own : Own c) (k : Keyword) (same : (j : Keyword) → on_mark
   word_opening d = one_opening (one_key d k) one_tt tt (is c) told
 
 own_size : Own Size
-own_size = record { relates = refl; tests = refl; size = refl; end = refl; names = refl; constants = refl; signs = refl; scales = refl; relation = refl; loops = refl }
+own_size = record { relates = refl; tests = refl; size = refl; end = refl; names = refl; constants = refl; signs = refl; scales = refl; subscripts = refl; relation = refl; loops = refl }
 
 same_size : (j : Keyword) → on_mark procedure (is Size) (key_cue j) ≡ is_some (the_key word.Size j)
 same_size word.Size = refl
@@ -98,7 +100,7 @@ pub size_opening : (d : ℕ) → Opening procedure (is Size) (key d word.Size �
 size_opening d = word_opening Size own_size word.Size same_size d
 
 own_else : Own Else
-own_else = record { relates = refl; tests = refl; size = refl; end = refl; names = refl; constants = refl; signs = refl; scales = refl; relation = refl; loops = refl }
+own_else = record { relates = refl; tests = refl; size = refl; end = refl; names = refl; constants = refl; signs = refl; scales = refl; subscripts = refl; relation = refl; loops = refl }
 
 same_else : (j : Keyword) → on_mark procedure (is Else) (key_cue j) ≡ is_some (the_key word.Else j)
 same_else word.Else = refl
@@ -108,7 +110,7 @@ pub else_opening : (d : ℕ) → Opening procedure (is Else) (key d word.Else �
 else_opening d = word_opening Else own_else word.Else same_else d
 
 own_end : Own AtEnd
-own_end = record { relates = refl; tests = refl; size = refl; end = refl; names = refl; constants = refl; signs = refl; scales = refl; relation = refl; loops = refl }
+own_end = record { relates = refl; tests = refl; size = refl; end = refl; names = refl; constants = refl; signs = refl; scales = refl; subscripts = refl; relation = refl; loops = refl }
 
 same_end : (j : Keyword) → on_mark procedure (is AtEnd) (key_cue j) ≡ is_some (the_key word.End j)
 same_end word.End = refl
@@ -118,7 +120,7 @@ pub end_opening : (d : ℕ) → Opening procedure (is AtEnd) (key d word.End ∷
 end_opening d = word_opening AtEnd own_end word.End same_end d
 
 own_when : Own cue.Whens
-own_when = record { relates = refl; tests = refl; size = refl; end = refl; names = refl; constants = refl; signs = refl; scales = refl; relation = refl; loops = refl }
+own_when = record { relates = refl; tests = refl; size = refl; end = refl; names = refl; constants = refl; signs = refl; scales = refl; subscripts = refl; relation = refl; loops = refl }
 
 same_when : (j : Keyword) → on_mark procedure (is cue.Whens) (key_cue j) ≡ is_some (the_key word.When j)
 same_when word.When = refl
@@ -128,7 +130,7 @@ pub when_opening : (d : ℕ) → Opening procedure (is cue.Whens) (key d word.Wh
 when_opening d = word_opening cue.Whens own_when word.When same_when d
 
 own_end_add : Own EndAdd
-own_end_add = record { relates = refl; tests = refl; size = refl; end = refl; names = refl; constants = refl; signs = refl; scales = refl; relation = refl; loops = refl }
+own_end_add = record { relates = refl; tests = refl; size = refl; end = refl; names = refl; constants = refl; signs = refl; scales = refl; subscripts = refl; relation = refl; loops = refl }
 
 same_end_add : (j : Keyword) → on_mark procedure (is EndAdd) (key_cue j) ≡ is_some (the_key word.EndAdd j)
 same_end_add word.EndAdd = refl
@@ -138,7 +140,7 @@ pub end_add_opening : (d : ℕ) → Opening procedure (is EndAdd) (key d word.En
 end_add_opening d = word_opening EndAdd own_end_add word.EndAdd same_end_add d
 
 own_end_subtract : Own EndSubtract
-own_end_subtract = record { relates = refl; tests = refl; size = refl; end = refl; names = refl; constants = refl; signs = refl; scales = refl; relation = refl; loops = refl }
+own_end_subtract = record { relates = refl; tests = refl; size = refl; end = refl; names = refl; constants = refl; signs = refl; scales = refl; subscripts = refl; relation = refl; loops = refl }
 
 same_end_subtract : (j : Keyword) → on_mark procedure (is EndSubtract) (key_cue j) ≡ is_some (the_key word.EndSubtract j)
 same_end_subtract word.EndSubtract = refl
@@ -148,7 +150,7 @@ pub end_subtract_opening : (d : ℕ) → Opening procedure (is EndSubtract) (key
 end_subtract_opening d = word_opening EndSubtract own_end_subtract word.EndSubtract same_end_subtract d
 
 own_end_multiply : Own EndMultiply
-own_end_multiply = record { relates = refl; tests = refl; size = refl; end = refl; names = refl; constants = refl; signs = refl; scales = refl; relation = refl; loops = refl }
+own_end_multiply = record { relates = refl; tests = refl; size = refl; end = refl; names = refl; constants = refl; signs = refl; scales = refl; subscripts = refl; relation = refl; loops = refl }
 
 same_end_multiply : (j : Keyword) → on_mark procedure (is EndMultiply) (key_cue j) ≡ is_some (the_key word.EndMultiply j)
 same_end_multiply word.EndMultiply = refl
@@ -158,7 +160,7 @@ pub end_multiply_opening : (d : ℕ) → Opening procedure (is EndMultiply) (key
 end_multiply_opening d = word_opening EndMultiply own_end_multiply word.EndMultiply same_end_multiply d
 
 own_end_divide : Own EndDivide
-own_end_divide = record { relates = refl; tests = refl; size = refl; end = refl; names = refl; constants = refl; signs = refl; scales = refl; relation = refl; loops = refl }
+own_end_divide = record { relates = refl; tests = refl; size = refl; end = refl; names = refl; constants = refl; signs = refl; scales = refl; subscripts = refl; relation = refl; loops = refl }
 
 same_end_divide : (j : Keyword) → on_mark procedure (is EndDivide) (key_cue j) ≡ is_some (the_key word.EndDivide j)
 same_end_divide word.EndDivide = refl
@@ -168,7 +170,7 @@ pub end_divide_opening : (d : ℕ) → Opening procedure (is EndDivide) (key d w
 end_divide_opening d = word_opening EndDivide own_end_divide word.EndDivide same_end_divide d
 
 own_end_compute : Own EndCompute
-own_end_compute = record { relates = refl; tests = refl; size = refl; end = refl; names = refl; constants = refl; signs = refl; scales = refl; relation = refl; loops = refl }
+own_end_compute = record { relates = refl; tests = refl; size = refl; end = refl; names = refl; constants = refl; signs = refl; scales = refl; subscripts = refl; relation = refl; loops = refl }
 
 same_end_compute : (j : Keyword) → on_mark procedure (is EndCompute) (key_cue j) ≡ is_some (the_key word.EndCompute j)
 same_end_compute word.EndCompute = refl
@@ -178,7 +180,7 @@ pub end_compute_opening : (d : ℕ) → Opening procedure (is EndCompute) (key d
 end_compute_opening d = word_opening EndCompute own_end_compute word.EndCompute same_end_compute d
 
 own_end_if : Own EndIf
-own_end_if = record { relates = refl; tests = refl; size = refl; end = refl; names = refl; constants = refl; signs = refl; scales = refl; relation = refl; loops = refl }
+own_end_if = record { relates = refl; tests = refl; size = refl; end = refl; names = refl; constants = refl; signs = refl; scales = refl; subscripts = refl; relation = refl; loops = refl }
 
 same_end_if : (j : Keyword) → on_mark procedure (is EndIf) (key_cue j) ≡ is_some (the_key word.EndIf j)
 same_end_if word.EndIf = refl
@@ -188,7 +190,7 @@ pub end_if_opening : (d : ℕ) → Opening procedure (is EndIf) (key d word.EndI
 end_if_opening d = word_opening EndIf own_end_if word.EndIf same_end_if d
 
 own_end_evaluate : Own EndEvaluate
-own_end_evaluate = record { relates = refl; tests = refl; size = refl; end = refl; names = refl; constants = refl; signs = refl; scales = refl; relation = refl; loops = refl }
+own_end_evaluate = record { relates = refl; tests = refl; size = refl; end = refl; names = refl; constants = refl; signs = refl; scales = refl; subscripts = refl; relation = refl; loops = refl }
 
 same_end_evaluate : (j : Keyword) → on_mark procedure (is EndEvaluate) (key_cue j) ≡ is_some (the_key word.EndEvaluate j)
 same_end_evaluate word.EndEvaluate = refl
@@ -198,7 +200,7 @@ pub end_evaluate_opening : (d : ℕ) → Opening procedure (is EndEvaluate) (key
 end_evaluate_opening d = word_opening EndEvaluate own_end_evaluate word.EndEvaluate same_end_evaluate d
 
 own_end_read : Own EndRead
-own_end_read = record { relates = refl; tests = refl; size = refl; end = refl; names = refl; constants = refl; signs = refl; scales = refl; relation = refl; loops = refl }
+own_end_read = record { relates = refl; tests = refl; size = refl; end = refl; names = refl; constants = refl; signs = refl; scales = refl; subscripts = refl; relation = refl; loops = refl }
 
 same_end_read : (j : Keyword) → on_mark procedure (is EndRead) (key_cue j) ≡ is_some (the_key word.EndRead j)
 same_end_read word.EndRead = refl
@@ -224,7 +226,7 @@ when_told = told cue.Whens own_when word.When same_when
 -- ---- what NOT opens
 
 module _ (c : Cue) (k : Keyword) (second : (y : Symbol) → on_mark procedure (is c) (not_cue y) ≡ is_some (the k y)) (alone : (j : Keyword) → is_some (the_key word.Not j) ≡ false → on_mark procedure (is c) (key_cue j) ≡ false)
-    (names : is c Names ≡ false) (constants : is c Constants ≡ false) (signs : is c Signs ≡ false) (scales : is c Scales ≡ false) (relation : is c Relates ≡ false) (loops : is c Loops ≡ false) where
+    (names : is c Names ≡ false) (constants : is c Constants ≡ false) (signs : is c Signs ≡ false) (scales : is c Scales ≡ false) (subscripts : is c Subscripts ≡ false) (relation : is c Relates ≡ false) (loops : is c Loops ≡ false) where
   behind_told : (us : List Sign) → on_mark procedure (is c) (peek_on procedure (word_front word.Not) us) ≡ is_some (behind (one_word k) us)
   behind_told [] = refl
   behind_told (u ∷ us) = second u.symbol ∙ shown (the k u.symbol)
@@ -239,12 +241,13 @@ module _ (c : Cue) (k : Keyword) (second : (y : Symbol) → on_mark procedure (i
   key_told j us = alone j refl
 
   mark_never : (ch : ℕ) → on_mark procedure (is c) (mark_cue ch) ≡ false
-  mark_never ch = go (ch == 43 || ch == 45) (ch == 42 || ch == 47)
+  mark_never ch = go (ch == 43 || ch == 45) (ch == 42 || ch == 47) (ch == 40)
     where
-      go : (p q : Bool) → on_mark procedure (is c) (if p then Some Signs else if q then Some Scales else None) ≡ false
-      go true q = signs
-      go false true = scales
-      go false false = refl
+      go : (p q r : Bool) → on_mark procedure (is c) (if p then Some Signs else if q then Some Scales else if r then Some Subscripts else None) ≡ false
+      go true q r = signs
+      go false true r = scales
+      go false false true = subscripts
+      go false false false = refl
 
   both_told : (y : Symbol) (us : List Sign) → on_mark procedure (is c) (peek_on procedure (token_front y) us) ≡ is_some (both_behind_on (the word.Not y) (one_word k) us)
   both_told (Key j) us = key_told j us
@@ -278,7 +281,7 @@ alone_size j e = key_never j
     key_never _ = refl
 
 pub not_size_opening : (d : ℕ) → Opening procedure (is NotSize) (key d word.Not ∷ key d word.Size ∷ []) (both_behind (one_word word.Not) (one_word word.Size))
-not_size_opening = not_opening NotSize word.Size second_size alone_size refl refl refl refl refl refl
+not_size_opening = not_opening NotSize word.Size second_size alone_size refl refl refl refl refl refl refl
 
 second_end : (y : Symbol) → on_mark procedure (is NotAtEnd) (not_cue y) ≡ is_some (the word.End y)
 second_end (Key word.End) = refl
@@ -292,4 +295,4 @@ alone_end j e = key_never j
     key_never _ = refl
 
 pub not_end_opening : (d : ℕ) → Opening procedure (is NotAtEnd) (key d word.Not ∷ key d word.End ∷ []) (both_behind (one_word word.Not) (one_word word.End))
-not_end_opening = not_opening NotAtEnd word.End second_end alone_end refl refl refl refl refl refl
+not_end_opening = not_opening NotAtEnd word.End second_end alone_end refl refl refl refl refl refl refl

@@ -1,8 +1,10 @@
--- What ends with a range of PERFORM alone: where OF stands behind its name, that name turns into an operand of TIMES.
+-- What ends with a range of PERFORM alone: where OF or a subscript stands behind its name, that name turns into an operand
+-- of TIMES.
 use Rattle.std.specs.Prelude.{◌||◌, ◌&&◌, not, Bool, false, true, None}
-use Rattle.cob_tree.specs.Cues.{Cue, is, Qualifies}
+use Rattle.cob_tree.specs.Cues.{Cue}
 use Rattle.cob_tree.specs.Stmt.{Stmt, MkStmt, Verb, add_to, add_giving, subtract_from, subtract_giving, multiply_by, multiply_giving, divide_into, divide_giving, compute, if_, evaluate, perform_range, read, Stmts, no_stmts, more_stmts, Phrase, left_out, given, Tail, MkTail, Whens, no_whens, more_whens, When, MkWhen}
 use Rattle.cob_tree.specs.Takes.{takes_stmts, takes_stmt, takes_when}
+use Rattle.cob_parse_verb.specs.Heads.{makes_item}
 
 abbrev mutual
   pub bare_stmts : Stmts → Bool
@@ -44,15 +46,15 @@ abbrev mutual
   bare_verb (read file into end not_end ended) = not ended && bare_phrase not_end (bare_phrase end false)
   bare_verb _ = false
 
--- the statement takes the token, or is a range alone and the token is OF
+-- the statement takes the token, or is a range alone and the token makes the name an item's
 abbrev pub or_of : Bool → Bool → Bool → Bool
 or_of qualifies bare takes = (qualifies && bare) || takes
 
 abbrev pub list_takes : Stmts → Cue → Bool
-list_takes ss p = or_of (is Qualifies p) (bare_stmts ss) (takes_stmts ss p)
+list_takes ss p = or_of (makes_item p) (bare_stmts ss) (takes_stmts ss p)
 
 abbrev pub stmt_takes : Stmt → Cue → Bool
-stmt_takes s p = or_of (is Qualifies p) (bare_stmt s) (takes_stmt s p)
+stmt_takes s p = or_of (makes_item p) (bare_stmt s) (takes_stmt s p)
 
 abbrev pub when_takes : When → Cue → Bool
-when_takes w p = or_of (is Qualifies p) (bare_when w) (takes_when w p)
+when_takes w p = or_of (makes_item p) (bare_when w) (takes_when w p)

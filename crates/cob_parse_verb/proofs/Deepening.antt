@@ -101,12 +101,12 @@ is_open e top (Relation r) low at = absurd (omega (arith, low, at))
 is_open e top (Pic text) low at = absurd (omega (arith, low, at))
 is_open e top Stop low at = absurd (omega (arith, low, at))
 
--- nothing goes on with it
-open_ends : (takes : Cue → Bool) (t : Sign) (ts : List Sign) → t.symbol ≡ Mark 40 → Next procedure takes (t ∷ ts)
-open_ends takes t ts e = ap (λ (y : Symbol). on_mark procedure takes (peek_on procedure (token_front y) ts)) e
+-- it alone tells whether something goes on with it
+open_alone : (takes : Cue → Bool) (t : Sign) (ts us : List Sign) → t.symbol ≡ Mark 40 → Next procedure takes (t ∷ us) → Next procedure takes (t ∷ ts)
+open_alone takes t ts us e next = ap (λ (y : Symbol). on_mark procedure takes (peek_on procedure (token_front y) ts)) e ∙ (sym (ap (λ (y : Symbol). on_mark procedure takes (peek_on procedure (token_front y) us)) e) ∙ next)
 
 next_moves : (takes : Cue → Bool) (c z m : List Sign) (t : Sign) → t.symbol ≡ Mark 40 → Next procedure takes (c ++ t ∷ z) → Next procedure takes (c ++ t ∷ m)
-next_moves takes [] z m t e next = open_ends takes t m e
+next_moves takes [] z m t e next = open_alone takes t m z e next
 next_moves takes (u ∷ []) z m t e next = ap (on_mark procedure takes) (peek_two procedure u t m z) ∙ next
 next_moves takes (u ∷ v ∷ c) z m t e next = ap (on_mark procedure takes) (peek_two procedure u v (c ++ t ∷ m) (c ++ t ∷ z)) ∙ next
 

@@ -3,18 +3,19 @@ use Rattle.std.proofs.Common.{◌≡◌, ℕ, suc, ◌-◌, ◌<◌, ◌||◌, �
 use Rattle.cob_tree.specs.declared.keyword.Keyword.TheVariants as key
 use Rattle.cob_tree.specs.declared.operand.Opnd.{Opnd}
 use Rattle.cob_tree.specs.declared.operand.Recv.{Recv}
+use Rattle.cob_tree.specs.declared.operand.Ref.{Ref}
 use Rattle.cob_tree.specs.declared.stmt.TestPoint.{TestPoint}
 use Rattle.cob_tree.specs.declared.stmt.Subject.TheVariants as subject
 use Rattle.cob_tree.specs.declared.stmt.Varying.{Varying}
 use Rattle.cob_tree.specs.Symbols.{Key, Sign}
 use Rattle.cob_tree.specs.Items.{Item, item_on, name, behind}
 use Rattle.cob_tree.specs.Items as items
-use Rattle.cob_tree.specs.Cues.{Cue, is, Qualifies, Rounds, Names, Signs, Scales, NotRelates, NotTests, NotSize, NotAtEnd, Throughs, Givings, Remainders, Intos, Froms, Modes, EndWrite}
+use Rattle.cob_tree.specs.Cues.{Cue, is, Qualifies, Subscripts, Rounds, Names, Signs, Scales, NotRelates, NotTests, NotSize, NotAtEnd, Throughs, Givings, Remainders, Intos, Froms, Modes, EndWrite}
 use Rattle.cob_tree.specs.Cond.{Cond}
 use Rattle.cob_tree.specs.Stmt.{times, until, Verb, move, set, display, perform_range, go, exit, continue, stop_run, open_, close, write}
 use Rattle.cob_tree.specs.PrintExpr.{print_cond}
 use Rattle.cob_tree.specs.PrintStmt.{print_test_point, print_varying, print_loop}
-use Rattle.cob_tree.specs.Takes.{begins_opnd, begins_loop, takes_cond, takes_recvs, takes_giving, takes_from}
+use Rattle.cob_tree.specs.Takes.{begins_opnd, begins_loop, takes_cond, takes_recvs, takes_giving, takes_ref, takes_from}
 use Rattle.reading.specs.Printing.{Below, on_mark}
 use Rattle.reading.specs.Law.{Syntax}
 use Rattle.reading.proofs.Texts.{or_false, below_right}
@@ -24,7 +25,7 @@ use Rattle.cob_parse_expr.specs.Alphabet.{grammar}
 use Rattle.cob_parse_expr.specs.Parsing.{cond_syntax}
 use Rattle.cob_parse_expr.specs.CondReading.{cond_goes}
 use Rattle.cob_parse_expr.proofs.CueLemmas.{not_taken}
-use Rattle.cob_parse_expr.proofs.ExprLaws.{expr_never}
+use Rattle.cob_parse_expr.proofs.ExprLaws.{ref_never, expr_never}
 use Rattle.cob_parse_expr.proofs.ParenLaws.{cond_ends}
 use Rattle.cob_parse_verb.specs.declared.word.Start.{Start}
 use Rattle.cob_parse_verb.specs.declared.word.Begin.{Begin}
@@ -33,7 +34,7 @@ use Rattle.cob_parse_verb.specs.Words.{start_word}
 use Rattle.cob_parse_verb.specs.Heads.{Arithmetic, add_to, add_giving, subtract_from, subtract_giving, multiply_by, multiply_giving, divide_into, divide_giving, compute, takes_arithmetic, Head, done, arithmetic, if_head, evaluate_head, perform_head, read_head, verb_start, takes_done, takes_behind, print_head, GoodStarted, HasStart}
 use Rattle.cob_parse_verb.specs.Syntaxes.{head_syntax, choices_syntax}
 use Rattle.cob_parse_verb.proofs.Across.{below_back, front_back}
-use Rattle.cob_parse_verb.proofs.ListLaws.{opnd_never}
+use Rattle.cob_parse_verb.proofs.ListLaws.{opnd_never, refs_never}
 use Rattle.cob_parse_verb.proofs.TargetLaws.{opnds_never, recvs_never}
 use Rattle.cob_parse_verb.proofs.SelLaws.{choices_grow_by}
 
@@ -64,7 +65,7 @@ choices_grow d top low = grows_across (choices_grow_by d top low (top - suc d) (
 
 -- ---- what takes no such token
 
-module _ (c : Cue) (q : is Qualifies c ≡ false) (r : is Rounds c ≡ false) (n : is Names c ≡ false) (g : is Givings c ≡ false) (re : is Remainders c ≡ false) (si : is Signs c ≡ false) (sc : is Scales c ≡ false) where
+module _ (c : Cue) (q : is Qualifies c ≡ false) (u : is Subscripts c ≡ false) (r : is Rounds c ≡ false) (n : is Names c ≡ false) (g : is Givings c ≡ false) (re : is Remainders c ≡ false) (si : is Signs c ≡ false) (sc : is Scales c ≡ false) where
   giving_quiet : (rs : List Recv) → takes_giving rs c ≡ false
   giving_quiet [] = refl
   giving_quiet (x ∷ []) = go (not x.rounded)
@@ -75,7 +76,7 @@ module _ (c : Cue) (q : is Qualifies c ≡ false) (r : is Rounds c ≡ false) (n
   giving_quiet (x ∷ y ∷ rs) = refl
 
   recvs_quiet : (rs : List Recv) → takes_recvs rs c ≡ false
-  recvs_quiet rs = recvs_never c q r n rs
+  recvs_quiet rs = recvs_never c q u r n rs
 
   target_quiet : (rs : List Recv) → (takes_recvs rs c || takes_giving rs c) ≡ false
   target_quiet rs = or_false (takes_recvs rs c) (takes_giving rs c) (recvs_quiet rs) (giving_quiet rs)
@@ -89,12 +90,12 @@ module _ (c : Cue) (q : is Qualifies c ≡ false) (r : is Rounds c ≡ false) (n
   arithmetic_quiet (multiply_giving x y rs) = recvs_quiet rs
   arithmetic_quiet (divide_into x rs) = target_quiet rs
   arithmetic_quiet (divide_giving x way y rs None) = or_false (takes_recvs rs c) (is Remainders c) (recvs_quiet rs) re
-  arithmetic_quiet (divide_giving x way y rs (Some i)) = q
-  arithmetic_quiet (compute rs e) = expr_never c q sc si e
+  arithmetic_quiet (divide_giving x way y rs (Some i)) = ref_never c q u i
+  arithmetic_quiet (compute rs e) = expr_never c q u sc si e
 
-from_quiet : (c : Cue) → is Qualifies c ≡ false → is Froms c ≡ false → (x : Option Opnd) → takes_from x c ≡ false
-from_quiet c q from None = or_false (is Qualifies c) (is Froms c) q from
-from_quiet c q from (Some x) = opnd_never c q x
+from_quiet : (c : Cue) → is Qualifies c ≡ false → is Subscripts c ≡ false → is Froms c ≡ false → (i : Ref) (x : Option Opnd) → takes_from i x c ≡ false
+from_quiet c q u from i None = or_false (takes_ref i c) (is Froms c) (ref_never c q u i) from
+from_quiet c q u from i (Some x) = opnd_never c q u x
 
 -- a head that ends with no condition
 abbrev quiet : Head → Bool
@@ -103,13 +104,13 @@ quiet (perform_head (Some (until test v c))) = false
 quiet (done (perform_range text thru (Some (until test v c)))) = false
 quiet _ = true
 
-module _ (c : Cue) (q : is Qualifies c ≡ false) (r : is Rounds c ≡ false) (n : is Names c ≡ false) (o : begins_opnd c ≡ false) (g : is Givings c ≡ false) (re : is Remainders c ≡ false) (si : is Signs c ≡ false) (sc : is Scales c ≡ false)
+module _ (c : Cue) (q : is Qualifies c ≡ false) (u : is Subscripts c ≡ false) (r : is Rounds c ≡ false) (n : is Names c ≡ false) (o : begins_opnd c ≡ false) (g : is Givings c ≡ false) (re : is Remainders c ≡ false) (si : is Signs c ≡ false) (sc : is Scales c ≡ false)
     (into : is Intos c ≡ false) (from : is Froms c ≡ false) (end : is EndWrite c ≡ false) (mode : is Modes c ≡ false) (th : is Throughs c ≡ false) (lo : begins_loop c ≡ false) where
   quiet_verb : (v : Verb) (s : Start) → verb_start v ≡ Some s → quiet (done v) ≡ true → takes_done v c ≡ false
-  quiet_verb (move x rs) s e k = or_false (is Qualifies c) (is Names c) q n
+  quiet_verb (move x rs) s e k = refs_never c q u n rs
   quiet_verb (set text) s e k = refl
-  quiet_verb (display os) s e k = opnds_never c q o os
-  quiet_verb (perform_range text None None) s e k = or_false (is Qualifies c) (is Throughs c || begins_loop c) q (or_false (is Throughs c) (begins_loop c) th lo)
+  quiet_verb (display os) s e k = opnds_never c q u o os
+  quiet_verb (perform_range text None None) s e k = or_false (is Qualifies c || is Subscripts c) (is Throughs c || begins_loop c) (or_false (is Qualifies c) (is Subscripts c) q u) (or_false (is Throughs c) (begins_loop c) th lo)
   quiet_verb (perform_range text (Some thru) None) s e k = lo
   quiet_verb (perform_range text None (Some (times x))) s e k = refl
   quiet_verb (perform_range text (Some thru) (Some (times x))) s e k = refl
@@ -122,27 +123,27 @@ module _ (c : Cue) (q : is Qualifies c ≡ false) (r : is Rounds c ≡ false) (n
   quiet_verb (open_ files) s e k = or_false (is Names c) (is Modes c) n mode
   quiet_verb (close names) s e k = n
   quiet_verb (write x y true) s e k = refl
-  quiet_verb (write x y false) s e k = or_false (takes_from y c) (is EndWrite c) (from_quiet c q from y) end
+  quiet_verb (write x y false) s e k = or_false (takes_from x y c) (is EndWrite c) (from_quiet c q u from x y) end
   quiet_verb _ s e k = absurd cc
 
   quiet_head : (h : Head) (s : Start) → HasStart h s → quiet h ≡ true → takes_behind h c ≡ false
   quiet_head (done v) s e k = quiet_verb v s e k
-  quiet_head (arithmetic a) s e k = arithmetic_quiet c q r n g re si sc a
+  quiet_head (arithmetic a) s e k = arithmetic_quiet c q u r n g re si sc a
   quiet_head (if_head x) s e k = absurd cc
   quiet_head (evaluate_head subject.True) s e k = refl
-  quiet_head (evaluate_head (subject.Ref x)) s e k = q
+  quiet_head (evaluate_head (subject.Ref x)) s e k = ref_never c q u x
   quiet_head (perform_head None) s e k = lo
   quiet_head (perform_head (Some (times x))) s e k = refl
   quiet_head (perform_head (Some (until test v x))) s e k = absurd cc
   quiet_head (read_head file None) s e k = into
-  quiet_head (read_head file (Some x)) s e k = q
+  quiet_head (read_head file (Some x)) s e k = ref_never c q u x
 
 quiet_one : (h : Head) (s : Start) → HasStart h s → quiet h ≡ true → OneToken grammar (takes_behind h)
 quiet_one h s e k = not_taken (takes_behind h)
-    (quiet_head NotRelates refl refl refl refl refl refl refl refl refl refl refl refl refl refl h s e k)
-    (quiet_head NotTests refl refl refl refl refl refl refl refl refl refl refl refl refl refl h s e k)
-    (quiet_head NotSize refl refl refl refl refl refl refl refl refl refl refl refl refl refl h s e k)
-    (quiet_head NotAtEnd refl refl refl refl refl refl refl refl refl refl refl refl refl refl h s e k)
+    (quiet_head NotRelates refl refl refl refl refl refl refl refl refl refl refl refl refl refl refl h s e k)
+    (quiet_head NotTests refl refl refl refl refl refl refl refl refl refl refl refl refl refl refl h s e k)
+    (quiet_head NotSize refl refl refl refl refl refl refl refl refl refl refl refl refl refl refl h s e k)
+    (quiet_head NotAtEnd refl refl refl refl refl refl refl refl refl refl refl refl refl refl refl h s e k)
 
 -- ---- a head that ends with a condition
 

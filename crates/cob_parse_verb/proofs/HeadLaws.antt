@@ -32,8 +32,8 @@ use Rattle.cob_parse_expr.specs.Parsing.{cond_syntax}
 use Rattle.cob_parse_expr.specs.CondReading.{cond_at}
 use Rattle.cob_parse_expr.proofs.CueLemmas.{only}
 use Rattle.cob_parse_expr.proofs.Generic.{tells_by_one}
-use Rattle.cob_parse_expr.proofs.OperandLaws.{ref_syntax, ref_law, opnd_syntax, opnd_law}
-use Rattle.cob_parse_expr.proofs.ExprLaws.{some_expr, expr_never}
+use Rattle.cob_parse_expr.proofs.OperandLaws.{ref_syntax, law_of_references, opnd_syntax, law_of_operands}
+use Rattle.cob_parse_expr.proofs.ExprLaws.{some_expr, ref_never, expr_never}
 use Rattle.cob_parse_expr.proofs.CondLaws.{cond_never}
 use Rattle.cob_parse_expr.proofs.ParenLaws.{law_of_conditions}
 use Rattle.cob_parse_verb.specs.Words as word
@@ -48,7 +48,7 @@ use Rattle.cob_parse_verb.specs.Reading.{make_move, move_at, make_set, set_at, m
 use Rattle.cob_parse_verb.proofs.WordLaws.{the_word, begins_}
 use Rattle.cob_parse_verb.proofs.WordNext.{word_is, behind_syntax, behind_law, behind_next, word_opening, told_stands, own_cue_tells}
 use Rattle.cob_parse_verb.proofs.Across.{class_across, law_across}
-use Rattle.cob_parse_verb.proofs.ListLaws.{same_trees, opnd_never, name_syntax, name_law, names_syntax, names_law, refs_syntax, refs_law, opnds_syntax, opnds_law, files_syntax, files_law, tag_if}
+use Rattle.cob_parse_verb.proofs.ListLaws.{same_trees, opnd_never, refs_never, name_syntax, name_law, names_syntax, names_law, refs_syntax, refs_law, opnds_syntax, opnds_law, files_syntax, files_law, tag_if}
 use Rattle.cob_parse_verb.proofs.TargetLaws.{opnds_never, recvs_never}
 use Rattle.cob_parse_verb.proofs.SumLaws.{arithmetic_syntax, IsSum, sum_start, opnd_one, some_opnd, add_law, subtract_law, multiply_law, divide_law, compute_law}
 use Rattle.cob_parse_verb.proofs.PerformLaws.{behind_word_syntax, perform_law}
@@ -218,7 +218,7 @@ write_raw d = tail_syntax (written_syntax d) (λ x. maybe_syntax (is EndWrite) A
 
 abbrev write_parts : Head → (Ref × Option Opnd) × Option (Unit {0})
 write_parts (done (write r o ended)) = ((r, o), tag_if ended)
-write_parts _ = ((record { name = []; of = [] }, None), None)
+write_parts _ = ((record { name = []; of = []; sub = None }, None), None)
 
 write_view : (d : ℕ) → View (write_raw d) (behind_word_syntax start.Write d) make_write write_parts
 write_view d = record { back = back; print = print; takes = takes; good = λ x g. (tt, refl); good_back = good_back }
@@ -242,17 +242,17 @@ write_view d = record { back = back; print = print; takes = takes; good = λ x g
     takes ((r, Some o), Some x) p g = refl
 
     good_back : (h : Head) → (behind_word_syntax start.Write d).Good h → (write_raw d).Good (write_parts h)
-    good_back (done (write r None true)) g = ((tt, tt, tt), tt, refl)
+    good_back (done (write r None true)) g = ((tt, tt, tt), tt, or_false (takes_ref r EndWrite) false (ref_never EndWrite refl refl r) refl)
     good_back (done (write r None false)) g = ((tt, tt, tt), tt, tt)
-    good_back (done (write r (Some o) true)) g = ((tt, tt, refl), tt, opnd_never EndWrite refl o)
-    good_back (done (write r (Some o) false)) g = ((tt, tt, refl), tt, tt)
+    good_back (done (write r (Some o) true)) g = ((tt, tt, ref_never Froms refl refl r), tt, opnd_never EndWrite refl refl o)
+    good_back (done (write r (Some o) false)) g = ((tt, tt, ref_never Froms refl refl r), tt, tt)
     good_back (arithmetic a) (g, e) = wrong a start.Write e (λ x. x)
     good_back _ (g, e) = absurd cc
 
 write_never : (d : ℕ) (x : (Ref × Option Opnd) × Option (Unit {0})) → (write_raw d).takes x Loops ≡ false
-write_never d ((r, None), None) = refl
+write_never d ((r, None), None) = or_false (takes_ref r Loops || false) false (or_false (takes_ref r Loops) false (ref_never Loops refl refl r) refl) refl
 write_never d ((r, None), Some x) = refl
-write_never d ((r, Some o), None) = or_false (takes_opnd o Loops) false (opnd_never Loops refl o) refl
+write_never d ((r, Some o), None) = or_false (takes_opnd o Loops) false (opnd_never Loops refl refl o) refl
 write_never d ((r, Some o), Some x) = refl
 
 -- ---- IF
@@ -316,7 +316,7 @@ evaluate_view d = record { back = back; print = print; takes = takes; good = goo
 
 subject_never : (d : ℕ) (x : Unit {0} ⊎ Ref) → (subject_raw d).takes x Loops ≡ false
 subject_never d (inl x) = refl
-subject_never d (inr r) = refl
+subject_never d (inr r) = ref_never Loops refl refl r
 
 -- ---- READ
 
@@ -353,7 +353,7 @@ read_view d = record { back = back; print = print; takes = takes; good = λ x g.
 
 read_never : (d : ℕ) (x : List ℕ × Option Ref) → (read_raw d).takes x Loops ≡ false
 read_never d (file, None) = refl
-read_never d (file, Some r) = refl
+read_never d (file, Some r) = ref_never Loops refl refl r
 
 -- ---- arithmetic statements
 
@@ -367,19 +367,19 @@ giving_never c g (r ∷ []) = go (not r.rounded)
 giving_never c g (r ∷ q ∷ rs) = refl
 
 target_never : (rs : List Recv) → (takes_recvs rs Loops || takes_giving rs Loops) ≡ false
-target_never rs = or_false (takes_recvs rs Loops) (takes_giving rs Loops) (recvs_never Loops refl refl refl rs) (giving_never Loops refl rs)
+target_never rs = or_false (takes_recvs rs Loops) (takes_giving rs Loops) (recvs_never Loops refl refl refl refl rs) (giving_never Loops refl rs)
 
 arithmetic_never : (a : Arithmetic) → takes_arithmetic a Loops ≡ false
 arithmetic_never (add_to os rs) = target_never rs
-arithmetic_never (add_giving os o rs) = recvs_never Loops refl refl refl rs
+arithmetic_never (add_giving os o rs) = recvs_never Loops refl refl refl refl rs
 arithmetic_never (subtract_from os rs) = target_never rs
-arithmetic_never (subtract_giving os o rs) = recvs_never Loops refl refl refl rs
+arithmetic_never (subtract_giving os o rs) = recvs_never Loops refl refl refl refl rs
 arithmetic_never (multiply_by o rs) = target_never rs
-arithmetic_never (multiply_giving o p rs) = recvs_never Loops refl refl refl rs
+arithmetic_never (multiply_giving o p rs) = recvs_never Loops refl refl refl refl rs
 arithmetic_never (divide_into o rs) = target_never rs
-arithmetic_never (divide_giving o way p rs None) = or_false (takes_recvs rs Loops) false (recvs_never Loops refl refl refl rs) refl
-arithmetic_never (divide_giving o way p rs (Some r)) = refl
-arithmetic_never (compute rs e) = expr_never Loops refl refl refl e
+arithmetic_never (divide_giving o way p rs None) = or_false (takes_recvs rs Loops) false (recvs_never Loops refl refl refl refl rs) refl
+arithmetic_never (divide_giving o way p rs (Some r)) = ref_never Loops refl refl r
+arithmetic_never (compute rs e) = expr_never Loops refl refl refl refl e
 
 abbrev sum_parts : Head → Arithmetic
 sum_parts (arithmetic a) = a
@@ -420,22 +420,25 @@ sum_view s is d = record {
 
 -- ---- the law
 
-module _ (d top : ℕ) (low : d < top) (room : ℕ) (e : top ≡ suc (d + room)) where
-  move_law : Law procedure move_at (behind_word_syntax start.Move d) top
-  move_law = seen_law (law_across (apart_law (opnd_law d top low) opnd_one (λ o. branch (the word.To) (λ x. refs_at)) (λ o. behind_syntax d word.To (refs_syntax d)) (λ o g. behind_law d word.To (refs_syntax d) low (refs_law d top low))
-      (λ o y text rest g g' m. behind_next d word.To (refs_syntax d) (takes_opnd o) refl y text rest m)) (λ x g. refl)) (move_view d)
+module _ (room d top : ℕ) (e : top ≡ suc (d + room)) where
+  low : d < top
+  low = omega (arith, e)
+
+  move_law : Law procedure (move_at room) (behind_word_syntax start.Move d) top
+  move_law = seen_law (law_across (apart_law (law_of_operands room d top e) opnd_one (λ o. branch (the word.To) (λ x. refs_at room)) (λ o. behind_syntax d word.To (refs_syntax d)) (λ o g. behind_law d word.To (refs_syntax d) low (refs_law room d top e))
+      (λ o y text rest g g' m. behind_next d word.To (refs_syntax d) (takes_opnd o) refl y text rest m)) (λ x g. refs_never Loops refl refl refl x.1.1)) (move_view d)
 
   set_law : Law procedure set_at (behind_word_syntax start.Set d) top
   set_law = seen_law (law_across (seq_law (name_law d top low) (λ x p g. refl) (seq_law (lead_law (the_word word.To d) top (λ x a. low) tt tt) (λ x p g. refl) (lead_law (the_word word.True d) top (λ x a. low) tt tt))) (λ x g. refl)) (set_view d)
 
-  written_law : Law grammar written_at (written_syntax d) top
-  written_law = phrase_law (ref_law d top low) (opnd_law d top low) (word_opening Froms word.From (own_cue_tells word.From) d) (low, tt) Froms (λ x p g h. ap takes_ref (only Froms p h))
+  written_law : Law grammar (written_at room) (written_syntax d) top
+  written_law = phrase_law (law_of_references room d top e) (law_of_operands room d top e) (word_opening Froms word.From (own_cue_tells word.From) d) (low, tt) Froms (λ x p g h. ap (takes_ref x) (only Froms p h))
 
-  write_law : Law procedure write_at (behind_word_syntax start.Write d) top
+  write_law : Law procedure (write_at room) (behind_word_syntax start.Write d) top
   write_law = seen_law (law_across (tail_law written_law EndWrite (λ x p g h. ap ((written_syntax d).takes x) (only EndWrite p h)) (λ x. maybe_tail (the_word word.EndWrite d) top (λ y a. low) tt tt (is EndWrite) (told_stands EndWrite word.EndWrite (own_cue_tells word.EndWrite)))) (λ x g. write_never d x)) (write_view d)
 
-  evaluate_law : Law procedure evaluate_at (behind_word_syntax start.Evaluate d) top
-  evaluate_law = seen_law (law_across (choose_law (lead_law (the_word word.True d) top (λ x a. low) tt tt) (ref_law d top low) (tells_by_one (λ t y z. refl) first second_)) (λ x g. subject_never d x)) (evaluate_view d)
+  evaluate_law : Law procedure (evaluate_at room) (behind_word_syntax start.Evaluate d) top
+  evaluate_law = seen_law (law_across (choose_law (lead_law (the_word word.True d) top (λ x a. low) tt tt) (law_of_references room d top e) (tells_by_one (λ t y z. refl) first second_)) (λ x g. subject_never d x)) (evaluate_view d)
     where
       first : (x : Unit {0}) (text rest : List Sign) → Always x → Matches grammar (item d (Key key.True) ∷ []) text → stands (the word.True) (text ++ rest) ≡ true
       first x [] rest g m = absurd m
@@ -445,11 +448,11 @@ module _ (d top : ℕ) (low : d < top) (room : ℕ) (e : top ≡ suc (d + room))
       second_ r [] rest g m = absurd m
       second_ r (t ∷ text) rest g m = ap (λ (y : Symbol). is_some (word_symbol (the_key word.True) y)) m.0.symbol
 
-  read_law : Law procedure read_at (behind_word_syntax start.Read d) top
-  read_law = seen_law (law_across (phrase_law (name_law d top low) (ref_law d top low) (word_opening Intos word.Into (own_cue_tells word.Into) d) (low, tt) Intos (λ x p g h. refl)) (λ x g. read_never d x)) (read_view d)
+  read_law : Law procedure (read_at room) (behind_word_syntax start.Read d) top
+  read_law = seen_law (law_across (phrase_law (name_law d top low) (law_of_references room d top e) (word_opening Intos word.Into (own_cue_tells word.Into) d) (low, tt) Intos (λ x p g h. refl)) (λ x g. read_never d x)) (read_view d)
 
   if_law : Law procedure (if_at room) (behind_word_syntax start.If d) top
-  if_law = seen_law (law_across conditions (λ c g. cond_never Loops refl refl refl refl refl refl c)) (if_view d (some_tree conditions).0)
+  if_law = seen_law (law_across conditions (λ c g. cond_never Loops refl refl refl refl refl refl refl c)) (if_view d (some_tree conditions).0)
     where
       conditions : Law grammar (cond_at room) (cond_syntax d) top
       conditions = law_of_conditions room d top e
@@ -457,15 +460,15 @@ module _ (d top : ℕ) (low : d < top) (room : ℕ) (e : top ≡ suc (d + room))
   behind_head_law : (s : Start) → Law procedure (behind_at room s) (behind_word_syntax s d) top
   behind_head_law start.Move = move_law
   behind_head_law start.Set = set_law
-  behind_head_law start.Display = seen_law (law_across (opnds_law d top low) (λ os g. opnds_never Loops refl refl os)) (display_view d)
-  behind_head_law start.Add = seen_law (law_across (add_law d top low) (λ a g. arithmetic_never a)) (sum_view start.Add tt d)
-  behind_head_law start.Subtract = seen_law (law_across (subtract_law d top low) (λ a g. arithmetic_never a)) (sum_view start.Subtract tt d)
-  behind_head_law start.Multiply = seen_law (law_across (multiply_law d top low) (λ a g. arithmetic_never a)) (sum_view start.Multiply tt d)
-  behind_head_law start.Divide = seen_law (law_across (divide_law d top low) (λ a g. arithmetic_never a)) (sum_view start.Divide tt d)
-  behind_head_law start.Compute = seen_law (law_across (compute_law d top low room e) (λ a g. arithmetic_never a)) (sum_view start.Compute tt d)
+  behind_head_law start.Display = seen_law (law_across (opnds_law room d top e) (λ os g. opnds_never Loops refl refl refl os)) (display_view d)
+  behind_head_law start.Add = seen_law (law_across (add_law room d top e) (λ a g. arithmetic_never a)) (sum_view start.Add tt d)
+  behind_head_law start.Subtract = seen_law (law_across (subtract_law room d top e) (λ a g. arithmetic_never a)) (sum_view start.Subtract tt d)
+  behind_head_law start.Multiply = seen_law (law_across (multiply_law room d top e) (λ a g. arithmetic_never a)) (sum_view start.Multiply tt d)
+  behind_head_law start.Divide = seen_law (law_across (divide_law room d top e) (λ a g. arithmetic_never a)) (sum_view start.Divide tt d)
+  behind_head_law start.Compute = seen_law (law_across (compute_law room d top e) (λ a g. arithmetic_never a)) (sum_view start.Compute tt d)
   behind_head_law start.If = if_law
   behind_head_law start.Evaluate = evaluate_law
-  behind_head_law start.Perform = perform_law d top low room e
+  behind_head_law start.Perform = perform_law room d top e
   behind_head_law start.Go = seen_law (law_across (name_law d top low) (λ x g. refl)) (go_view d)
   behind_head_law start.Exit = seen_law (nothing_law procedure top) (exit_view d)
   behind_head_law start.Continue = seen_law (nothing_law procedure top) (continue_view d)
@@ -476,7 +479,7 @@ module _ (d top : ℕ) (low : d < top) (room : ℕ) (e : top ≡ suc (d + room))
   behind_head_law start.Write = write_law
 
 pub law_of_heads : (room d top : ℕ) → top ≡ suc (d + room) → Law procedure (head_at room) (head_syntax d) top
-law_of_heads room d top e = same_trees (branch_law (class_across (begins_ d)) top (λ b a. low) (record { line = 0; start = start.Exit }) tt (λ b. behind_at room b.start) (λ b. behind_word_syntax b.start d) (λ b a. behind_head_law d top low room e b.start))
+law_of_heads room d top e = same_trees (branch_law (class_across (begins_ d)) top (λ b a. low) (record { line = 0; start = start.Exit }) tt (λ b. behind_at room b.start) (λ b. behind_word_syntax b.start d) (λ b a. behind_head_law room d top e b.start))
     (record { back = λ x g. refl; print = λ x g. refl; takes = λ x p g. refl; good = λ x g. g.1; good_back = λ x g. (tt, g) })
   where
     low : d < top

@@ -19,7 +19,7 @@ use Rattle.cob_tree.specs.PrintFront.{print_if}
 use Rattle.cob_tree.specs.PrintStmt.{print_opnds, print_recvs, print_refs, print_names, print_opens, print_sel, print_choice, print_test_point, print_varying, print_loop, print_name_only}
 use Rattle.reading.specs.Law.{Deepens}
 use Rattle.cob_parse_expr.proofs.OneAnswer.{Leveled, leveled_join}
-use Rattle.cob_parse_expr.proofs.Levels.{expr_level, cond_level}
+use Rattle.cob_parse_expr.proofs.Levels.{ref_level, opnd_level, expr_level, cond_level}
 use Rattle.cob_parse_verb.specs.declared.word.Start.{Start}
 use Rattle.cob_parse_verb.specs.declared.word.Begin.{Begin}
 use Rattle.cob_parse_verb.specs.Procedure.{procedure}
@@ -41,38 +41,21 @@ module _ (d : ℕ) where
   each_level print l [] = refl
   each_level print l (x ∷ xs) = join (print x) (each print xs) (l x) (each_level print l xs)
 
-  qualifiers_level : (of : List (List ℕ)) → Leveled d (each (print_qualifier d) of) d
-  qualifiers_level [] = refl
-  qualifiers_level (x ∷ xs) = (refl, (refl, qualifiers_level xs))
-
-  ref_level : (r : Ref) → Leveled d (print_ref d r) d
-  ref_level r = (refl, qualifiers_level r.of)
-
-  opnd_level : (o : Opnd) → Leveled d (print_opnd d o) d
-  opnd_level (opnd.Ref r) = ref_level r
-  opnd_level (opnd.Const (const.Number n)) = (refl, refl)
-  opnd_level (opnd.Const (const.Text text)) = (refl, refl)
-  opnd_level (opnd.Const const.Zero) = (refl, refl)
-  opnd_level (opnd.Const const.Space) = (refl, refl)
-  opnd_level (opnd.Const const.Quote) = (refl, refl)
-  opnd_level (opnd.Const const.HighValue) = (refl, refl)
-  opnd_level (opnd.Const const.LowValue) = (refl, refl)
-
   if_level : (b : Bool) → Leveled d (word_if d b key.Rounded) d
   if_level true = (refl, refl)
   if_level false = refl
 
   recv_level : (r : Recv) → Leveled d (print_recv d r) d
-  recv_level r = join (print_ref d r.item) (word_if d r.rounded key.Rounded) (ref_level r.item) (if_level r.rounded)
+  recv_level r = join (print_ref d r.item) (word_if d r.rounded key.Rounded) (ref_level d r.item) (if_level r.rounded)
 
   opnds_level : (os : List Opnd) → Leveled d (print_opnds d os) d
-  opnds_level = each_level (print_opnd d) opnd_level
+  opnds_level = each_level (print_opnd d) (opnd_level d)
 
   recvs_level : (rs : List Recv) → Leveled d (print_recvs d rs) d
   recvs_level = each_level (print_recv d) recv_level
 
   refs_level : (rs : List Ref) → Leveled d (print_refs d rs) d
-  refs_level = each_level (print_ref d) ref_level
+  refs_level = each_level (print_ref d) (ref_level d)
 
   names_level : (xs : List (List ℕ)) → Leveled d (print_names d xs) d
   names_level [] = refl
@@ -84,7 +67,7 @@ module _ (d : ℕ) where
   -- ---- loops and selections
 
   varying_level : (v : Varying) → Leveled d (print_varying d v) d
-  varying_level v = join (print_ref d v.item) _ (ref_level v.item) (refl, join (print_opnd d v.from) _ (opnd_level v.from) (refl, opnd_level v.by))
+  varying_level v = join (print_ref d v.item) _ (ref_level d v.item) (refl, join (print_opnd d v.from) _ (opnd_level d v.from) (refl, opnd_level d v.by))
 
   until_level : (test : Option TestPoint) (varying : Option Varying) (is : List Item) → Leveled d is d → Leveled d (behind d (key.Test ∷ []) (print_test_point d) test ++ (behind d (key.Varying ∷ []) (print_varying d) varying ++ is)) d
   until_level test varying is l = join (behind d (key.Test ∷ []) (print_test_point d) test) _ (first test) (join (behind d (key.Varying ∷ []) (print_varying d) varying) is (second varying) l)
@@ -98,7 +81,7 @@ module _ (d : ℕ) where
       second (Some v) = (refl, varying_level v)
 
   loop_level : (l : Loop) → Leveled d (print_loop d l) d
-  loop_level (times o) = join (print_opnd d o) _ (opnd_level o) (refl, refl)
+  loop_level (times o) = join (print_opnd d o) _ (opnd_level d o) (refl, refl)
   loop_level (until test varying c) = until_level test varying (items.key d key.Until ∷ print_cond d c) (refl, cond_level d c)
 
   maybe_loop : (o : Option Loop) → Leveled d (print_if (print_loop d) o) d
@@ -117,19 +100,19 @@ module _ (d : ℕ) where
 
   to_level : (o : Option Opnd) → Leveled d (behind d (key.To ∷ []) (print_opnd d) o) d
   to_level None = refl
-  to_level (Some o) = (refl, opnd_level o)
+  to_level (Some o) = (refl, opnd_level d o)
 
   from_level : (o : Option Opnd) → Leveled d (behind d (key.From ∷ []) (print_opnd d) o) d
   from_level None = refl
-  from_level (Some o) = (refl, opnd_level o)
+  from_level (Some o) = (refl, opnd_level d o)
 
   remainder_level : (o : Option Ref) → Leveled d (behind d (key.Remainder ∷ []) (print_ref d) o) d
   remainder_level None = refl
-  remainder_level (Some r) = (refl, ref_level r)
+  remainder_level (Some r) = (refl, ref_level d r)
 
   into_level : (o : Option Ref) → Leveled d (behind d (key.Into ∷ []) (print_ref d) o) d
   into_level None = refl
-  into_level (Some r) = (refl, ref_level r)
+  into_level (Some r) = (refl, ref_level d r)
 
   thru_level : (o : Option (List ℕ)) → Leveled d (behind d (key.Thru ∷ []) (print_name_only d) o) d
   thru_level None = refl
@@ -143,15 +126,15 @@ module _ (d : ℕ) where
   arithmetic_level (add_to os rs) = join (print_opnds d os) _ (opnds_level os) (refl, recvs_level rs)
   arithmetic_level (add_giving os o rs) = join (print_opnds d os) _ (opnds_level os) (join (behind d (key.To ∷ []) (print_opnd d) o) _ (to_level o) (refl, recvs_level rs))
   arithmetic_level (subtract_from os rs) = join (print_opnds d os) _ (opnds_level os) (refl, recvs_level rs)
-  arithmetic_level (subtract_giving os o rs) = join (print_opnds d os) _ (opnds_level os) (refl, join (print_opnd d o) _ (opnd_level o) (refl, recvs_level rs))
-  arithmetic_level (multiply_by o rs) = join (print_opnd d o) _ (opnd_level o) (refl, recvs_level rs)
-  arithmetic_level (multiply_giving o p rs) = join (print_opnd d o) _ (opnd_level o) (refl, join (print_opnd d p) _ (opnd_level p) (refl, recvs_level rs))
-  arithmetic_level (divide_into o rs) = join (print_opnd d o) _ (opnd_level o) (refl, recvs_level rs)
-  arithmetic_level (divide_giving o way p rs r) = join (print_opnd d o) _ (opnd_level o) (refl, join (print_opnd d p) _ (opnd_level p) (refl, join (print_recvs d rs) _ (recvs_level rs) (remainder_level r)))
+  arithmetic_level (subtract_giving os o rs) = join (print_opnds d os) _ (opnds_level os) (refl, join (print_opnd d o) _ (opnd_level d o) (refl, recvs_level rs))
+  arithmetic_level (multiply_by o rs) = join (print_opnd d o) _ (opnd_level d o) (refl, recvs_level rs)
+  arithmetic_level (multiply_giving o p rs) = join (print_opnd d o) _ (opnd_level d o) (refl, join (print_opnd d p) _ (opnd_level d p) (refl, recvs_level rs))
+  arithmetic_level (divide_into o rs) = join (print_opnd d o) _ (opnd_level d o) (refl, recvs_level rs)
+  arithmetic_level (divide_giving o way p rs r) = join (print_opnd d o) _ (opnd_level d o) (refl, join (print_opnd d p) _ (opnd_level d p) (refl, join (print_recvs d rs) _ (recvs_level rs) (remainder_level r)))
   arithmetic_level (compute rs e) = join (print_recvs d rs) _ (recvs_level rs) (refl, expr_level d e)
 
   verb_level : (v : Verb) (s : Start) → verb_start v ≡ Some s → Leveled d (print_behind d (done v)) d
-  verb_level (move o rs) s e = join (print_opnd d o) _ (opnd_level o) (refl, refs_level rs)
+  verb_level (move o rs) s e = join (print_opnd d o) _ (opnd_level d o) (refl, refs_level rs)
   verb_level (set text) s e = (refl, (refl, (refl, refl)))
   verb_level (display os) s e = opnds_level os
   verb_level (perform_range text thru l) s e = (refl, join (behind d (key.Thru ∷ []) (print_name_only d) thru) _ (thru_level thru) (maybe_loop l))
@@ -161,12 +144,12 @@ module _ (d : ℕ) where
   verb_level stop_run s e = (refl, refl)
   verb_level (open_ files) s e = each_level (print_opens d) opens_level files
   verb_level (close names) s e = names_level names
-  verb_level (write r o ended) s e = join (print_ref d r) _ (ref_level r) (join (behind d (key.From ∷ []) (print_opnd d) o) _ (from_level o) (end_level ended))
+  verb_level (write r o ended) s e = join (print_ref d r) _ (ref_level d r) (join (behind d (key.From ∷ []) (print_opnd d) o) _ (from_level o) (end_level ended))
   verb_level _ s e = absurd cc
 
   subject_level : (s : Subject) → Leveled d (print_behind d (evaluate_head s)) d
   subject_level subject.True = (refl, refl)
-  subject_level (subject.Ref r) = ref_level r
+  subject_level (subject.Ref r) = ref_level d r
 
   behind_level : (h : Head) (s : Start) → HasStart h s → Leveled d (print_behind d h) d
   behind_level (done v) s e = verb_level v s e

@@ -1,6 +1,6 @@
 -- The laws of lists of one or more, and of their parts.
 use Rattle.std.specs.List.{AllByRecursion}
-use Rattle.std.proofs.Common.{◌≡◌, ℕ, ◌<◌, ◌||◌, ◌==◌, if◌then◌else◌, Bool, true, false, List, [], ◌∷◌, ◌++◌, Option, Some, None, is_some, Result, Ok, Err, refl, sym, ap, subst, ◌∙◌}
+use Rattle.std.proofs.Common.{◌≡◌, ℕ, suc, ◌+◌, ◌<◌, ◌||◌, ◌==◌, if◌then◌else◌, Bool, true, false, List, [], ◌∷◌, ◌++◌, Option, Some, None, is_some, Result, Ok, Err, refl, sym, ap, subst, ◌∙◌, arith}
 use Rattle.cob_tree.specs.declared.keyword.Keyword.{Keyword}
 use Rattle.cob_tree.specs.declared.keyword.Keyword.TheVariants as key
 use Rattle.cob_tree.specs.declared.operand.Const.{Const}
@@ -13,15 +13,15 @@ use Rattle.cob_tree.specs.declared.stmt.Mode.TheVariants as mode
 use Rattle.cob_tree.specs.declared.stmt.OpenPhrase.{OpenPhrase}
 use Rattle.cob_tree.specs.Symbols.{Symbol, Key, Name, Number, Text, Mark, Relation, Pic, Stop, Sign}
 use Rattle.cob_tree.specs.Items.{Item, item, name, each}
-use Rattle.cob_tree.specs.Cues.{Cue, is, key_cue, Qualifies, Rounds, Names, Constants, Zeros, Signs, Scales, Modes}
+use Rattle.cob_tree.specs.Cues.{Cue, is, key_cue, Qualifies, Subscripts, Rounds, Names, Constants, Zeros, Signs, Scales, Modes}
 use Rattle.cob_tree.specs.PrintExpr.{const_symbol, print_recv}
 use Rattle.cob_tree.specs.PrintStmt.{print_opnds, print_recvs, print_refs, print_names, print_opens}
-use Rattle.cob_tree.specs.Takes.{takes_ref, takes_opnd, takes_recv, begins_opnd, takes_opnds, takes_refs, takes_recvs}
+use Rattle.cob_tree.specs.Takes.{takes_ref, takes_opnd, takes_rounded, takes_recv, begins_opnd, takes_opnds, takes_refs, takes_recvs}
 use Rattle.cob_tree.specs.Shaped.{IsNotEmpty}
 use Rattle.reading.specs.Readers.{Fault, ◌>>=◌, Reader, lead}
 use Rattle.reading.specs.Printing.{Alphabet, on_mark, peek_on}
 use Rattle.reading.specs.Law.{Syntax, Law, onward}
-use Rattle.reading.proofs.Texts.{Always}
+use Rattle.reading.proofs.Texts.{Always, or_false}
 use Rattle.reading.proofs.Consequences.{some_tree}
 use Rattle.reading.proofs.Turns.{law_along}
 use Rattle.reading.proofs.Lead.{lead_syntax, lead_law, branch_law}
@@ -38,7 +38,8 @@ use Rattle.cob_parse_expr.specs.Classes.{name_of}
 use Rattle.cob_parse_expr.specs.Reading.{here, ref_at, opnd_at}
 use Rattle.cob_parse_expr.proofs.CueLemmas.{only, not_cues, not_taken}
 use Rattle.cob_parse_expr.proofs.ClassLaws.{names, told}
-use Rattle.cob_parse_expr.proofs.OperandLaws.{ref_syntax, ref_law, opnd_syntax, opnd_law}
+use Rattle.cob_parse_expr.proofs.OperandLaws.{ref_syntax, law_of_references, opnd_syntax, law_of_operands}
+use Rattle.cob_parse_expr.proofs.ExprLaws.{ref_never}
 use Rattle.cob_parse_verb.specs.Words as word
 use Rattle.cob_parse_verb.specs.Words.{mode_key, mode_of}
 use Rattle.cob_parse_verb.specs.Listed.{takes_listed}
@@ -124,17 +125,18 @@ name_told t ts = go t.symbol
         behind_not (u ∷ us) = not_cues (is Names) refl refl refl refl u.symbol
     at_key _ = refl
 
-    at_mark : (a b : Bool) → on_mark grammar (is Names) (if a then Some Signs else if b then Some Scales else None) ≡ false
-    at_mark true b = refl
-    at_mark false true = refl
-    at_mark false false = refl
+    at_mark : (a b c : Bool) → on_mark grammar (is Names) (if a then Some Signs else if b then Some Scales else if c then Some Subscripts else None) ≡ false
+    at_mark true b c = refl
+    at_mark false true c = refl
+    at_mark false false true = refl
+    at_mark false false false = refl
 
     go : (y : Symbol) → on_mark grammar (is Names) (peek_on grammar (symbol_front y) ts) ≡ is_some (name_symbol y)
     go (Key k) = at_key k
     go (Name text) = refl
     go (Number n) = refl
     go (Text text) = refl
-    go (Mark ch) = at_mark (ch == 43 || ch == 45) (ch == 42 || ch == 47)
+    go (Mark ch) = at_mark (ch == 43 || ch == 45) (ch == 42 || ch == 47) (ch == 40)
     go (Relation r) = refl
     go (Pic text) = refl
     go Stop = refl
@@ -146,13 +148,13 @@ abbrev pub names_syntax : ℕ → Syntax Item Cue (List (List ℕ))
 names_syntax d = record { Good = IsNotEmpty; print = print_names d; takes = λ xs. is Names }
 
 abbrev pub refs_syntax : ℕ → Syntax Item Cue (List Ref)
-refs_syntax d = record { Good = IsNotEmpty; print = print_refs d; takes = λ xs. takes_refs }
+refs_syntax d = record { Good = IsNotEmpty; print = print_refs d; takes = takes_refs }
 
 abbrev pub opnds_syntax : ℕ → Syntax Item Cue (List Opnd)
 opnds_syntax d = record { Good = IsNotEmpty; print = print_opnds d; takes = takes_opnds }
 
 abbrev pub recv_syntax : ℕ → Syntax Item Cue Recv
-recv_syntax d = record { Good = Always; print = print_recv d; takes = λ r. takes_recv r.rounded }
+recv_syntax d = record { Good = Always; print = print_recv d; takes = takes_recv }
 
 abbrev pub recvs_syntax : ℕ → Syntax Item Cue (List Recv)
 recvs_syntax d = record { Good = IsNotEmpty; print = print_recvs d; takes = takes_recvs }
@@ -180,25 +182,31 @@ opnd_begins d (opnd.Const c) (t ∷ text) rest good spells = ap (λ (y : Symbol)
     constant const.HighValue = refl
     constant const.LowValue = refl
 
-pub opnd_never : (c : Cue) → is Qualifies c ≡ false → (o : Opnd) → takes_opnd o c ≡ false
-opnd_never c q (opnd.Ref r) = q
-opnd_never c q (opnd.Const k) = refl
+pub opnd_never : (c : Cue) → is Qualifies c ≡ false → is Subscripts c ≡ false → (o : Opnd) → takes_opnd o c ≡ false
+opnd_never c q s (opnd.Ref r) = ref_never c q s r
+opnd_never c q s (opnd.Const k) = refl
+
+-- a list of references goes on as its last one does, or with another
+pub refs_never : (c : Cue) → is Qualifies c ≡ false → is Subscripts c ≡ false → is Names c ≡ false → (rs : List Ref) → takes_refs rs c ≡ false
+refs_never c q s n [] = n
+refs_never c q s n (r ∷ []) = or_false (takes_ref r c) (is Names c) (ref_never c q s r) n
+refs_never c q s n (r ∷ x ∷ rs) = refs_never c q s n (x ∷ rs)
 
 abbrev Holds : Bool → Type 0
 Holds true = Unit {0}
 Holds false = ⊥
 
-opnd_cues : (p : Cue) → begins_opnd p ≡ true → is Qualifies p ≡ false
+opnd_cues : (p : Cue) → begins_opnd p ≡ true → (is Qualifies p ≡ false) × (is Subscripts p ≡ false)
 opnd_cues p e = go p (subst Holds (sym e) tt)
   where
-    go : (c : Cue) → Holds (begins_opnd c) → is Qualifies c ≡ false
-    go Names a = refl
-    go Constants a = refl
-    go Zeros a = refl
+    go : (c : Cue) → Holds (begins_opnd c) → (is Qualifies c ≡ false) × (is Subscripts c ≡ false)
+    go Names a = (refl, refl)
+    go Constants a = (refl, refl)
+    go Zeros a = (refl, refl)
     go _ a = absurd a
 
 mode_told : (t : Sign) (ts : List Sign) → here Modes (t ∷ ts) ≡ is_some (mode_of t)
-mode_told = told Modes mode_key same refl refl refl refl refl refl refl refl refl refl
+mode_told = told Modes mode_key same refl refl refl refl refl refl refl refl refl refl refl
   where
     same : (k : Keyword) → on_mark grammar (is Modes) (key_cue k) ≡ is_some (mode_key k)
     same key.Input = refl
@@ -234,80 +242,6 @@ module _ (d top : ℕ) (low : d < top) where
       takes x [] p = refl
       takes x (y ∷ xs) p = takes y xs p
 
-  ref_starts : Starts grammar (is Names) ref_at (ref_syntax d)
-  ref_starts = starts_by_one grammar (is Names) begin (not_taken (is Names) refl refl refl refl)
-    where
-      begin : Begins grammar (is Names) (ref_syntax d)
-      begin x [] rest good spells = absurd spells
-      begin x (t ∷ text) rest good spells = name_told t (text ++ rest) ∙ ap (λ (y : Symbol). is_some (name_symbol y)) spells.0.symbol
-
-  pub refs_law : Law grammar refs_at (refs_syntax d) top
-  refs_law = same_trees (some_law (ref_law d top low) (is Names) Names (λ x p g e. ap takes_ref (only Names p e)) (λ x g. refl) ref_starts)
-      (listed_view (is Names) (ref_syntax d) (refs_syntax d) (λ xs. refl) takes (λ xs n g. n) (λ xs g. (g, all_always xs)))
-    where
-      takes : (x : Ref) (xs : List Ref) (p : Cue) → takes_refs p ≡ takes_listed (ref_syntax d).takes (is Names) (x ∷ xs) p
-      takes x [] p = refl
-      takes x (y ∷ xs) p = takes y xs p
-
-  pub opnd_starts : Starts grammar begins_opnd opnd_at (opnd_syntax d)
-  opnd_starts = starts_by_one grammar begins_opnd (opnd_begins d) (not_taken begins_opnd refl refl refl refl)
-
-  pub opnds_law : Law grammar opnds_at (opnds_syntax d) top
-  opnds_law = same_trees (some_law (opnd_law d top low) begins_opnd Names (λ x p g e. opnd_never p (opnd_cues p e) x ∙ sym (opnd_never Names refl x)) (λ x g. opnd_never Names refl x) opnd_starts)
-      (listed_view begins_opnd (opnd_syntax d) (opnds_syntax d) (λ xs. refl) takes (λ xs n g. n) (λ xs g. (g, all_always xs)))
-    where
-      takes : (x : Opnd) (xs : List Opnd) (p : Cue) → takes_opnds (x ∷ xs) p ≡ takes_listed takes_opnd begins_opnd (x ∷ xs) p
-      takes x [] p = refl
-      takes x (y ∷ xs) p = takes y xs p
-
-  pub recv_law : Law grammar recv_at (recv_syntax d) top
-  recv_law = seen_law (tail_law (ref_law d top low) Rounds (λ x p g e. ap takes_ref (only Rounds p e)) (λ x. maybe_tail (the_word word.Rounded d) top (λ y a. low) tt tt (is Rounds) (told_stands Rounds word.Rounded (own_cue_tells word.Rounded))))
-      (record { back = back; print = print; takes = takes; good = λ x g. tt; good_back = good_back })
-    where
-      back : (r : Recv) → Always r → make_recv (recv_parts r) ≡ r
-      back r g = go r.item r.rounded
-        where
-          go : (i : Ref) (c : Bool) → make_recv (i, tag_if c) ≡ record { item = i; rounded = c }
-          go i true = refl
-          go i false = refl
-
-      print : (x : Ref × Option (Unit {0})) → (recv_raw d).Good x → print_recv d (make_recv x) ≡ (recv_raw d).print x
-      print (r, None) g = refl
-      print (r, Some y) g = refl
-
-      takes : (x : Ref × Option (Unit {0})) (p : Cue) → (recv_raw d).Good x → takes_recv (is_some x.1) p ≡ (recv_raw d).takes x p
-      takes (r, None) p g = refl
-      takes (r, Some y) p g = refl
-
-      good_back : (r : Recv) → Always r → (recv_raw d).Good (recv_parts r)
-      good_back r g = go r.rounded
-        where
-          go : (c : Bool) → (recv_raw d).Good (r.item, tag_if c)
-          go true = (tt, tt, refl)
-          go false = (tt, tt, tt)
-
-  pub recvs_law : Law grammar recvs_at (recvs_syntax d) top
-  recvs_law = same_trees (some_law recv_law (is Names) Names (λ x p g e. ap (takes_recv x.rounded) (only Names p e)) free starts)
-      (listed_view (is Names) (recv_syntax d) (recvs_syntax d) (λ xs. refl) takes (λ xs n g. n) (λ xs g. (g, all_always xs)))
-    where
-      free : (r : Recv) → Always r → takes_recv r.rounded Names ≡ false
-      free r g = go r.rounded
-        where
-          go : (c : Bool) → takes_recv c Names ≡ false
-          go true = refl
-          go false = refl
-
-      starts : Starts grammar (is Names) recv_at (recv_syntax d)
-      starts = starts_by_one grammar (is Names) begin (not_taken (is Names) refl refl refl refl)
-        where
-          begin : Begins grammar (is Names) (recv_syntax d)
-          begin x [] rest good spells = absurd spells
-          begin x (t ∷ text) rest good spells = name_told t (text ++ rest) ∙ ap (λ (y : Symbol). is_some (name_symbol y)) spells.0.symbol
-
-      takes : (x : Recv) (xs : List Recv) (p : Cue) → takes_recvs (x ∷ xs) p ≡ takes_listed (recv_syntax d).takes (is Names) (x ∷ xs) p
-      takes x [] p = refl
-      takes x (y ∷ xs) p = takes y xs p
-
   pub opens_law : Law grammar opens_at (opens_syntax d) top
   opens_law = seen_law (branch_law (modes d) top (λ x a. low) mode.Input tt (λ m. names_at) (λ m. names_syntax d) (λ m a. names_law))
       (record { back = λ o g. refl; print = λ x g. refl; takes = λ x p g. refl; good = λ x g. g.1; good_back = λ o g. (tt, g) })
@@ -321,5 +255,83 @@ module _ (d top : ℕ) (low : d < top) where
       begin x (t ∷ text) rest good spells = mode_told t (text ++ rest) ∙ ap is_some ((modes d).reads x.mode t tt spells.0)
 
       takes : (x : OpenPhrase) (xs : List OpenPhrase) (p : Cue) → (is Names p || is Modes p) ≡ takes_listed (opens_syntax d).takes (is Modes) (x ∷ xs) p
+      takes x [] p = refl
+      takes x (y ∷ xs) p = takes y xs p
+
+module _ (room d top : ℕ) (e : top ≡ suc (d + room)) where
+  low : d < top
+  low = omega (arith, e)
+
+  ref_starts : Starts grammar (is Names) (ref_at room) (ref_syntax d)
+  ref_starts = starts_by_one grammar (is Names) begin (not_taken (is Names) refl refl refl refl)
+    where
+      begin : Begins grammar (is Names) (ref_syntax d)
+      begin x [] rest good spells = absurd spells
+      begin x (t ∷ text) rest good spells = name_told t (text ++ rest) ∙ ap (λ (y : Symbol). is_some (name_symbol y)) spells.0.symbol
+
+  pub refs_law : Law grammar (refs_at room) (refs_syntax d) top
+  refs_law = same_trees (some_law (law_of_references room d top e) (is Names) Names (λ x p g h. ap (takes_ref x) (only Names p h)) (λ x g. ref_never Names refl refl x) ref_starts)
+      (listed_view (is Names) (ref_syntax d) (refs_syntax d) (λ xs. refl) takes (λ xs n g. n) (λ xs g. (g, all_always xs)))
+    where
+      takes : (x : Ref) (xs : List Ref) (p : Cue) → takes_refs (x ∷ xs) p ≡ takes_listed (ref_syntax d).takes (is Names) (x ∷ xs) p
+      takes x [] p = refl
+      takes x (y ∷ xs) p = takes y xs p
+
+  pub opnd_starts : Starts grammar begins_opnd (opnd_at room) (opnd_syntax d)
+  opnd_starts = starts_by_one grammar begins_opnd (opnd_begins d) (not_taken begins_opnd refl refl refl refl)
+
+  pub opnds_law : Law grammar (opnds_at room) (opnds_syntax d) top
+  opnds_law = same_trees (some_law (law_of_operands room d top e) begins_opnd Names (λ x p g h. opnd_never p (opnd_cues p h).0 (opnd_cues p h).1 x ∙ sym (opnd_never Names refl refl x)) (λ x g. opnd_never Names refl refl x) opnd_starts)
+      (listed_view begins_opnd (opnd_syntax d) (opnds_syntax d) (λ xs. refl) takes (λ xs n g. n) (λ xs g. (g, all_always xs)))
+    where
+      takes : (x : Opnd) (xs : List Opnd) (p : Cue) → takes_opnds (x ∷ xs) p ≡ takes_listed takes_opnd begins_opnd (x ∷ xs) p
+      takes x [] p = refl
+      takes x (y ∷ xs) p = takes y xs p
+
+  pub recv_law : Law grammar (recv_at room) (recv_syntax d) top
+  recv_law = seen_law (tail_law (law_of_references room d top e) Rounds (λ x p g h. ap (takes_ref x) (only Rounds p h)) (λ x. maybe_tail (the_word word.Rounded d) top (λ y a. low) tt tt (is Rounds) (told_stands Rounds word.Rounded (own_cue_tells word.Rounded))))
+      (record { back = back; print = print; takes = takes; good = λ x g. tt; good_back = good_back })
+    where
+      back : (r : Recv) → Always r → make_recv (recv_parts r) ≡ r
+      back r g = go r.item r.rounded
+        where
+          go : (i : Ref) (c : Bool) → make_recv (i, tag_if c) ≡ record { item = i; rounded = c }
+          go i true = refl
+          go i false = refl
+
+      print : (x : Ref × Option (Unit {0})) → (recv_raw d).Good x → print_recv d (make_recv x) ≡ (recv_raw d).print x
+      print (r, None) g = refl
+      print (r, Some y) g = refl
+
+      takes : (x : Ref × Option (Unit {0})) (p : Cue) → (recv_raw d).Good x → takes_recv (make_recv x) p ≡ (recv_raw d).takes x p
+      takes (r, None) p g = refl
+      takes (r, Some y) p g = refl
+
+      good_back : (r : Recv) → Always r → (recv_raw d).Good (recv_parts r)
+      good_back r g = go r.rounded
+        where
+          go : (c : Bool) → (recv_raw d).Good (r.item, tag_if c)
+          go true = (tt, tt, ref_never Rounds refl refl r.item)
+          go false = (tt, tt, tt)
+
+  pub recvs_law : Law grammar (recvs_at room) (recvs_syntax d) top
+  recvs_law = same_trees (some_law recv_law (is Names) Names (λ x p g h. ap (takes_recv x) (only Names p h)) free starts)
+      (listed_view (is Names) (recv_syntax d) (recvs_syntax d) (λ xs. refl) takes (λ xs n g. n) (λ xs g. (g, all_always xs)))
+    where
+      free : (r : Recv) → Always r → takes_recv r Names ≡ false
+      free r g = go r.rounded
+        where
+          go : (c : Bool) → takes_rounded c r.item Names ≡ false
+          go true = refl
+          go false = or_false (takes_ref r.item Names) false (ref_never Names refl refl r.item) refl
+
+      starts : Starts grammar (is Names) (recv_at room) (recv_syntax d)
+      starts = starts_by_one grammar (is Names) begin (not_taken (is Names) refl refl refl refl)
+        where
+          begin : Begins grammar (is Names) (recv_syntax d)
+          begin x [] rest good spells = absurd spells
+          begin x (t ∷ text) rest good spells = name_told t (text ++ rest) ∙ ap (λ (y : Symbol). is_some (name_symbol y)) spells.0.symbol
+
+      takes : (x : Recv) (xs : List Recv) (p : Cue) → takes_recvs (x ∷ xs) p ≡ takes_listed (recv_syntax d).takes (is Names) (x ∷ xs) p
       takes x [] p = refl
       takes x (y ∷ xs) p = takes y xs p

@@ -1,5 +1,5 @@
 -- The laws of loops.
-use Rattle.std.proofs.Common.{◌≡◌, ℕ, suc, ◌+◌, ◌<◌, ◌⊎◌, inl, inr, true, false, List, [], ◌∷◌, ◌++◌, Option, Some, None, refl, ap, ◌∙◌}
+use Rattle.std.proofs.Common.{◌≡◌, ℕ, suc, ◌+◌, ◌<◌, ◌⊎◌, inl, inr, true, false, List, [], ◌∷◌, ◌++◌, Option, Some, None, refl, ap, ◌∙◌, arith}
 use Rattle.cob_tree.specs.declared.keyword.Keyword.TheVariants as key
 use Rattle.cob_tree.specs.declared.operand.Const.TheVariants as const
 use Rattle.cob_tree.specs.declared.operand.Opnd.{Opnd}
@@ -11,7 +11,7 @@ use Rattle.cob_tree.specs.declared.stmt.Varying.{Varying}
 use Rattle.cob_tree.specs.Symbols.{Symbol, Key, Name, Sign}
 use Rattle.cob_tree.specs.Items.{Item, item, behind}
 use Rattle.cob_tree.specs.Items as items
-use Rattle.cob_tree.specs.Cues.{Cue, is, Loops, Qualifies, Scales, Signs, Ands, Ors}
+use Rattle.cob_tree.specs.Cues.{Cue, is, Loops, Froms, NotRelates, NotTests, NotSize, NotAtEnd, Qualifies, Subscripts, Scales, Signs, Ands, Ors}
 use Rattle.cob_tree.specs.Cond.{Cond}
 use Rattle.cob_tree.specs.Stmt.{Loop, times, until}
 use Rattle.cob_tree.specs.PrintExpr.{const_symbol, print_cond}
@@ -36,7 +36,8 @@ use Rattle.cob_parse_expr.specs.Parsing.{cond_syntax}
 use Rattle.cob_parse_expr.specs.Reading.{opnd_at}
 use Rattle.cob_parse_expr.proofs.CueLemmas.{not_taken}
 use Rattle.cob_parse_expr.proofs.Generic.{tells_by_one}
-use Rattle.cob_parse_expr.proofs.OperandLaws.{ref_law, opnd_syntax, opnd_law}
+use Rattle.cob_parse_expr.proofs.OperandLaws.{law_of_references, opnd_syntax, law_of_operands}
+use Rattle.cob_parse_expr.proofs.ExprLaws.{ref_never}
 use Rattle.cob_parse_expr.proofs.CondLaws.{cond_never}
 use Rattle.cob_parse_expr.proofs.ParenLaws.{law_of_conditions}
 use Rattle.cob_parse_verb.specs.Words as word
@@ -225,9 +226,9 @@ pub loop_begins : (d : ℕ) → Begins grammar begins_loop (loop_syntax d)
 loop_begins d l [] rest g m = absurd (loop_some d l m)
 loop_begins d l (t ∷ text) rest g m = ap (λ (y : Symbol). on_mark grammar begins_loop (peek_on grammar (symbol_front y) (text ++ rest))) (loop_first d l t text m) ∙ cue_begins l (text ++ rest)
 
-pub loop_never : (c : Cue) → is Qualifies c ≡ false → is Scales c ≡ false → is Signs c ≡ false → takes_test c ≡ false → is Ands c ≡ false → is Ors c ≡ false → (l : Loop) → takes_loop l c ≡ false
-loop_never c q sc si te an or (times o) = refl
-loop_never c q sc si te an or (until test varying x) = cond_never c q sc si te an or x
+pub loop_never : (c : Cue) → is Qualifies c ≡ false → is Subscripts c ≡ false → is Scales c ≡ false → is Signs c ≡ false → takes_test c ≡ false → is Ands c ≡ false → is Ors c ≡ false → (l : Loop) → takes_loop l c ≡ false
+loop_never c q s sc si te an or (times o) = refl
+loop_never c q s sc si te an or (until test varying x) = cond_never c q s sc si te an or x
 
 -- a loop that isn't TIMES begins with no operand
 pub tested_free : (d : ℕ) (l : Loop) (text rest : List Sign) → GoodTested l → Matches grammar (print_loop d l) text → Next grammar begins_opnd (text ++ rest)
@@ -239,45 +240,47 @@ tested_free d (until None None c) (t ∷ text) rest g m = word_next begins_opnd 
 
 -- ---- the laws
 
-module _ (d top : ℕ) (low : d < top) where
-  ref_one : (r : Ref) → OneToken grammar takes_ref
-  ref_one r = not_taken takes_ref refl refl refl refl
+module _ (room d top : ℕ) (e : top ≡ suc (d + room)) where
+  low : d < top
+  low = omega (arith, e)
 
-  pub times_law : Law grammar times_at (times_syntax d) top
-  times_law = apart_law (opnd_law d top low) opnd_one (λ o. lead (the word.Times)) (λ o. lead_syntax Always (λ x. item d (Key key.Times))) (λ o g. lead_law (the_word word.Times d) top (λ x a. low) tt tt) ends
+  ref_one : (r : Ref) → OneToken grammar (takes_ref r)
+  ref_one r = not_taken (takes_ref r) (ref_never NotRelates refl refl r) (ref_never NotTests refl refl r) (ref_never NotSize refl refl r) (ref_never NotAtEnd refl refl r)
+
+  pub times_law : Law grammar (times_at room) (times_syntax d) top
+  times_law = apart_law (law_of_operands room d top e) opnd_one (λ o. lead (the word.Times)) (λ o. lead_syntax Always (λ x. item d (Key key.Times))) (λ o g. lead_law (the_word word.Times d) top (λ x a. low) tt tt) ends
     where
       ends : (o : Opnd) (y : Unit {0}) (text rest : List Sign) → Always o → Always y → Matches grammar (item d (Key key.Times) ∷ []) text → Next grammar (takes_opnd o) (text ++ rest)
       ends o y [] rest g g' m = absurd m
       ends o y (t ∷ text) rest g g' m = word_next (takes_opnd o) word.Times refl t (text ++ rest) m.0.symbol
 
-  varying_law : Law grammar varying_at (varying_syntax d) top
-  varying_law = seen_law (apart_law (ref_law d top low) ref_one (λ r. branch (the word.From) (λ x. follow opnd_at (λ o. branch (the word.By) (λ y. opnd_at)))) (λ r. behind_syntax d word.From (by_syntax d))
-      (λ r g. behind_law d word.From (by_syntax d) low (apart_law (opnd_law d top low) opnd_one (λ o. branch (the word.By) (λ y. opnd_at)) (λ o. behind_syntax d word.By (opnd_syntax d)) (λ o g'. behind_law d word.By (opnd_syntax d) low (opnd_law d top low))
+  varying_law : Law grammar (varying_at room) (varying_syntax d) top
+  varying_law = seen_law (apart_law (law_of_references room d top e) ref_one (λ r. branch (the word.From) (λ x. follow (opnd_at room) (λ o. branch (the word.By) (λ y. opnd_at room)))) (λ r. behind_syntax d word.From (by_syntax d))
+      (λ r g. behind_law d word.From (by_syntax d) low (apart_law (law_of_operands room d top e) opnd_one (λ o. branch (the word.By) (λ y. opnd_at room)) (λ o. behind_syntax d word.By (opnd_syntax d)) (λ o g'. behind_law d word.By (opnd_syntax d) low (law_of_operands room d top e))
       (λ o y text rest g' g'' m. behind_next d word.By (opnd_syntax d) (takes_opnd o) refl y text rest m)))
-      (λ r y text rest g g' m. behind_next d word.From (by_syntax d) takes_ref refl y text rest m))
+      (λ r y text rest g g' m. behind_next d word.From (by_syntax d) (takes_ref r) (ref_never Froms refl refl r) y text rest m))
       (record { back = λ v g. refl; print = λ x g. refl; takes = λ x p g. refl; good = λ x g. tt; good_back = λ v g. (tt, (tt, (tt, (tt, tt)))) })
 
-  module _ (room : ℕ) (e : top ≡ suc (d + room)) where
-    until_law : Law grammar (until_at room) (until_syntax d) top
-    until_law = behind_law d word.Until (cond_syntax d) low (law_of_conditions room d top e)
+  until_law : Law grammar (until_at room) (until_syntax d) top
+  until_law = behind_law d word.Until (cond_syntax d) low (law_of_conditions room d top e)
 
-    varied_law : Law grammar (varied_at room) (varied_syntax d) top
-    varied_law = seen_law (choose_law (behind_law d word.Varying (varying_until d) low (apart_law varying_law (λ v. opnd_one v.by) (λ v. until_at room) (λ v. until_syntax d) (λ v g. until_law)
-        (λ v y text rest g g' m. behind_next d word.Until (cond_syntax d) (takes_opnd v.by) (opnd_never Loops refl v.by) y text rest m)))
-        until_law (tells_by_one (λ t y z. refl) (λ x text rest g m. behind_stands d word.Varying (varying_until d) word.Varying x text rest m) (λ x text rest g m. behind_stands d word.Until (cond_syntax d) word.Varying x text rest m))) (varied_view d)
+  varied_law : Law grammar (varied_at room) (varied_syntax d) top
+  varied_law = seen_law (choose_law (behind_law d word.Varying (varying_until d) low (apart_law varying_law (λ v. opnd_one v.by) (λ v. until_at room) (λ v. until_syntax d) (λ v g. until_law)
+      (λ v y text rest g g' m. behind_next d word.Until (cond_syntax d) (takes_opnd v.by) (opnd_never Loops refl refl v.by) y text rest m)))
+      until_law (tells_by_one (λ t y z. refl) (λ x text rest g m. behind_stands d word.Varying (varying_until d) word.Varying x text rest m) (λ x text rest g m. behind_stands d word.Until (cond_syntax d) word.Varying x text rest m))) (varied_view d)
 
-    varied_untested : (x : Option Varying × Cond) (text rest : List Sign) → ShapedCond x.1 → Matches grammar ((varied_syntax d).print x) text → stands (the word.Test) (text ++ rest) ≡ false
-    varied_untested (Some v, c) [] rest g m = absurd m
-    varied_untested (None, c) [] rest g m = absurd m
-    varied_untested (Some v, c) (t ∷ text) rest g m = word_is word.Test word.Varying t m.0.symbol
-    varied_untested (None, c) (t ∷ text) rest g m = word_is word.Test word.Until t m.0.symbol
+  varied_untested : (x : Option Varying × Cond) (text rest : List Sign) → ShapedCond x.1 → Matches grammar ((varied_syntax d).print x) text → stands (the word.Test) (text ++ rest) ≡ false
+  varied_untested (Some v, c) [] rest g m = absurd m
+  varied_untested (None, c) [] rest g m = absurd m
+  varied_untested (Some v, c) (t ∷ text) rest g m = word_is word.Test word.Varying t m.0.symbol
+  varied_untested (None, c) (t ∷ text) rest g m = word_is word.Test word.Until t m.0.symbol
 
-    pub tested_law : Law grammar (tested_at room) (tested_syntax d) top
-    tested_law = seen_law (choose_law (behind_law d word.Test (placed d) low (seq_law (lead_law (places d) top (λ x a. low) test_point.Before tt) (λ x p g. refl) varied_law)) varied_law
-        (tells_by_one (λ t y z. refl) (λ x text rest g m. behind_stands d word.Test (placed d) word.Test x text rest m) varied_untested)) (tested_view (some_tree (law_of_conditions room d top e)).0 d)
+  pub tested_law : Law grammar (tested_at room) (tested_syntax d) top
+  tested_law = seen_law (choose_law (behind_law d word.Test (placed d) low (seq_law (lead_law (places d) top (λ x a. low) test_point.Before tt) (λ x p g. refl) varied_law)) varied_law
+      (tells_by_one (λ t y z. refl) (λ x text rest g m. behind_stands d word.Test (placed d) word.Test x text rest m) varied_untested)) (tested_view (some_tree (law_of_conditions room d top e)).0 d)
 
-    pub loop_law : Law grammar (loop_at room) (loop_syntax d) top
-    loop_law = seen_law (choose_law times_law tested_law (choosing.tells_by_one begins_opnd (not_taken begins_opnd refl refl refl refl) begin (λ l text rest g m next. tested_free d l text rest g m))) (loop_view d)
-      where
-        begin : Begins grammar begins_opnd (times_syntax d)
-        begin = begins_first grammar begins_opnd (opnd_syntax d) (λ o. lead_syntax Always (λ x. item d (Key key.Times))) (times_syntax d) (λ x g. g.0) (λ x. refl) (opnd_begins d)
+  pub loop_law : Law grammar (loop_at room) (loop_syntax d) top
+  loop_law = seen_law (choose_law times_law tested_law (choosing.tells_by_one begins_opnd (not_taken begins_opnd refl refl refl refl) begin (λ l text rest g m next. tested_free d l text rest g m))) (loop_view d)
+    where
+      begin : Begins grammar begins_opnd (times_syntax d)
+      begin = begins_first grammar begins_opnd (opnd_syntax d) (λ o. lead_syntax Always (λ x. item d (Key key.Times))) (times_syntax d) (λ x g. g.0) (λ x. refl) (opnd_begins d)

@@ -6,7 +6,7 @@ use Rattle.cob_tree.specs.declared.operand.Const.TheVariants as const
 use Rattle.cob_tree.specs.declared.operand.Opnd.TheVariants as opnd
 use Rattle.cob_tree.specs.Symbols.{Symbol, Key, Sign}
 use Rattle.cob_tree.specs.Items.{Item, item}
-use Rattle.cob_tree.specs.Cues.{Cue, is, Qualifies, Scales, Signs, Ands, Ors, Throughs, Loops}
+use Rattle.cob_tree.specs.Cues.{Cue, is, Qualifies, Subscripts, Scales, Signs, Ands, Ors, Throughs, Loops}
 use Rattle.cob_tree.specs.Cues as cue
 use Rattle.cob_tree.specs.Expr.{Expr, MkExpr, MkTerm, Fact, MkFact, operand, group}
 use Rattle.cob_tree.specs.Cond.{Cond, MkCond, Conj, MkConj, Neg, MkNeg, Simple, parenthesised, relation, abbreviated, numeric, alone}
@@ -122,10 +122,10 @@ thru_never : (c : Cue) → is Throughs c ≡ false → (o : Option Expr) → tak
 thru_never c t None = refl
 thru_never c t (Some e) = t
 
-pub sel_never : (c : Cue) → is Qualifies c ≡ false → is Scales c ≡ false → is Signs c ≡ false → takes_test c ≡ false → is Ands c ≡ false → is Ors c ≡ false → is Throughs c ≡ false → (s : Sel) → takes_sel s c ≡ false
-sel_never c q sc si te an or th any = refl
-sel_never c q sc si te an or th (range low high) = expr_never c q sc si high
-sel_never c q sc si te an or th (choice x) = or_false (takes_cond x c) (takes_thru (one_alone x) c) (cond_never c q sc si te an or x) (thru_never c th (one_alone x))
+pub sel_never : (c : Cue) → is Qualifies c ≡ false → is Subscripts c ≡ false → is Scales c ≡ false → is Signs c ≡ false → takes_test c ≡ false → is Ands c ≡ false → is Ors c ≡ false → is Throughs c ≡ false → (s : Sel) → takes_sel s c ≡ false
+sel_never c q u sc si te an or th any = refl
+sel_never c q u sc si te an or th (range low high) = expr_never c q u sc si high
+sel_never c q u sc si te an or th (choice x) = or_false (takes_cond x c) (takes_thru (one_alone x) c) (cond_never c q u sc si te an or x) (thru_never c th (one_alone x))
 
 sel_view : (d : ℕ) → View (sel_raw d) (sel_syntax d) make_sel sel_parts
 sel_view d = record { back = back; print = print; takes = takes; good = good; good_back = good_back }
@@ -171,7 +171,7 @@ sel_view d = record { back = back; print = print; takes = takes; good = good; go
 
     good_back : (s : Sel) → ShapedSel s → (sel_raw d).Good (sel_parts s)
     good_back any g = tt
-    good_back (range low high) g = (((tt, tt), tt), ((tt, tt), refl), cond_never Throughs refl refl refl refl refl refl (alone_cond low))
+    good_back (range low high) g = (((tt, tt), tt), ((tt, tt), refl), cond_never Throughs refl refl refl refl refl refl refl (alone_cond low))
     good_back (choice c) g = (g, tt, tt)
 
 -- ---- {WHEN Sel}+
@@ -202,7 +202,7 @@ module _ (d top : ℕ) (low : d < top) (room : ℕ) (e : top ≡ suc (d + room))
   choice_law = seen_law (behind_law d word.When (sel_syntax d) low sel_law) (choice_view d)
 
   pub choices_law : Law grammar (choices_at room) (choices_syntax d) top
-  choices_law = some_law choice_law (is cue.Whens) cue.Whens (λ s p g h. ap (takes_sel s) (only cue.Whens p h)) (λ s g. sel_never cue.Whens refl refl refl refl refl refl refl s) starts
+  choices_law = some_law choice_law (is cue.Whens) cue.Whens (λ s p g h. ap (takes_sel s) (only cue.Whens p h)) (λ s g. sel_never cue.Whens refl refl refl refl refl refl refl refl s) starts
     where
       begin : Begins grammar (is cue.Whens) (choice_syntax d)
       begin s [] rest g m = absurd m
@@ -213,7 +213,7 @@ module _ (d top : ℕ) (low : d < top) (room : ℕ) (e : top ≡ suc (d + room))
 
   -- and where a token such as NOT goes on
   pub choices_grow_by : Grows grammar (cond_syntax d) top → Grows grammar (choices_syntax d) top
-  choices_grow_by grows = some_grows choice_law (is cue.Whens) cue.Whens (λ s p g h. ap (takes_sel s) (only cue.Whens p h)) (λ s g. sel_never cue.Whens refl refl refl refl refl refl refl s) starts when_one choice_grows
+  choices_grow_by grows = some_grows choice_law (is cue.Whens) cue.Whens (λ s p g h. ap (takes_sel s) (only cue.Whens p h)) (λ s g. sel_never cue.Whens refl refl refl refl refl refl refl refl s) starts when_one choice_grows
     where
       begin : Begins grammar (is cue.Whens) (choice_syntax d)
       begin s [] rest g m = absurd m
@@ -226,7 +226,7 @@ module _ (d top : ℕ) (low : d < top) (room : ℕ) (e : top ≡ suc (d + room))
       starts = starts_by_one grammar (is cue.Whens) begin when_one
 
       expr_one : (x : Expr) → OneToken grammar (takes_expr x)
-      expr_one x = not_taken (takes_expr x) (expr_never cue.NotRelates refl refl refl x) (expr_never cue.NotTests refl refl refl x) (expr_never cue.NotSize refl refl refl x) (expr_never cue.NotAtEnd refl refl refl x)
+      expr_one x = not_taken (takes_expr x) (expr_never cue.NotRelates refl refl refl refl x) (expr_never cue.NotTests refl refl refl refl x) (expr_never cue.NotSize refl refl refl refl x) (expr_never cue.NotAtEnd refl refl refl refl x)
 
       sel_grows : Grows grammar (sel_syntax d) top
       sel_grows = grows_seen (sel_view d) (grows_choose (grows_nothing grammar (any_syntax d) top (λ x p. refl))
@@ -237,7 +237,7 @@ module _ (d top : ℕ) (low : d < top) (room : ℕ) (e : top ≡ suc (d + room))
 
 choices_never : (xs : List Sel) → takes_listed takes_sel (is cue.Whens) xs Loops ≡ false
 choices_never [] = refl
-choices_never (s ∷ []) = or_false (takes_sel s Loops) false (sel_never Loops refl refl refl refl refl refl refl s) refl
+choices_never (s ∷ []) = or_false (takes_sel s Loops) false (sel_never Loops refl refl refl refl refl refl refl refl s) refl
 choices_never (s ∷ u ∷ us) = choices_never (u ∷ us)
 
 -- the law of {WHEN Sel}+, as statements see tokens

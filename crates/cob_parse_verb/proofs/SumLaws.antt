@@ -1,5 +1,5 @@
 -- The laws of arithmetic statements, up to their phrases.
-use Rattle.std.proofs.Common.{◌≡◌, ℕ, suc, ◌+◌, ◌<◌, ◌⊎◌, inl, inr, List, [], ◌∷◌, ◌++◌, Option, Some, None, refl, ap, subst, ◌∙◌}
+use Rattle.std.proofs.Common.{◌≡◌, ℕ, suc, ◌+◌, ◌<◌, ◌⊎◌, inl, inr, List, [], ◌∷◌, ◌++◌, Option, Some, None, refl, ap, subst, ◌∙◌, arith}
 use Rattle.cob_tree.specs.declared.token.Rel.TheVariants as rel
 use Rattle.cob_tree.specs.declared.operand.Const.TheVariants as const
 use Rattle.cob_tree.specs.declared.operand.Opnd.{Opnd}
@@ -27,7 +27,7 @@ use Rattle.cob_parse_expr.specs.Alphabet.{symbol_front, grammar}
 use Rattle.cob_parse_expr.specs.Parsing.{expr_syntax}
 use Rattle.cob_parse_expr.proofs.CueLemmas.{not_taken}
 use Rattle.cob_parse_expr.proofs.Generic.{tells_by_one}
-use Rattle.cob_parse_expr.proofs.OperandLaws.{opnd_syntax, opnd_law}
+use Rattle.cob_parse_expr.proofs.OperandLaws.{opnd_syntax, law_of_operands}
 use Rattle.cob_parse_expr.proofs.ExprLaws.{law, some_expr}
 use Rattle.cob_parse_verb.specs.Words as word
 use Rattle.cob_parse_verb.specs.declared.word.Start.{Start}
@@ -64,13 +64,13 @@ pub sum_start : (a : Arithmetic) (s : Start) → Some (arithmetic_start a) ≡ S
 sum_start a s e = let same : arithmetic_start a ≡ s = cc in subst IsSum same (is_sum a)
 
 pub opnd_one : (o : Opnd) → OneToken grammar (takes_opnd o)
-opnd_one o = not_taken (takes_opnd o) (opnd_never NotRelates refl o) (opnd_never NotTests refl o) (opnd_never NotSize refl o) (opnd_never NotAtEnd refl o)
+opnd_one o = not_taken (takes_opnd o) (opnd_never NotRelates refl refl o) (opnd_never NotTests refl refl o) (opnd_never NotSize refl refl o) (opnd_never NotAtEnd refl refl o)
 
 opnds_one : (os : List Opnd) → OneToken grammar (takes_opnds os)
-opnds_one os = not_taken (takes_opnds os) (opnds_never NotRelates refl refl os) (opnds_never NotTests refl refl os) (opnds_never NotSize refl refl os) (opnds_never NotAtEnd refl refl os)
+opnds_one os = not_taken (takes_opnds os) (opnds_never NotRelates refl refl refl os) (opnds_never NotTests refl refl refl os) (opnds_never NotSize refl refl refl os) (opnds_never NotAtEnd refl refl refl os)
 
 pub recvs_one : (rs : List Recv) → OneToken grammar (takes_recvs rs)
-recvs_one rs = not_taken (takes_recvs rs) (recvs_never NotRelates refl refl refl rs) (recvs_never NotTests refl refl refl rs) (recvs_never NotSize refl refl refl rs) (recvs_never NotAtEnd refl refl refl rs)
+recvs_one rs = not_taken (takes_recvs rs) (recvs_never NotRelates refl refl refl refl rs) (recvs_never NotTests refl refl refl refl rs) (recvs_never NotSize refl refl refl refl rs) (recvs_never NotAtEnd refl refl refl refl rs)
 
 abbrev targets : ℕ → Syntax Item Cue (Target (List Recv))
 targets d = target_syntax d (recvs_syntax d)
@@ -267,49 +267,52 @@ compute_view d = record { back = back; print = λ x g. refl; takes = λ x p g. r
 
 -- ---- the laws
 
-module _ (d top : ℕ) (low : d < top) where
-  targets_law : Law grammar (target_at recvs_at) (targets d) top
-  targets_law = target_law d (recvs_syntax d) low (recvs_law d top low)
+module _ (room d top : ℕ) (e : top ≡ suc (d + room)) where
+  low : d < top
+  low = omega (arith, e)
 
-  pub add_law : Law grammar add_at (arithmetic_syntax start.Add d) top
-  add_law = seen_law (apart_law (opnds_law d top low) opnds_one (λ os. choice) (λ os. to_or_giving d)
-      (λ os g. choose_law (behind_law d word.To (targets d) low targets_law) (behind_law d word.Giving (recvs_syntax d) low (recvs_law d top low)) (tells_by_one (λ t y z. refl) (λ x text rest g' m. behind_stands d word.To (targets d) word.To x text rest m) (λ x text rest g' m. behind_stands d word.Giving (recvs_syntax d) word.To x text rest m)))
+  targets_law : Law grammar (target_at room (recvs_at room)) (targets d) top
+  targets_law = target_law d (recvs_syntax d) room e (recvs_law room d top e)
+
+  pub add_law : Law grammar (add_at room) (arithmetic_syntax start.Add d) top
+  add_law = seen_law (apart_law (opnds_law room d top e) opnds_one (λ os. choice) (λ os. to_or_giving d)
+      (λ os g. choose_law (behind_law d word.To (targets d) low targets_law) (behind_law d word.Giving (recvs_syntax d) low (recvs_law room d top e)) (tells_by_one (λ t y z. refl) (λ x text rest g' m. behind_stands d word.To (targets d) word.To x text rest m) (λ x text rest g' m. behind_stands d word.Giving (recvs_syntax d) word.To x text rest m)))
       ends) (add_view d)
     where
       choice : Reader Sign ((Unit {0} × Target (List Recv)) ⊎ (Unit {0} × List Recv))
-      choice = choose (stands (the word.To)) to_part (giving_at recvs_at)
+      choice = choose (stands (the word.To)) (to_part room) (giving_at (recvs_at room))
 
       ends : (os : List Opnd) (y : (Unit {0} × Target (List Recv)) ⊎ (Unit {0} × List Recv)) (text rest : List Sign) → (opnds_syntax d).Good os → (to_or_giving d).Good y → Matches grammar ((to_or_giving d).print y) text → Next grammar (takes_opnds os) (text ++ rest)
       ends os (inl y) text rest g g' m = behind_next d word.To (targets d) (takes_opnds os) refl y text rest m
-      ends os (inr y) text rest g g' m = behind_next d word.Giving (recvs_syntax d) (takes_opnds os) (opnds_never Givings refl refl os) y text rest m
+      ends os (inr y) text rest g g' m = behind_next d word.Giving (recvs_syntax d) (takes_opnds os) (opnds_never Givings refl refl refl os) y text rest m
 
-  pub subtract_law : Law grammar subtract_at (arithmetic_syntax start.Subtract d) top
-  subtract_law = seen_law (apart_law (opnds_law d top low) opnds_one (λ os. branch (the word.From) (λ x. target_at recvs_at)) (λ os. behind_syntax d word.From (targets d)) (λ os g. behind_law d word.From (targets d) low targets_law)
-      (λ os y text rest g g' m. behind_next d word.From (targets d) (takes_opnds os) (opnds_never Froms refl refl os) y text rest m)) (subtract_view d)
+  pub subtract_law : Law grammar (subtract_at room) (arithmetic_syntax start.Subtract d) top
+  subtract_law = seen_law (apart_law (opnds_law room d top e) opnds_one (λ os. branch (the word.From) (λ x. target_at room (recvs_at room))) (λ os. behind_syntax d word.From (targets d)) (λ os g. behind_law d word.From (targets d) low targets_law)
+      (λ os y text rest g g' m. behind_next d word.From (targets d) (takes_opnds os) (opnds_never Froms refl refl refl os) y text rest m)) (subtract_view d)
 
-  pub multiply_law : Law grammar multiply_at (arithmetic_syntax start.Multiply d) top
-  multiply_law = seen_law (apart_law (opnd_law d top low) opnd_one (λ o. branch (the word.By) (λ x. target_at recvs_at)) (λ o. behind_syntax d word.By (targets d)) (λ o g. behind_law d word.By (targets d) low targets_law)
+  pub multiply_law : Law grammar (multiply_at room) (arithmetic_syntax start.Multiply d) top
+  multiply_law = seen_law (apart_law (law_of_operands room d top e) opnd_one (λ o. branch (the word.By) (λ x. target_at room (recvs_at room))) (λ o. behind_syntax d word.By (targets d)) (λ o g. behind_law d word.By (targets d) low targets_law)
       (λ o y text rest g g' m. behind_next d word.By (targets d) (takes_opnd o) refl y text rest m)) (multiply_view d)
 
-  by_law : Law grammar by_part (by_syntax d) top
+  by_law : Law grammar (by_part room) (by_syntax d) top
   by_law = behind_law d word.By (dependent_syntax (opnd_syntax d) (λ o. behind_syntax d word.Giving (given_syntax d))) low
-      (apart_law (opnd_law d top low) opnd_one (λ o. giving_at given_at) (λ o. behind_syntax d word.Giving (given_syntax d)) (λ o g. behind_law d word.Giving (given_syntax d) low (given_law d top low))
-      (λ o y text rest g g' m. behind_next d word.Giving (given_syntax d) (takes_opnd o) (opnd_never Givings refl o) y text rest m))
+      (apart_law (law_of_operands room d top e) opnd_one (λ o. giving_at (given_at room)) (λ o. behind_syntax d word.Giving (given_syntax d)) (λ o g. behind_law d word.Giving (given_syntax d) low (given_law room d top e))
+      (λ o y text rest g g' m. behind_next d word.Giving (given_syntax d) (takes_opnd o) (opnd_never Givings refl refl o) y text rest m))
 
-  pub divide_law : Law grammar divide_at (arithmetic_syntax start.Divide d) top
-  divide_law = seen_law (apart_law (opnd_law d top low) opnd_one (λ o. choose (stands (the word.Into)) into_part by_part) (λ o. into_or_by d)
-      (λ o g. choose_law (behind_law d word.Into (target_syntax d (given_syntax d)) low (target_law d (given_syntax d) low (given_law d top low))) by_law
+  pub divide_law : Law grammar (divide_at room) (arithmetic_syntax start.Divide d) top
+  divide_law = seen_law (apart_law (law_of_operands room d top e) opnd_one (λ o. choose (stands (the word.Into)) (into_part room) (by_part room)) (λ o. into_or_by d)
+      (λ o g. choose_law (behind_law d word.Into (target_syntax d (given_syntax d)) low (target_law d (given_syntax d) room e (given_law room d top e))) by_law
       (tells_by_one (λ t y z. refl) (λ x text rest g' m. behind_stands d word.Into (target_syntax d (given_syntax d)) word.Into x text rest m) (λ x text rest g' m. behind_stands d word.By (dependent_syntax (opnd_syntax d) (λ o. behind_syntax d word.Giving (given_syntax d))) word.Into x text rest m)))
       ends) (divide_view d)
     where
       ends : (o : Opnd) (y : Divided) (text rest : List Sign) → Always o → (into_or_by d).Good y → Matches grammar ((into_or_by d).print y) text → Next grammar (takes_opnd o) (text ++ rest)
-      ends o (inl y) text rest g g' m = behind_next d word.Into (target_syntax d (given_syntax d)) (takes_opnd o) (opnd_never Intos refl o) y text rest m
+      ends o (inl y) text rest g g' m = behind_next d word.Into (target_syntax d (given_syntax d)) (takes_opnd o) (opnd_never Intos refl refl o) y text rest m
       ends o (inr y) text rest g g' m = behind_next d word.By (dependent_syntax (opnd_syntax d) (λ o. behind_syntax d word.Giving (given_syntax d))) (takes_opnd o) refl y text rest m
 
-  pub compute_law : (room : ℕ) → top ≡ suc (d + room) → Law grammar (compute_at room) (arithmetic_syntax start.Compute d) top
-  compute_law room e = seen_law (apart_law (recvs_law d top low) recvs_one (λ rs. branch equal_of (λ x. expr_at room)) (λ rs. value_syntax d)
+  pub compute_law : Law grammar (compute_at room) (arithmetic_syntax start.Compute d) top
+  compute_law = seen_law (apart_law (recvs_law room d top e) recvs_one (λ rs. branch equal_of (λ x. expr_at room)) (λ rs. value_syntax d)
       (λ rs g. branch_law (equals d) top (λ x a. low) tt tt (λ x. expr_at room) (λ x. expr_syntax d) (λ x a. law room d top e)) ends) (compute_view d)
     where
       ends : (rs : List Recv) (y : Unit {0} × Expr) (text rest : List Sign) → (recvs_syntax d).Good rs → (value_syntax d).Good y → Matches grammar ((value_syntax d).print y) text → Next grammar (takes_recvs rs) (text ++ rest)
       ends rs y [] rest g g' m = absurd m
-      ends rs y (t ∷ text) rest g g' m = ap (λ (z : Symbol). on_mark grammar (takes_recvs rs) (peek_on grammar (symbol_front z) (text ++ rest))) m.0.symbol ∙ recvs_never Relates refl refl refl rs
+      ends rs y (t ∷ text) rest g g' m = ap (λ (z : Symbol). on_mark grammar (takes_recvs rs) (peek_on grammar (symbol_front z) (text ++ rest))) m.0.symbol ∙ recvs_never Relates refl refl refl refl rs

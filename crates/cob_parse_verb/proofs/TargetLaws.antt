@@ -1,5 +1,5 @@
 -- The laws of receivers, with GIVING and REMAINDER or without.
-use Rattle.std.proofs.Common.{◌≡◌, ℕ, ◌<◌, ◌⊎◌, inl, inr, ◌||◌, not, Bool, true, false, List, [], ◌∷◌, ◌++◌, Option, Some, None, is_some, refl, sym, ap, ◌∙◌}
+use Rattle.std.proofs.Common.{◌≡◌, ℕ, suc, ◌+◌, ◌<◌, ◌⊎◌, inl, inr, ◌||◌, not, Bool, true, false, List, [], ◌∷◌, ◌++◌, Option, Some, None, is_some, refl, sym, ap, ◌∙◌, arith}
 use Rattle.std.proofs.lemmas.List.{append-nil}
 use Rattle.cob_tree.specs.declared.keyword.Keyword.TheVariants as key
 use Rattle.cob_tree.specs.declared.operand.Const.{Const}
@@ -11,10 +11,10 @@ use Rattle.cob_tree.specs.declared.operand.Ref.{Ref}
 use Rattle.cob_tree.specs.Symbols.{Symbol, Key, Sign}
 use Rattle.cob_tree.specs.Items.{Item, item, word_if, behind}
 use Rattle.cob_tree.specs.Items as items
-use Rattle.cob_tree.specs.Cues.{Cue, is, Qualifies, Rounds, Names, Givings, Remainders}
+use Rattle.cob_tree.specs.Cues.{Cue, is, Qualifies, Subscripts, Rounds, Names, Givings, Remainders}
 use Rattle.cob_tree.specs.PrintExpr.{const_symbol, print_ref, print_opnd, print_recv}
 use Rattle.cob_tree.specs.PrintStmt.{print_recvs}
-use Rattle.cob_tree.specs.Takes.{takes_recv, takes_recvs, takes_giving, takes_opnds, begins_opnd, takes_remainder}
+use Rattle.cob_tree.specs.Takes.{takes_ref, takes_rounded, takes_recv, takes_recvs, takes_giving, takes_opnds, begins_opnd, takes_remainder}
 use Rattle.cob_tree.specs.Shaped.{IsNotEmpty}
 use Rattle.reading.specs.Readers.{Reader, stands}
 use Rattle.reading.specs.Printing.{Matches}
@@ -29,7 +29,8 @@ use Rattle.cob_parse_expr.specs.LexemeClasses.{name_symbol}
 use Rattle.cob_parse_expr.specs.Classes.{name_of}
 use Rattle.cob_parse_expr.proofs.CueLemmas.{only}
 use Rattle.cob_parse_expr.proofs.Generic.{tells_by_one}
-use Rattle.cob_parse_expr.proofs.OperandLaws.{ref_syntax, ref_law, const_syntax, const_law}
+use Rattle.cob_parse_expr.proofs.OperandLaws.{ref_syntax, law_of_references, const_syntax, const_law}
+use Rattle.cob_parse_expr.proofs.ExprLaws.{ref_never}
 use Rattle.cob_parse_verb.specs.Words as word
 use Rattle.cob_parse_verb.specs.Targets.{Target, receivers, giving, may_give, make_target, giving_at, target_at, given_at}
 use Rattle.cob_parse_verb.proofs.WordNext.{behind_syntax, behind_law, behind_starts, word_opening, own_cue_tells}
@@ -37,19 +38,19 @@ use Rattle.cob_parse_verb.proofs.ListLaws.{opnd_never, recvs_syntax, recvs_law, 
 
 -- ---- what lists never take
 
-pub opnds_never : (c : Cue) → is Qualifies c ≡ false → begins_opnd c ≡ false → (os : List Opnd) → takes_opnds os c ≡ false
-opnds_never c q b [] = b
-opnds_never c q b (o ∷ []) = or_false _ (begins_opnd c) (opnd_never c q o) b
-opnds_never c q b (o ∷ p ∷ os) = opnds_never c q b (p ∷ os)
+pub opnds_never : (c : Cue) → is Qualifies c ≡ false → is Subscripts c ≡ false → begins_opnd c ≡ false → (os : List Opnd) → takes_opnds os c ≡ false
+opnds_never c q s b [] = b
+opnds_never c q s b (o ∷ []) = or_false _ (begins_opnd c) (opnd_never c q s o) b
+opnds_never c q s b (o ∷ p ∷ os) = opnds_never c q s b (p ∷ os)
 
-recv_never : (c : Cue) → is Qualifies c ≡ false → is Rounds c ≡ false → (rounded : Bool) → takes_recv rounded c ≡ false
-recv_never c q r true = refl
-recv_never c q r false = or_false (is Qualifies c) (is Rounds c) q r
+recv_never : (c : Cue) → is Qualifies c ≡ false → is Subscripts c ≡ false → is Rounds c ≡ false → (rounded : Bool) (i : Ref) → takes_rounded rounded i c ≡ false
+recv_never c q s r true i = refl
+recv_never c q s r false i = or_false (takes_ref i c) (is Rounds c) (ref_never c q s i) r
 
-pub recvs_never : (c : Cue) → is Qualifies c ≡ false → is Rounds c ≡ false → is Names c ≡ false → (rs : List Recv) → takes_recvs rs c ≡ false
-recvs_never c q r n [] = n
-recvs_never c q r n (x ∷ []) = or_false (takes_recv x.rounded c) (is Names c) (recv_never c q r x.rounded) n
-recvs_never c q r n (x ∷ y ∷ rs) = recvs_never c q r n (y ∷ rs)
+pub recvs_never : (c : Cue) → is Qualifies c ≡ false → is Subscripts c ≡ false → is Rounds c ≡ false → is Names c ≡ false → (rs : List Recv) → takes_recvs rs c ≡ false
+recvs_never c q s r n [] = n
+recvs_never c q s r n (x ∷ []) = or_false (takes_recv x c) (is Names c) (recv_never c q s r x.rounded x.item) n
+recvs_never c q s r n (x ∷ y ∷ rs) = recvs_never c q s r n (y ∷ rs)
 
 -- ---- receivers, or an operand and GIVING
 
@@ -113,7 +114,7 @@ module _ {B : Type 0} (d : ℕ) (b : Syntax Item Cue B) where
 
       good_back : (t : Target B) → good_target t → raw.Good (target_parts t)
       good_back (receivers rs) g = (g, tt, tt)
-      good_back (giving (opnd.Ref r) x) g = (tt, ((tt, g), refl), refl)
+      good_back (giving (opnd.Ref r) x) g = (tt, ((tt, g), refl), recvs_never Givings refl refl refl refl (record { item = r; rounded = false } ∷ []))
       good_back (giving (opnd.Const c) x) g = (tt, (tt, g))
 
   no_name : (c : Const) → is_some (name_symbol (const_symbol c)) ≡ false
@@ -125,10 +126,13 @@ module _ {B : Type 0} (d : ℕ) (b : Syntax Item Cue B) where
   no_name const.HighValue = refl
   no_name const.LowValue = refl
 
-  pub target_law : {r : Reader Sign B} {top : ℕ} → d < top → Law grammar r b top → Law grammar (target_at r) target_syntax top
-  target_law {r} {top} low L = seen_law (choose_law (opt_law (recvs_law d top low) after may_give (is Givings) Givings (λ x p g e. ap (takes_recvs x) (only Givings p e)) (behind_starts d word.Giving b r Givings (own_cue_tells word.Giving) refl refl refl refl))
+  pub target_law : (room : ℕ) {r : Reader Sign B} {top : ℕ} → top ≡ suc (d + room) → Law grammar r b top → Law grammar (target_at room r) target_syntax top
+  target_law room {r} {top} e L = seen_law (choose_law (opt_law (recvs_law room d top e) after may_give (is Givings) Givings (λ x p g h. ap (takes_recvs x) (only Givings p h)) (behind_starts d word.Giving b r Givings (own_cue_tells word.Giving) refl refl refl refl))
       (seq_law (const_law d top low) (λ x p g. refl) after) (tells_by_one (λ t y z. refl) first second_)) view
     where
+      low : d < top
+      low = omega (arith, e)
+
       after : Law grammar (giving_at r) (behind_syntax d word.Giving b) top
       after = behind_law d word.Giving b low L
 
@@ -149,8 +153,8 @@ given_syntax d = record { Good = λ x. IsNotEmpty x.0; print = λ x. print_recvs
 abbrev phrased : ℕ → Syntax Item Cue (List Recv × Option Ref)
 phrased d = phrase_syntax (recvs_syntax d) (is Remainders) Remainders (item d (Key key.Remainder) ∷ []) (ref_syntax d)
 
-pub given_law : (d top : ℕ) → d < top → Law grammar given_at (given_syntax d) top
-given_law d top low = same_trees (phrase_law (recvs_law d top low) (ref_law d top low) (word_opening Remainders word.Remainder (own_cue_tells word.Remainder) d) (low, tt) Remainders (λ x p g e. ap (takes_recvs x) (only Remainders p e)))
+pub given_law : (room d top : ℕ) → top ≡ suc (d + room) → Law grammar (given_at room) (given_syntax d) top
+given_law room d top e = same_trees (phrase_law (recvs_law room d top e) (law_of_references room d top e) (word_opening Remainders word.Remainder (own_cue_tells word.Remainder) d) (omega (arith, e), tt) Remainders (λ x p g h. ap (takes_recvs x) (only Remainders p h)))
     (record { back = λ x g. refl; print = print; takes = takes; good = λ x g. g.0; good_back = good_back })
   where
     print : (x : List Recv × Option Ref) → (phrased d).Good x → (given_syntax d).print x ≡ (phrased d).print x
@@ -163,4 +167,4 @@ given_law d top low = same_trees (phrase_law (recvs_law d top low) (ref_law d to
 
     good_back : (x : List Recv × Option Ref) → IsNotEmpty x.0 → (phrased d).Good x
     good_back (rs, None) g = (g, tt, tt)
-    good_back (rs, Some r) g = (g, tt, recvs_never Remainders refl refl refl rs)
+    good_back (rs, Some r) g = (g, tt, recvs_never Remainders refl refl refl refl rs)

@@ -115,12 +115,12 @@ IsTold w (Some c) = (t : Sign) (ts : List Sign) → here c (t ∷ ts) ≡ is_som
 
 -- such a cue tells its word
 pub own_cue_tells : (w : Word) → IsTold w (own_cue w)
-own_cue_tells word.Giving = told Givings (the_key word.Giving) (at_key word.Giving) refl refl refl refl refl refl refl refl refl refl
-own_cue_tells word.Remainder = told Remainders (the_key word.Remainder) (at_key word.Remainder) refl refl refl refl refl refl refl refl refl refl
-own_cue_tells word.Rounded = told Rounds (the_key word.Rounded) (at_key word.Rounded) refl refl refl refl refl refl refl refl refl refl
-own_cue_tells word.Into = told Intos (the_key word.Into) (at_key word.Into) refl refl refl refl refl refl refl refl refl refl
-own_cue_tells word.From = told Froms (the_key word.From) (at_key word.From) refl refl refl refl refl refl refl refl refl refl
-own_cue_tells word.Thru = told Throughs (the_key word.Thru) (at_key word.Thru) refl refl refl refl refl refl refl refl refl refl
-own_cue_tells word.When = told Whens (the_key word.When) (at_key word.When) refl refl refl refl refl refl refl refl refl refl
-own_cue_tells word.EndWrite = told EndWrite (the_key word.EndWrite) (at_key word.EndWrite) refl refl refl refl refl refl refl refl refl refl
+own_cue_tells word.Giving = told Givings (the_key word.Giving) (at_key word.Giving) refl refl refl refl refl refl refl refl refl refl refl
+own_cue_tells word.Remainder = told Remainders (the_key word.Remainder) (at_key word.Remainder) refl refl refl refl refl refl refl refl refl refl refl
+own_cue_tells word.Rounded = told Rounds (the_key word.Rounded) (at_key word.Rounded) refl refl refl refl refl refl refl refl refl refl refl
+own_cue_tells word.Into = told Intos (the_key word.Into) (at_key word.Into) refl refl refl refl refl refl refl refl refl refl refl
+own_cue_tells word.From = told Froms (the_key word.From) (at_key word.From) refl refl refl refl refl refl refl refl refl refl refl
+own_cue_tells word.Thru = told Throughs (the_key word.Thru) (at_key word.Thru) refl refl refl refl refl refl refl refl refl refl refl
+own_cue_tells word.When = told Whens (the_key word.When) (at_key word.When) refl refl refl refl refl refl refl refl refl refl refl
+own_cue_tells word.EndWrite = told EndWrite (the_key word.EndWrite) (at_key word.EndWrite) refl refl refl refl refl refl refl refl refl refl refl
 own_cue_tells _ = tt

@@ -14,7 +14,7 @@ use Rattle.cob_tree.specs.Symbols.{Key}
 use Rattle.cob_tree.specs.Items.{Item, item_on, key, name, behind}
 use Rattle.cob_tree.specs.Expr.{Expr}
 use Rattle.cob_tree.specs.Cond.{Cond}
-use Rattle.cob_tree.specs.Cues.{Cue, is, Qualifies, EndAdd, EndSubtract, EndMultiply, EndDivide, EndCompute}
+use Rattle.cob_tree.specs.Cues.{Cue, is, Qualifies, Subscripts, EndAdd, EndSubtract, EndMultiply, EndDivide, EndCompute}
 use Rattle.cob_tree.specs.Stmt.{Loop, Verb, move, set, display, perform_range, go, exit, continue, stop_run, open_, close, write, Tail}
 use Rattle.cob_tree.specs.Stmt as verb
 use Rattle.cob_tree.specs.PrintExpr.{print_ref, print_opnd, print_expr, print_cond, print_relation}
@@ -168,14 +168,18 @@ print_behind d (evaluate_head subject) = print_subject d subject
 print_behind d (perform_head turns) = print_if (print_loop d) turns
 print_behind d (read_head file into) = name d file ∷ behind d (key.Into ∷ []) (print_ref d) into
 
--- OF or TIMES makes the name behind PERFORM an operand
+-- what makes the name behind PERFORM that of an item
+abbrev pub makes_item : Cue → Bool
+makes_item m = is Qualifies m || is Subscripts m
+
+-- OF, a subscript or TIMES makes the name behind PERFORM an operand
 abbrev pub takes_done : Verb → Cue → Bool
-takes_done (perform_range first None None) m = is Qualifies m || takes_range None None m
+takes_done (perform_range first None None) m = makes_item m || takes_range None None m
 takes_done v m = takes_verb v m
 
 abbrev pub takes_subject : Subject → Cue → Bool
 takes_subject subject.True m = false
-takes_subject (subject.Ref r) m = takes_ref m
+takes_subject (subject.Ref r) m = takes_ref r m
 
 abbrev pub takes_behind : Head → Cue → Bool
 takes_behind (done v) m = takes_done v m

@@ -26,20 +26,20 @@ some_at set r = seen cons (plus (begins grammar set) r)
 abbrev pub names_at : Reader Sign (List (List ℕ))
 names_at = some_at (is Names) (lead name_of)
 
-abbrev pub refs_at : Reader Sign (List Ref)
-refs_at = some_at (is Names) ref_at
+abbrev pub refs_at : ℕ → Reader Sign (List Ref)
+refs_at room = some_at (is Names) (ref_at room)
 
-abbrev pub opnds_at : Reader Sign (List Opnd)
-opnds_at = some_at begins_opnd opnd_at
+abbrev pub opnds_at : ℕ → Reader Sign (List Opnd)
+opnds_at room = some_at begins_opnd (opnd_at room)
 
 abbrev pub make_recv : Ref × Option (Unit {0}) → Recv
 make_recv x = record { item = x.0; rounded = is_some x.1 }
 
-abbrev pub recv_at : Reader Sign Recv
-recv_at = seen make_recv (follow ref_at (λ r. maybe (the word.Rounded)))
+abbrev pub recv_at : ℕ → Reader Sign Recv
+recv_at room = seen make_recv (follow (ref_at room) (λ r. maybe (the word.Rounded)))
 
-abbrev pub recvs_at : Reader Sign (List Recv)
-recvs_at = some_at (is Names) recv_at
+abbrev pub recvs_at : ℕ → Reader Sign (List Recv)
+recvs_at room = some_at (is Names) (recv_at room)
 
 -- INPUT or OUTPUT, and files
 abbrev pub make_opens : Mode × List (List ℕ) → OpenPhrase

@@ -26,8 +26,8 @@ use Rattle.cob_parse_verb.specs.Turning.{perform_at}
 abbrev pub make_move : Opnd × (Unit {0} × List Ref) → Head
 make_move x = done (move x.0 x.1.1)
 
-abbrev pub move_at : Reader Sign Head
-move_at = seen make_move (follow opnd_at (λ o. branch (the word.To) (λ x. refs_at)))
+abbrev pub move_at : ℕ → Reader Sign Head
+move_at room = seen make_move (follow (opnd_at room) (λ o. branch (the word.To) (λ x. refs_at room)))
 
 abbrev pub make_set : List ℕ × (Unit {0} × Unit {0}) → Head
 make_set x = done (set x.0)
@@ -38,8 +38,8 @@ set_at = seen make_set (seq (lead name_of) (seq (lead (the word.To)) (lead (the 
 abbrev pub make_display : List Opnd → Head
 make_display os = done (display os)
 
-abbrev pub display_at : Reader Sign Head
-display_at = seen make_display opnds_at
+abbrev pub display_at : ℕ → Reader Sign Head
+display_at room = seen make_display (opnds_at room)
 
 abbrev pub make_go : List ℕ → Head
 make_go text = done (go text)
@@ -80,11 +80,11 @@ close_at = seen make_close names_at
 abbrev pub make_write : (Ref × Option Opnd) × Option (Unit {0}) → Head
 make_write x = done (write x.0.0 x.0.1 (is_some x.1))
 
-abbrev pub written_at : Reader Sign (Ref × Option Opnd)
-written_at = with_phrase ref_at (behind (the word.From)) opnd_at
+abbrev pub written_at : ℕ → Reader Sign (Ref × Option Opnd)
+written_at room = with_phrase (ref_at room) (behind (the word.From)) (opnd_at room)
 
-abbrev pub write_at : Reader Sign Head
-write_at = seen make_write (follow written_at (λ x. maybe (the word.EndWrite)))
+abbrev pub write_at : ℕ → Reader Sign Head
+write_at room = seen make_write (follow (written_at room) (λ x. maybe (the word.EndWrite)))
 
 -- ---- statements with lists
 
@@ -95,29 +95,29 @@ abbrev pub make_subject : Unit {0} ⊎ Ref → Head
 make_subject (inl x) = evaluate_head subject.True
 make_subject (inr r) = evaluate_head (subject.Ref r)
 
-abbrev pub evaluate_at : Reader Sign Head
-evaluate_at = seen make_subject (choose (stands (the word.True)) (lead (the word.True)) ref_at)
+abbrev pub evaluate_at : ℕ → Reader Sign Head
+evaluate_at room = seen make_subject (choose (stands (the word.True)) (lead (the word.True)) (ref_at room))
 
 abbrev pub make_read : List ℕ × Option Ref → Head
 make_read x = read_head x.0 x.1
 
-abbrev pub read_at : Reader Sign Head
-read_at = seen make_read (with_phrase (lead name_of) (behind (the word.Into)) ref_at)
+abbrev pub read_at : ℕ → Reader Sign Head
+read_at room = seen make_read (with_phrase (lead name_of) (behind (the word.Into)) (ref_at room))
 
 -- ---- behind the first word, and with it
 
 -- A head behind its first word, where so many parentheses may still open.
 abbrev pub behind_at : ℕ → Start → Reader Sign Head
-behind_at room start.Move = move_at
+behind_at room start.Move = move_at room
 behind_at room start.Set = set_at
-behind_at room start.Display = display_at
-behind_at room start.Add = seen arithmetic add_at
-behind_at room start.Subtract = seen arithmetic subtract_at
-behind_at room start.Multiply = seen arithmetic multiply_at
-behind_at room start.Divide = seen arithmetic divide_at
+behind_at room start.Display = display_at room
+behind_at room start.Add = seen arithmetic (add_at room)
+behind_at room start.Subtract = seen arithmetic (subtract_at room)
+behind_at room start.Multiply = seen arithmetic (multiply_at room)
+behind_at room start.Divide = seen arithmetic (divide_at room)
 behind_at room start.Compute = seen arithmetic (compute_at room)
 behind_at room start.If = if_at room
-behind_at room start.Evaluate = evaluate_at
+behind_at room start.Evaluate = evaluate_at room
 behind_at room start.Perform = perform_at room
 behind_at room start.Go = go_at
 behind_at room start.Exit = exit_at
@@ -125,8 +125,8 @@ behind_at room start.Continue = continue_at
 behind_at room start.Stop = stop_at
 behind_at room start.Open = open_at
 behind_at room start.Close = close_at
-behind_at room start.Read = read_at
-behind_at room start.Write = write_at
+behind_at room start.Read = read_at room
+behind_at room start.Write = write_at room
 
 abbrev pub head_at : ℕ → Reader Sign (Begin × Head)
 head_at room = branch begin_of (λ b. behind_at room b.start)

@@ -22,11 +22,11 @@ make_add (os, inl (x, receivers rs)) = add_to os rs
 make_add (os, inl (x, giving o rs)) = add_giving os (Some o) rs
 make_add (os, inr (x, rs)) = add_giving os None rs
 
-abbrev pub to_part : Reader Sign (Unit {0} × Target (List Recv))
-to_part = branch (the word.To) (λ x. target_at recvs_at)
+abbrev pub to_part : ℕ → Reader Sign (Unit {0} × Target (List Recv))
+to_part room = branch (the word.To) (λ x. target_at room (recvs_at room))
 
-abbrev pub add_at : Reader Sign Arithmetic
-add_at = seen make_add (follow opnds_at (λ os. choose (stands (the word.To)) to_part (giving_at recvs_at)))
+abbrev pub add_at : ℕ → Reader Sign Arithmetic
+add_at room = seen make_add (follow (opnds_at room) (λ os. choose (stands (the word.To)) (to_part room) (giving_at (recvs_at room))))
 
 -- ---- SUBTRACT
 
@@ -34,8 +34,8 @@ abbrev pub make_subtract : List Opnd × (Unit {0} × Target (List Recv)) → Ari
 make_subtract (os, (x, receivers rs)) = subtract_from os rs
 make_subtract (os, (x, giving o rs)) = subtract_giving os o rs
 
-abbrev pub subtract_at : Reader Sign Arithmetic
-subtract_at = seen make_subtract (follow opnds_at (λ os. branch (the word.From) (λ x. target_at recvs_at)))
+abbrev pub subtract_at : ℕ → Reader Sign Arithmetic
+subtract_at room = seen make_subtract (follow (opnds_at room) (λ os. branch (the word.From) (λ x. target_at room (recvs_at room))))
 
 -- ---- MULTIPLY
 
@@ -43,8 +43,8 @@ abbrev pub make_multiply : Opnd × (Unit {0} × Target (List Recv)) → Arithmet
 make_multiply (o, (x, receivers rs)) = multiply_by o rs
 make_multiply (o, (x, giving p rs)) = multiply_giving o p rs
 
-abbrev pub multiply_at : Reader Sign Arithmetic
-multiply_at = seen make_multiply (follow opnd_at (λ o. branch (the word.By) (λ x. target_at recvs_at)))
+abbrev pub multiply_at : ℕ → Reader Sign Arithmetic
+multiply_at room = seen make_multiply (follow (opnd_at room) (λ o. branch (the word.By) (λ x. target_at room (recvs_at room))))
 
 -- ---- DIVIDE: only INTO may do without GIVING
 
@@ -53,14 +53,14 @@ make_divide (o, inl (x, receivers rs)) = divide_into o rs
 make_divide (o, inl (x, giving p g)) = divide_giving o way.Into p g.0 g.1
 make_divide (o, inr (x, (p, (y, g)))) = divide_giving o way.By p g.0 g.1
 
-abbrev pub into_part : Reader Sign (Unit {0} × Target (List Recv × Option Ref))
-into_part = branch (the word.Into) (λ x. target_at given_at)
+abbrev pub into_part : ℕ → Reader Sign (Unit {0} × Target (List Recv × Option Ref))
+into_part room = branch (the word.Into) (λ x. target_at room (given_at room))
 
-abbrev pub by_part : Reader Sign (Unit {0} × (Opnd × (Unit {0} × (List Recv × Option Ref))))
-by_part = branch (the word.By) (λ x. follow opnd_at (λ o. giving_at given_at))
+abbrev pub by_part : ℕ → Reader Sign (Unit {0} × (Opnd × (Unit {0} × (List Recv × Option Ref))))
+by_part room = branch (the word.By) (λ x. follow (opnd_at room) (λ o. giving_at (given_at room)))
 
-abbrev pub divide_at : Reader Sign Arithmetic
-divide_at = seen make_divide (follow opnd_at (λ o. choose (stands (the word.Into)) into_part by_part))
+abbrev pub divide_at : ℕ → Reader Sign Arithmetic
+divide_at room = seen make_divide (follow (opnd_at room) (λ o. choose (stands (the word.Into)) (into_part room) (by_part room)))
 
 -- ---- COMPUTE
 
@@ -68,4 +68,4 @@ abbrev pub make_compute : List Recv × (Unit {0} × Expr) → Arithmetic
 make_compute x = compute x.0 x.1.1
 
 abbrev pub compute_at : ℕ → Reader Sign Arithmetic
-compute_at room = seen make_compute (follow recvs_at (λ rs. branch equal_of (λ x. expr_at room)))
+compute_at room = seen make_compute (follow (recvs_at room) (λ rs. branch equal_of (λ x. expr_at room)))

@@ -1,5 +1,5 @@
 -- What stands behind TO, FROM, BY and INTO of an arithmetic statement: receivers, or an operand and GIVING.
-use Rattle.std.specs.Prelude.{◌&&◌, ◌⊎◌, not, Bool, false, List, [], ◌∷◌, Option, Some, None}
+use Rattle.std.specs.Prelude.{ℕ, ◌&&◌, ◌⊎◌, not, Bool, false, List, [], ◌∷◌, Option, Some, None}
 use Rattle.std.proofs.Common.{inl, inr}
 use Rattle.cob_tree.specs.declared.operand.Const.{Const}
 use Rattle.cob_tree.specs.declared.operand.Opnd.{Opnd}
@@ -28,7 +28,7 @@ may_give (r ∷ []) = not r.rounded
 may_give _ = false
 
 abbrev pub item_of : List Recv → Opnd
-item_of [] = opnd.Ref (record { name = []; of = [] })
+item_of [] = opnd.Ref (record { name = []; of = []; sub = None })
 item_of (r ∷ rs) = opnd.Ref r.item
 
 abbrev pub make_target : {B : Type 0} → (List Recv × Option (Unit {0} × B)) ⊎ (Const × (Unit {0} × B)) → Target B
@@ -40,9 +40,9 @@ abbrev pub giving_at : {B : Type 0} → Reader Sign B → Reader Sign (Unit {0} 
 giving_at r = branch (the word.Giving) (λ x. r)
 
 -- a name begins receivers, and a constant an operand
-abbrev pub target_at : {B : Type 0} → Reader Sign B → Reader Sign (Target B)
-target_at r = seen make_target (choose (stands name_of) (opt recvs_at (λ rs ts. may_give rs && begins grammar (is Givings) ts) (giving_at r)) (seq (lead const_of) (giving_at r)))
+abbrev pub target_at : {B : Type 0} → ℕ → Reader Sign B → Reader Sign (Target B)
+target_at room r = seen make_target (choose (stands name_of) (opt (recvs_at room) (λ rs ts. may_give rs && begins grammar (is Givings) ts) (giving_at r)) (seq (lead const_of) (giving_at r)))
 
 -- receivers and REMAINDER, for DIVIDE
-abbrev pub given_at : Reader Sign (List Recv × Option Ref)
-given_at = with_phrase recvs_at (behind (the word.Remainder)) ref_at
+abbrev pub given_at : ℕ → Reader Sign (List Recv × Option Ref)
+given_at room = with_phrase (recvs_at room) (behind (the word.Remainder)) (ref_at room)

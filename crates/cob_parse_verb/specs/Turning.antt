@@ -5,37 +5,38 @@ use Rattle.cob_tree.specs.declared.operand.Const.{Const}
 use Rattle.cob_tree.specs.declared.operand.Opnd.{Opnd}
 use Rattle.cob_tree.specs.declared.operand.Opnd.TheVariants as opnd
 use Rattle.cob_tree.specs.declared.operand.Ref.{Ref}
+use Rattle.cob_tree.specs.declared.operand.Subscript.{Subscript}
 use Rattle.cob_tree.specs.declared.stmt.TestPoint.{TestPoint}
 use Rattle.cob_tree.specs.declared.stmt.Varying.{Varying}
 use Rattle.cob_tree.specs.Symbols.{Sign}
 use Rattle.cob_tree.specs.Expr.{Expr}
 use Rattle.cob_tree.specs.Cond.{Cond}
 use Rattle.cob_tree.specs.Stmt.{Sel, any, range, choice, Loop, times, until, perform_range}
-use Rattle.cob_tree.specs.Cues.{Cue, is, Qualifies, Throughs, Whens}
+use Rattle.cob_tree.specs.Cues.{Cue, is, Qualifies, Subscripts, Throughs, Whens}
 use Rattle.cob_tree.specs.PrintExpr.{one_alone}
 use Rattle.cob_tree.specs.Takes.{begins_opnd, begins_loop}
 use Rattle.reading.specs.Readers.{Reader, lead, follow, seq, branch, seen, choose, opt, optional, here_if, with_phrase, stands}
 use Rattle.reading.specs.Printing.{begins}
 use Rattle.cob_parse_expr.specs.Alphabet.{grammar}
-use Rattle.cob_parse_expr.specs.Classes.{name_of, const_of, of_of}
-use Rattle.cob_parse_expr.specs.Reading.{second, make_ref, ref_at, opnd_at, qualifiers_at, expr_at}
+use Rattle.cob_parse_expr.specs.Classes.{name_of, const_of, of_of, open_of}
+use Rattle.cob_parse_expr.specs.Reading.{here, second, sub_at, make_ref, ref_at, opnd_at, qualifiers_at, expr_at}
 use Rattle.cob_parse_expr.specs.CondReading.{cond_at}
 use Rattle.cob_parse_verb.specs.Words as word
 use Rattle.cob_parse_verb.specs.Procedure.{procedure}
 use Rattle.cob_parse_verb.specs.Words.{the, test_point_of}
-use Rattle.cob_parse_verb.specs.Heads.{Head, done, perform_head}
+use Rattle.cob_parse_verb.specs.Heads.{Head, done, perform_head, makes_item}
 use Rattle.cob_parse_verb.specs.Lists.{some_at}
 
 -- ---- loops
 
-abbrev pub times_at : Reader Sign (Opnd × Unit {0})
-times_at = follow opnd_at (λ o. lead (the word.Times))
+abbrev pub times_at : ℕ → Reader Sign (Opnd × Unit {0})
+times_at room = follow (opnd_at room) (λ o. lead (the word.Times))
 
 abbrev pub make_varying : Ref × (Unit {0} × (Opnd × (Unit {0} × Opnd))) → Varying
 make_varying x = record { item = x.0; from = x.1.1.0; by = x.1.1.1.1 }
 
-abbrev pub varying_at : Reader Sign Varying
-varying_at = seen make_varying (follow ref_at (λ r. branch (the word.From) (λ x. follow opnd_at (λ o. branch (the word.By) (λ y. opnd_at)))))
+abbrev pub varying_at : ℕ → Reader Sign Varying
+varying_at room = seen make_varying (follow (ref_at room) (λ r. branch (the word.From) (λ x. follow (opnd_at room) (λ o. branch (the word.By) (λ y. opnd_at room)))))
 
 abbrev pub until_at : ℕ → Reader Sign (Unit {0} × Cond)
 until_at room = branch (the word.Until) (λ x. cond_at room)
@@ -46,7 +47,7 @@ make_varied (inr x) = (None, x.1)
 
 -- [VARYING ..] UNTIL ..
 abbrev pub varied_at : ℕ → Reader Sign (Option Varying × Cond)
-varied_at room = seen make_varied (choose (stands (the word.Varying)) (branch (the word.Varying) (λ x. follow varying_at (λ v. until_at room))) (until_at room))
+varied_at room = seen make_varied (choose (stands (the word.Varying)) (branch (the word.Varying) (λ x. follow (varying_at room) (λ v. until_at room))) (until_at room))
 
 abbrev pub make_tested : (Unit {0} × (TestPoint × (Option Varying × Cond))) ⊎ (Option Varying × Cond) → Loop
 make_tested (inl x) = until (Some x.1.0) x.1.1.0 x.1.1.1
@@ -61,20 +62,24 @@ make_loop (inl x) = times x.0
 make_loop (inr l) = l
 
 abbrev pub loop_at : ℕ → Reader Sign Loop
-loop_at room = seen make_loop (choose (begins grammar begins_opnd) times_at (tested_at room))
+loop_at room = seen make_loop (choose (begins grammar begins_opnd) (times_at room) (tested_at room))
 
 -- ---- PERFORM
 
--- Whether a name behind PERFORM is an operand: OF and TIMES make it one.
+-- Whether a name behind PERFORM is an operand: OF, a subscript and TIMES make it one.
 abbrev pub turns : List Sign → Bool
-turns ts = stands (the word.Times) ts || stands of_of ts
+turns ts = (stands (the word.Times) ts || stands of_of ts) || stands open_of ts
 
 -- what may stand behind the name
 abbrev pub follows_name : Cue → Bool
-follows_name m = is Qualifies m || (is Throughs m || begins_loop m)
+follows_name m = makes_item m || (is Throughs m || begins_loop m)
 
-abbrev pub qualified_at : Reader Sign (List (Unit {0} × List ℕ) × Unit {0})
-qualified_at = follow qualifiers_at (λ xs. lead (the word.Times))
+-- what stands behind the name of an operand
+abbrev pub Qualified : Type 0
+Qualified = List (Unit {0} × List ℕ) × Option Subscript
+
+abbrev pub qualified_at : ℕ → Reader Sign (Qualified × Unit {0})
+qualified_at room = follow (with_phrase qualifiers_at (here_if (here Subscripts)) (sub_at room)) (λ x. lead (the word.Times))
 
 abbrev pub through_at : ℕ → Reader Sign (Unit {0} × (List ℕ × Option Loop))
 through_at room = branch (the word.Thru) (λ x. with_phrase (lead name_of) (here_if (begins procedure begins_loop)) (loop_at room))
@@ -87,10 +92,10 @@ abbrev pub ranged_at : ℕ → Reader Sign Ranged
 ranged_at room = choose (stands (the word.Thru)) (through_at room) (loop_at room)
 
 abbrev pub Behind : Type 0
-Behind = (List (Unit {0} × List ℕ) × Unit {0}) ⊎ Ranged
+Behind = (Qualified × Unit {0}) ⊎ Ranged
 
 abbrev pub behind_name : ℕ → Reader Sign Behind
-behind_name room = choose turns qualified_at (ranged_at room)
+behind_name room = choose turns (qualified_at room) (ranged_at room)
 
 abbrev pub named_at : ℕ → Reader Sign (List ℕ × Option Behind)
 named_at room = branch name_of (λ text. optional (here_if (begins procedure follows_name)) (behind_name room))
@@ -105,7 +110,7 @@ Performed = Option ((List ℕ × Option Behind) ⊎ ((Const × Unit {0}) ⊎ Loo
 abbrev pub make_perform : Performed → Head
 make_perform None = perform_head None
 make_perform (Some (inl (text, None))) = done (perform_range text None None)
-make_perform (Some (inl (text, Some (inl x)))) = perform_head (Some (times (opnd.Ref (make_ref (text, x.0)))))
+make_perform (Some (inl (text, Some (inl x)))) = perform_head (Some (times (opnd.Ref (make_ref ((text, x.0.0), x.0.1)))))
 make_perform (Some (inl (text, Some (inr (inl x))))) = done (perform_range text (Some x.1.0) x.1.1)
 make_perform (Some (inl (text, Some (inr (inr l))))) = done (perform_range text None (Some l))
 make_perform (Some (inr (inl x))) = perform_head (Some (times (opnd.Const x.0)))

@@ -75,12 +75,12 @@ abbrev pub aim_if : Bool → List Recv → Aim
 aim_if false rs = all_of rs
 aim_if true rs = one_of (item_of rs)
 
-abbrev pub aim_on : Bool → Reader Sign Aim
-aim_on true ts = recvs_at ts >>= λ x. Ok (aim_if (may_give x.0 && begins grammar (is Givings) x.1) x.0, x.1)
-aim_on false ts = lead const_of ts >>= λ x. Ok (one_of (opnd.Const x.0), x.1)
+abbrev pub aim_on : ℕ → Bool → Reader Sign Aim
+aim_on room true ts = recvs_at room ts >>= λ x. Ok (aim_if (may_give x.0 && begins grammar (is Givings) x.1) x.0, x.1)
+aim_on room false ts = lead const_of ts >>= λ x. Ok (one_of (opnd.Const x.0), x.1)
 
-abbrev pub aim_at : Reader Sign Aim
-aim_at ts = aim_on (stands name_of ts) ts
+abbrev pub aim_at : ℕ → Reader Sign Aim
+aim_at room ts = aim_on room (stands name_of ts) ts
 
 abbrev pub plain_target : declared_target.Target → Target (List Recv)
 plain_target (target.Receivers rs) = receivers rs.items
@@ -97,8 +97,8 @@ make_ranged text (inr l) = done (perform_range text None (Some l))
 abbrev pub make_counted : Ref × Unit {0} → Head
 make_counted x = perform_head (Some (times (opnd.Ref x.0)))
 
-abbrev pub counted_at : Reader Sign Head
-counted_at = seen make_counted (follow ref_at (λ r. lead (the word.Times)))
+abbrev pub counted_at : ℕ → Reader Sign Head
+counted_at room = seen make_counted (follow (ref_at room) (λ r. lead (the word.Times)))
 
 -- ---- behind a condition of WHEN
 

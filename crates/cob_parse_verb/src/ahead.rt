@@ -9,7 +9,7 @@ ghost use Rattle.cob_parse_verb.specs.Procedure.{procedure};
 ghost use Rattle.cob_parse_verb.specs.Turning.{turns, follows_name};
 ghost use Rattle.cob_parse_verb.specs.VerbSteps.{loop_stands};
 
-use crate::token::{begins_constant, begins_mode, begins_name, begins_of};
+use crate::token::{begins_constant, begins_mode, begins_name, begins_of, begins_open};
 use cob_parse_expr::{Lexeme, stands};
 use cob_tree::Keyword;
 
@@ -78,12 +78,15 @@ pub fn loop_begins(lexemes: &[Lexeme]) -> bool
 pub fn name_goes_on(lexemes: &[Lexeme]) -> bool
     ensures { result ≡ begins procedure follows_name (signs lexemes.now) }
 {
-    begins_of(lexemes) || stands(Keyword::Thru, lexemes) || loop_begins(lexemes)
+    begins_of(lexemes)
+        || begins_open(lexemes)
+        || stands(Keyword::Thru, lexemes)
+        || loop_begins(lexemes)
 }
 
-/// Whether OF or TIMES stands here, behind a name that then is an operand.
+/// Whether OF, a subscript or TIMES stands here, behind a name that then is an operand.
 pub fn counts(lexemes: &[Lexeme]) -> bool
     ensures { result ≡ turns (signs lexemes.now) }
 {
-    stands(Keyword::Times, lexemes) || begins_of(lexemes)
+    stands(Keyword::Times, lexemes) || begins_of(lexemes) || begins_open(lexemes)
 }

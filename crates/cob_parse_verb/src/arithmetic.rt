@@ -236,18 +236,18 @@ fn summed(addends: Vec<Opnd>, giving: Vec<Recv>) -> Arithmetic
 }
 
 /// What stands behind ADD.
-pub fn add_in(alloc: Global, lexemes: &[Lexeme]) -> Result<(Arithmetic, &[Lexeme]), Halt>
-    ensures gives { Gives (λ x. (plain_arithmetic x.0, signs x.1.now)) result (add_at (signs lexemes.now)) }
+pub fn add_in(alloc: Global, lexemes: &[Lexeme], room: u32) -> Result<(Arithmetic, &[Lexeme]), Halt>
+    ensures gives { Gives (λ x. (plain_arithmetic x.0, signs x.1.now)) result (add_at room (signs lexemes.now)) }
     ensures rest { IfOk result (λ x. length x.1.now ≤ length lexemes.now) }
 {
-    let (addends, rest) = or_leave!(opnds_in(alloc, lexemes));
+    let (addends, rest) = or_leave!(opnds_in(alloc, lexemes, room));
     match behind(Keyword::To, rest) {
         Some(rest) => {
-            let (target, rest) = or_leave!(target_in(alloc, rest), addends);
+            let (target, rest) = or_leave!(target_in(alloc, rest, room), addends);
             Ok((added(addends, target), rest))
         }
         None => {
-            let (giving, rest) = or_leave!(giving_in(alloc, rest), addends);
+            let (giving, rest) = or_leave!(giving_in(alloc, rest, room), addends);
             Ok((summed(addends, giving), rest))
         }
     }
@@ -271,13 +271,17 @@ fn subtracted(less: Vec<Opnd>, target: Target) -> Arithmetic
 }
 
 /// What stands behind SUBTRACT.
-pub fn subtract_in(alloc: Global, lexemes: &[Lexeme]) -> Result<(Arithmetic, &[Lexeme]), Halt>
-    ensures gives { Gives (λ x. (plain_arithmetic x.0, signs x.1.now)) result (subtract_at (signs lexemes.now)) }
+pub fn subtract_in(
+    alloc: Global,
+    lexemes: &[Lexeme],
+    room: u32,
+) -> Result<(Arithmetic, &[Lexeme]), Halt>
+    ensures gives { Gives (λ x. (plain_arithmetic x.0, signs x.1.now)) result (subtract_at room (signs lexemes.now)) }
     ensures rest { IfOk result (λ x. length x.1.now ≤ length lexemes.now) }
 {
-    let (less, rest) = or_leave!(opnds_in(alloc, lexemes));
+    let (less, rest) = or_leave!(opnds_in(alloc, lexemes, room));
     let rest = or_leave!(expect(Keyword::From, rest), less);
-    let (target, rest) = or_leave!(target_in(alloc, rest), less);
+    let (target, rest) = or_leave!(target_in(alloc, rest, room), less);
     Ok((subtracted(less, target), rest))
 }
 
@@ -298,13 +302,17 @@ fn multiplied(factor: Opnd, target: Target) -> Arithmetic
 }
 
 /// What stands behind MULTIPLY.
-pub fn multiply_in(alloc: Global, lexemes: &[Lexeme]) -> Result<(Arithmetic, &[Lexeme]), Halt>
-    ensures gives { Gives (λ x. (plain_arithmetic x.0, signs x.1.now)) result (multiply_at (signs lexemes.now)) }
+pub fn multiply_in(
+    alloc: Global,
+    lexemes: &[Lexeme],
+    room: u32,
+) -> Result<(Arithmetic, &[Lexeme]), Halt>
+    ensures gives { Gives (λ x. (plain_arithmetic x.0, signs x.1.now)) result (multiply_at room (signs lexemes.now)) }
     ensures rest { IfOk result (λ x. length x.1.now ≤ length lexemes.now) }
 {
-    let (factor, rest) = or_leave!(opnd_in(alloc, lexemes));
+    let (factor, rest) = or_leave!(opnd_in(alloc, lexemes, room));
     let rest = or_leave!(expect(Keyword::By, rest), factor);
-    let (target, rest) = or_leave!(target_in(alloc, rest), factor);
+    let (target, rest) = or_leave!(target_in(alloc, rest, room), factor);
     Ok((multiplied(factor, target), rest))
 }
 
@@ -340,16 +348,17 @@ fn divide_into_in(
     alloc: Global,
     divisor: Opnd,
     lexemes: &[Lexeme],
+    room: u32,
 ) -> Result<(Arithmetic, &[Lexeme]), Halt>
-    ensures gives { Gives (λ x. (plain_arithmetic x.0, signs x.1.now)) result (seen (λ t. make_divide (divisor, inl (tt, t))) (target_at given_at) (signs lexemes.now)) }
+    ensures gives { Gives (λ x. (plain_arithmetic x.0, signs x.1.now)) result (seen (λ t. make_divide (divisor, inl (tt, t))) (target_at room (given_at room)) (signs lexemes.now)) }
     ensures rest { IfOk result (λ x. length x.1.now ≤ length lexemes.now) }
 {
-    let (aim, rest) = or_leave!(aim_in(alloc, lexemes), divisor);
+    let (aim, rest) = or_leave!(aim_in(alloc, lexemes, room), divisor);
     match aim {
         Aim::Receivers(into) => Ok((divided_into(divisor, into), rest)),
         Aim::Operand(second) => {
             let (giving, remainder, rest) = or_leave!(
-                giving_remainder_in(alloc, rest),
+                giving_remainder_in(alloc, rest, room),
                 divisor,
                 second
             );
@@ -363,25 +372,34 @@ fn divide_by_in(
     alloc: Global,
     first: Opnd,
     lexemes: &[Lexeme],
+    room: u32,
 ) -> Result<(Arithmetic, &[Lexeme]), Halt>
-    ensures gives { Gives (λ x. (plain_arithmetic x.0, signs x.1.now)) result (seen (λ p. make_divide (first, inr p)) by_part (signs lexemes.now)) }
+    ensures gives { Gives (λ x. (plain_arithmetic x.0, signs x.1.now)) result (seen (λ p. make_divide (first, inr p)) (by_part room) (signs lexemes.now)) }
     ensures rest { IfOk result (λ x. length x.1.now ≤ length lexemes.now) }
 {
     let rest = or_leave!(expect(Keyword::By, lexemes), first);
-    let (second, rest) = or_leave!(opnd_in(alloc, rest), first);
-    let (giving, remainder, rest) = or_leave!(giving_remainder_in(alloc, rest), first, second);
+    let (second, rest) = or_leave!(opnd_in(alloc, rest, room), first);
+    let (giving, remainder, rest) = or_leave!(
+        giving_remainder_in(alloc, rest, room),
+        first,
+        second
+    );
     Ok((divided(first, Way::By, second, giving, remainder), rest))
 }
 
 /// What stands behind DIVIDE.
-pub fn divide_in(alloc: Global, lexemes: &[Lexeme]) -> Result<(Arithmetic, &[Lexeme]), Halt>
-    ensures gives { Gives (λ x. (plain_arithmetic x.0, signs x.1.now)) result (divide_at (signs lexemes.now)) }
+pub fn divide_in(
+    alloc: Global,
+    lexemes: &[Lexeme],
+    room: u32,
+) -> Result<(Arithmetic, &[Lexeme]), Halt>
+    ensures gives { Gives (λ x. (plain_arithmetic x.0, signs x.1.now)) result (divide_at room (signs lexemes.now)) }
     ensures rest { IfOk result (λ x. length x.1.now ≤ length lexemes.now) }
 {
-    let (first, rest) = or_leave!(opnd_in(alloc, lexemes));
+    let (first, rest) = or_leave!(opnd_in(alloc, lexemes, room));
     match behind(Keyword::Into, rest) {
-        Some(rest) => divide_into_in(alloc, first, rest),
-        None => divide_by_in(alloc, first, rest),
+        Some(rest) => divide_into_in(alloc, first, rest, room),
+        None => divide_by_in(alloc, first, rest, room),
     }
 }
 
@@ -394,7 +412,7 @@ pub fn compute_in(
     ensures gives { Gives (λ x. (plain_arithmetic x.0, signs x.1.now)) result (compute_at room (signs lexemes.now)) }
     ensures rest { IfOk result (λ x. length x.1.now ≤ length lexemes.now) }
 {
-    let (to, rest) = or_leave!(recvs_in(alloc, lexemes));
+    let (to, rest) = or_leave!(recvs_in(alloc, lexemes, room));
     let rest = or_leave!(expect_equal(rest), to);
     let (value, rest) = or_leave!(expr_in(alloc, rest, room), to);
     let to = Many::of(to);

@@ -45,39 +45,51 @@ fn if_in(alloc: Global, lexemes: &[Lexeme], room: u32) -> Result<(Head, bool, &[
 
 // The arithmetic statements as heads.
 
-fn add_head(alloc: Global, lexemes: &[Lexeme]) -> Result<(Head, bool, &[Lexeme]), Halt>
-    ensures gives { Gives (λ x. (plain_head x.0, signs x.2.now)) result (seen arithmetic add_at (signs lexemes.now)) }
+fn add_head(alloc: Global, lexemes: &[Lexeme], room: u32) -> Result<(Head, bool, &[Lexeme]), Halt>
+    ensures gives { Gives (λ x. (plain_head x.0, signs x.2.now)) result (seen arithmetic (add_at room) (signs lexemes.now)) }
     ensures takes { IfOk result (λ x. x.1 ≡ takes_behind (plain_head x.0) NotRelates) }
     ensures rest { IfOk result (λ x. length x.2.now ≤ length lexemes.now) }
 {
-    let (sum, rest) = or_leave!(add_in(alloc, lexemes));
+    let (sum, rest) = or_leave!(add_in(alloc, lexemes, room));
     Ok((Head::Arithmetic(sum), false, rest))
 }
 
-fn subtract_head(alloc: Global, lexemes: &[Lexeme]) -> Result<(Head, bool, &[Lexeme]), Halt>
-    ensures gives { Gives (λ x. (plain_head x.0, signs x.2.now)) result (seen arithmetic subtract_at (signs lexemes.now)) }
+fn subtract_head(
+    alloc: Global,
+    lexemes: &[Lexeme],
+    room: u32,
+) -> Result<(Head, bool, &[Lexeme]), Halt>
+    ensures gives { Gives (λ x. (plain_head x.0, signs x.2.now)) result (seen arithmetic (subtract_at room) (signs lexemes.now)) }
     ensures takes { IfOk result (λ x. x.1 ≡ takes_behind (plain_head x.0) NotRelates) }
     ensures rest { IfOk result (λ x. length x.2.now ≤ length lexemes.now) }
 {
-    let (sum, rest) = or_leave!(subtract_in(alloc, lexemes));
+    let (sum, rest) = or_leave!(subtract_in(alloc, lexemes, room));
     Ok((Head::Arithmetic(sum), false, rest))
 }
 
-fn multiply_head(alloc: Global, lexemes: &[Lexeme]) -> Result<(Head, bool, &[Lexeme]), Halt>
-    ensures gives { Gives (λ x. (plain_head x.0, signs x.2.now)) result (seen arithmetic multiply_at (signs lexemes.now)) }
+fn multiply_head(
+    alloc: Global,
+    lexemes: &[Lexeme],
+    room: u32,
+) -> Result<(Head, bool, &[Lexeme]), Halt>
+    ensures gives { Gives (λ x. (plain_head x.0, signs x.2.now)) result (seen arithmetic (multiply_at room) (signs lexemes.now)) }
     ensures takes { IfOk result (λ x. x.1 ≡ takes_behind (plain_head x.0) NotRelates) }
     ensures rest { IfOk result (λ x. length x.2.now ≤ length lexemes.now) }
 {
-    let (sum, rest) = or_leave!(multiply_in(alloc, lexemes));
+    let (sum, rest) = or_leave!(multiply_in(alloc, lexemes, room));
     Ok((Head::Arithmetic(sum), false, rest))
 }
 
-fn divide_head(alloc: Global, lexemes: &[Lexeme]) -> Result<(Head, bool, &[Lexeme]), Halt>
-    ensures gives { Gives (λ x. (plain_head x.0, signs x.2.now)) result (seen arithmetic divide_at (signs lexemes.now)) }
+fn divide_head(
+    alloc: Global,
+    lexemes: &[Lexeme],
+    room: u32,
+) -> Result<(Head, bool, &[Lexeme]), Halt>
+    ensures gives { Gives (λ x. (plain_head x.0, signs x.2.now)) result (seen arithmetic (divide_at room) (signs lexemes.now)) }
     ensures takes { IfOk result (λ x. x.1 ≡ takes_behind (plain_head x.0) NotRelates) }
     ensures rest { IfOk result (λ x. length x.2.now ≤ length lexemes.now) }
 {
-    let (sum, rest) = or_leave!(divide_in(alloc, lexemes));
+    let (sum, rest) = or_leave!(divide_in(alloc, lexemes, room));
     Ok((Head::Arithmetic(sum), false, rest))
 }
 
@@ -106,16 +118,16 @@ fn behind_in(
     ensures rest { IfOk result (λ x. length x.2.now ≤ length lexemes.now) }
 {
     match start {
-        Start::Move => move_in(alloc, lexemes),
+        Start::Move => move_in(alloc, lexemes, room),
         Start::Set => set_in(alloc, lexemes),
-        Start::Display => display_in(alloc, lexemes),
-        Start::Add => add_head(alloc, lexemes),
-        Start::Subtract => subtract_head(alloc, lexemes),
-        Start::Multiply => multiply_head(alloc, lexemes),
-        Start::Divide => divide_head(alloc, lexemes),
+        Start::Display => display_in(alloc, lexemes, room),
+        Start::Add => add_head(alloc, lexemes, room),
+        Start::Subtract => subtract_head(alloc, lexemes, room),
+        Start::Multiply => multiply_head(alloc, lexemes, room),
+        Start::Divide => divide_head(alloc, lexemes, room),
         Start::Compute => compute_head(alloc, lexemes, room),
         Start::If => if_in(alloc, lexemes, room),
-        Start::Evaluate => evaluate_in(alloc, lexemes),
+        Start::Evaluate => evaluate_in(alloc, lexemes, room),
         Start::Perform => perform_in(alloc, lexemes, room),
         Start::Go => go_in(alloc, lexemes),
         Start::Exit => exit_in(lexemes),
@@ -123,8 +135,8 @@ fn behind_in(
         Start::Stop => stop_in(lexemes),
         Start::Open => open_in(alloc, lexemes),
         Start::Close => close_in(alloc, lexemes),
-        Start::Read => read_in(alloc, lexemes),
-        Start::Write => write_in(alloc, lexemes),
+        Start::Read => read_in(alloc, lexemes, room),
+        Start::Write => write_in(alloc, lexemes, room),
     }
 }
 

@@ -9,7 +9,7 @@ use cob_parse_expr::{Halt, Lexeme, behind, name_at, opnd_in, ref_in};
 use cob_tree::{Keyword, Many, Name, OpenPhrase, Opnd, Recv, Ref};
 use std::alloc::Global;
 
-// Each list is the longest one of one or more in front.
+// Each list is the longest one of one or more in front, where so many parentheses may open.
 
 pub fn names_in(alloc: Global, lexemes: &[Lexeme]) -> Result<(Vec<Name>, &[Lexeme]), Halt>
     ensures gives { Gives (λ x. (x.0.items, signs x.1.now)) result (names_at (signs lexemes.now)) }
@@ -26,30 +26,34 @@ pub fn names_in(alloc: Global, lexemes: &[Lexeme]) -> Result<(Vec<Name>, &[Lexem
     Ok((names, left))
 }
 
-pub fn refs_in(alloc: Global, lexemes: &[Lexeme]) -> Result<(Vec<Ref>, &[Lexeme]), Halt>
-    ensures gives { Gives (λ x. (x.0.items, signs x.1.now)) result (refs_at (signs lexemes.now)) }
+pub fn refs_in(alloc: Global, lexemes: &[Lexeme], room: u32) -> Result<(Vec<Ref>, &[Lexeme]), Halt>
+    ensures gives { Gives (λ x. (x.0.items, signs x.1.now)) result (refs_at room (signs lexemes.now)) }
     ensures rest { IfOk result (λ x. length x.1.now ≤ length lexemes.now) }
 {
-    let (first, mut left) = or_leave!(ref_in(alloc, lexemes));
+    let (first, mut left) = or_leave!(ref_in(alloc, lexemes, room));
     let mut items = Vec::new(alloc);
     items.push(first)?;
     'items: while name_begins(left) {
-        let (item, after) = or_leave!(ref_in(alloc, left), items);
+        let (item, after) = or_leave!(ref_in(alloc, left, room), items);
         items.push(item)?;
         left = after;
     }
     Ok((items, left))
 }
 
-pub fn opnds_in(alloc: Global, lexemes: &[Lexeme]) -> Result<(Vec<Opnd>, &[Lexeme]), Halt>
-    ensures gives { Gives (λ x. (x.0.items, signs x.1.now)) result (opnds_at (signs lexemes.now)) }
+pub fn opnds_in(
+    alloc: Global,
+    lexemes: &[Lexeme],
+    room: u32,
+) -> Result<(Vec<Opnd>, &[Lexeme]), Halt>
+    ensures gives { Gives (λ x. (x.0.items, signs x.1.now)) result (opnds_at room (signs lexemes.now)) }
     ensures rest { IfOk result (λ x. length x.1.now ≤ length lexemes.now) }
 {
-    let (first, mut left) = or_leave!(opnd_in(alloc, lexemes));
+    let (first, mut left) = or_leave!(opnd_in(alloc, lexemes, room));
     let mut opnds = Vec::new(alloc);
     opnds.push(first)?;
     'opnds: while operand_begins(left) {
-        let (opnd, after) = or_leave!(opnd_in(alloc, left), opnds);
+        let (opnd, after) = or_leave!(opnd_in(alloc, left, room), opnds);
         opnds.push(opnd)?;
         left = after;
     }
@@ -57,11 +61,11 @@ pub fn opnds_in(alloc: Global, lexemes: &[Lexeme]) -> Result<(Vec<Opnd>, &[Lexem
 }
 
 // A receiver, with ROUNDED behind it or without.
-fn recv_in(alloc: Global, lexemes: &[Lexeme]) -> Result<(Recv, &[Lexeme]), Halt>
-    ensures gives { Gives (λ x. (x.0, signs x.1.now)) result (recv_at (signs lexemes.now)) }
+fn recv_in(alloc: Global, lexemes: &[Lexeme], room: u32) -> Result<(Recv, &[Lexeme]), Halt>
+    ensures gives { Gives (λ x. (x.0, signs x.1.now)) result (recv_at room (signs lexemes.now)) }
     ensures rest { IfOk result (λ x. length x.1.now < length lexemes.now) }
 {
-    let (item, rest) = or_leave!(ref_in(alloc, lexemes));
+    let (item, rest) = or_leave!(ref_in(alloc, lexemes, room));
     match behind(Keyword::Rounded, rest) {
         Some(rest) => Ok((
             Recv {
@@ -80,15 +84,19 @@ fn recv_in(alloc: Global, lexemes: &[Lexeme]) -> Result<(Recv, &[Lexeme]), Halt>
     }
 }
 
-pub fn recvs_in(alloc: Global, lexemes: &[Lexeme]) -> Result<(Vec<Recv>, &[Lexeme]), Halt>
-    ensures gives { Gives (λ x. (x.0.items, signs x.1.now)) result (recvs_at (signs lexemes.now)) }
+pub fn recvs_in(
+    alloc: Global,
+    lexemes: &[Lexeme],
+    room: u32,
+) -> Result<(Vec<Recv>, &[Lexeme]), Halt>
+    ensures gives { Gives (λ x. (x.0.items, signs x.1.now)) result (recvs_at room (signs lexemes.now)) }
     ensures rest { IfOk result (λ x. length x.1.now ≤ length lexemes.now) }
 {
-    let (first, mut left) = or_leave!(recv_in(alloc, lexemes));
+    let (first, mut left) = or_leave!(recv_in(alloc, lexemes, room));
     let mut recvs = Vec::new(alloc);
     recvs.push(first)?;
     'recvs: while name_begins(left) {
-        let (recv, after) = or_leave!(recv_in(alloc, left), recvs);
+        let (recv, after) = or_leave!(recv_in(alloc, left, room), recvs);
         recvs.push(recv)?;
         left = after;
     }

@@ -31,25 +31,25 @@ fn until(test: Option<TestPoint>, varying: Option<Varying>, cond: Cond) -> Loop
 }
 
 // An operand and TIMES.
-fn times_in(alloc: Global, lexemes: &[Lexeme]) -> Result<(Opnd, &[Lexeme]), Halt>
-    ensures gives { Gives (λ x. ((x.0, tt), signs x.1.now)) result (times_at (signs lexemes.now)) }
+fn times_in(alloc: Global, lexemes: &[Lexeme], room: u32) -> Result<(Opnd, &[Lexeme]), Halt>
+    ensures gives { Gives (λ x. ((x.0, tt), signs x.1.now)) result (times_at room (signs lexemes.now)) }
     ensures rest { IfOk result (λ x. length x.1.now ≤ length lexemes.now) }
 {
-    let (count, rest) = or_leave!(opnd_in(alloc, lexemes));
+    let (count, rest) = or_leave!(opnd_in(alloc, lexemes, room));
     let rest = or_leave!(expect(Keyword::Times, rest), count);
     Ok((count, rest))
 }
 
 // What stands behind VARYING.
-fn varying_in(alloc: Global, lexemes: &[Lexeme]) -> Result<(Varying, &[Lexeme]), Halt>
-    ensures gives { Gives (λ x. (x.0, signs x.1.now)) result (varying_at (signs lexemes.now)) }
+fn varying_in(alloc: Global, lexemes: &[Lexeme], room: u32) -> Result<(Varying, &[Lexeme]), Halt>
+    ensures gives { Gives (λ x. (x.0, signs x.1.now)) result (varying_at room (signs lexemes.now)) }
     ensures rest { IfOk result (λ x. length x.1.now ≤ length lexemes.now) }
 {
-    let (item, rest) = or_leave!(ref_in(alloc, lexemes));
+    let (item, rest) = or_leave!(ref_in(alloc, lexemes, room));
     let rest = or_leave!(expect(Keyword::From, rest), item);
-    let (from, rest) = or_leave!(opnd_in(alloc, rest), item);
+    let (from, rest) = or_leave!(opnd_in(alloc, rest, room), item);
     let rest = or_leave!(expect(Keyword::By, rest), item, from);
-    let (by, rest) = or_leave!(opnd_in(alloc, rest), item, from);
+    let (by, rest) = or_leave!(opnd_in(alloc, rest, room), item, from);
     Ok((Varying { item, from, by }, rest))
 }
 
@@ -74,7 +74,7 @@ fn varied_in(
 {
     match behind(Keyword::Varying, lexemes) {
         Some(rest) => {
-            let (varying, rest) = or_leave!(varying_in(alloc, rest));
+            let (varying, rest) = or_leave!(varying_in(alloc, rest, room));
             let (cond, takes_not, rest) = or_leave!(until_in(alloc, rest, room), varying);
             Ok((Some(varying), cond, takes_not, rest))
         }
@@ -120,7 +120,7 @@ pub fn loop_in(
     ensures rest { IfOk result (λ x. length x.2.now ≤ length lexemes.now) }
 {
     if operand_begins(lexemes) {
-        let (count, rest) = or_leave!(times_in(alloc, lexemes));
+        let (count, rest) = or_leave!(times_in(alloc, lexemes, room));
         Ok((times(count), false, rest))
     } else {
         tested_in(alloc, lexemes, room)

@@ -26,12 +26,12 @@ fn range(first: Name, thru: Option<Name>, turns: Option<Loop>) -> Head
 }
 
 // An item and TIMES.
-fn counted_in(alloc: Global, lexemes: &[Lexeme]) -> Result<(Head, bool, &[Lexeme]), Halt>
-    ensures gives { Gives (λ x. (plain_head x.0, signs x.2.now)) result (counted_at (signs lexemes.now)) }
+fn counted_in(alloc: Global, lexemes: &[Lexeme], room: u32) -> Result<(Head, bool, &[Lexeme]), Halt>
+    ensures gives { Gives (λ x. (plain_head x.0, signs x.2.now)) result (counted_at room (signs lexemes.now)) }
     ensures takes { IfOk result (λ x. x.1 ≡ takes_behind (plain_head x.0) NotRelates) }
     ensures rest { IfOk result (λ x. length x.2.now ≤ length lexemes.now) }
 {
-    let (item, rest) = or_leave!(ref_in(alloc, lexemes));
+    let (item, rest) = or_leave!(ref_in(alloc, lexemes, room));
     let rest = or_leave!(expect(Keyword::Times, rest), item);
     Ok((Head::Perform(Some(times(Opnd::Ref(item)))), false, rest))
 }
@@ -77,7 +77,7 @@ fn ranged_in(
     }
 }
 
-// What begins with a name: a range, unless OF or TIMES makes the name an operand.
+// What begins with a name: a range, unless OF, a subscript or TIMES makes the name an operand.
 fn named_in(alloc: Global, lexemes: &[Lexeme], room: u32) -> Result<(Head, bool, &[Lexeme]), Halt>
     ensures gives { Gives (λ x. (plain_head x.0, signs x.2.now)) result (seen (λ x. make_perform (Some (inl x))) (named_at room) (signs lexemes.now)) }
     ensures takes { IfOk result (λ x. x.1 ≡ takes_behind (plain_head x.0) NotRelates) }
@@ -89,7 +89,7 @@ fn named_in(alloc: Global, lexemes: &[Lexeme], room: u32) -> Result<(Head, bool,
     }
     if counts(rest) {
         drop(name);
-        counted_in(alloc, lexemes)
+        counted_in(alloc, lexemes, room)
     } else {
         ranged_in(alloc, name, rest, room)
     }

@@ -32,15 +32,19 @@ fn choice(cond: Cond) -> Sel
 }
 
 /// What EVALUATE looks at.
-pub fn evaluate_in(alloc: Global, lexemes: &[Lexeme]) -> Result<(Head, bool, &[Lexeme]), Halt>
-    ensures gives { Gives (λ x. (plain_head x.0, signs x.2.now)) result (evaluate_at (signs lexemes.now)) }
+pub fn evaluate_in(
+    alloc: Global,
+    lexemes: &[Lexeme],
+    room: u32,
+) -> Result<(Head, bool, &[Lexeme]), Halt>
+    ensures gives { Gives (λ x. (plain_head x.0, signs x.2.now)) result (evaluate_at room (signs lexemes.now)) }
     ensures takes { IfOk result (λ x. x.1 ≡ takes_behind (plain_head x.0) NotRelates) }
     ensures rest { IfOk result (λ x. length x.2.now ≤ length lexemes.now) }
 {
     match behind(Keyword::True, lexemes) {
         Some(rest) => Ok((Head::Evaluate(Subject::True), false, rest)),
         None => {
-            let (item, rest) = or_leave!(ref_in(alloc, lexemes));
+            let (item, rest) = or_leave!(ref_in(alloc, lexemes, room));
             Ok((Head::Evaluate(Subject::Ref(item)), false, rest))
         }
     }

@@ -79,14 +79,18 @@ fn write(item: Ref, from: Option<Opnd>, ended: bool) -> Head
     })
 }
 
-pub fn move_in(alloc: Global, lexemes: &[Lexeme]) -> Result<(Head, bool, &[Lexeme]), Halt>
-    ensures gives { Gives (λ x. (plain_head x.0, signs x.2.now)) result (move_at (signs lexemes.now)) }
+pub fn move_in(
+    alloc: Global,
+    lexemes: &[Lexeme],
+    room: u32,
+) -> Result<(Head, bool, &[Lexeme]), Halt>
+    ensures gives { Gives (λ x. (plain_head x.0, signs x.2.now)) result (move_at room (signs lexemes.now)) }
     ensures takes { IfOk result (λ x. x.1 ≡ takes_behind (plain_head x.0) NotRelates) }
     ensures rest { IfOk result (λ x. length x.2.now ≤ length lexemes.now) }
 {
-    let (from, rest) = or_leave!(opnd_in(alloc, lexemes));
+    let (from, rest) = or_leave!(opnd_in(alloc, lexemes, room));
     let rest = or_leave!(expect(Keyword::To, rest), from);
-    let (to, rest) = or_leave!(refs_in(alloc, rest), from);
+    let (to, rest) = or_leave!(refs_in(alloc, rest, room), from);
     Ok((moved(from, Many::of(to)), false, rest))
 }
 
@@ -103,12 +107,16 @@ pub fn set_in(alloc: Global, lexemes: &[Lexeme]) -> Result<(Head, bool, &[Lexeme
 }
 
 #[tactic(auto, using(crate::proofs::VerbLemmas::display_never))]
-pub fn display_in(alloc: Global, lexemes: &[Lexeme]) -> Result<(Head, bool, &[Lexeme]), Halt>
-    ensures gives { Gives (λ x. (plain_head x.0, signs x.2.now)) result (display_at (signs lexemes.now)) }
+pub fn display_in(
+    alloc: Global,
+    lexemes: &[Lexeme],
+    room: u32,
+) -> Result<(Head, bool, &[Lexeme]), Halt>
+    ensures gives { Gives (λ x. (plain_head x.0, signs x.2.now)) result (display_at room (signs lexemes.now)) }
     ensures takes { IfOk result (λ x. x.1 ≡ takes_behind (plain_head x.0) NotRelates) }
     ensures rest { IfOk result (λ x. length x.2.now ≤ length lexemes.now) }
 {
-    let (operands, rest) = or_leave!(opnds_in(alloc, lexemes));
+    let (operands, rest) = or_leave!(opnds_in(alloc, lexemes, room));
     Ok((display(Many::of(operands)), false, rest))
 }
 
@@ -167,26 +175,34 @@ pub fn close_in(alloc: Global, lexemes: &[Lexeme]) -> Result<(Head, bool, &[Lexe
 }
 
 // A record, with FROM or without.
-fn written_in(alloc: Global, lexemes: &[Lexeme]) -> Result<(Ref, Option<Opnd>, &[Lexeme]), Halt>
-    ensures gives { Gives (λ x. ((x.0, x.1), signs x.2.now)) result (written_at (signs lexemes.now)) }
+fn written_in(
+    alloc: Global,
+    lexemes: &[Lexeme],
+    room: u32,
+) -> Result<(Ref, Option<Opnd>, &[Lexeme]), Halt>
+    ensures gives { Gives (λ x. ((x.0, x.1), signs x.2.now)) result (written_at room (signs lexemes.now)) }
     ensures rest { IfOk result (λ x. length x.2.now ≤ length lexemes.now) }
 {
-    let (item, rest) = or_leave!(ref_in(alloc, lexemes));
+    let (item, rest) = or_leave!(ref_in(alloc, lexemes, room));
     match behind(Keyword::From, rest) {
         Some(rest) => {
-            let (from, rest) = or_leave!(opnd_in(alloc, rest), item);
+            let (from, rest) = or_leave!(opnd_in(alloc, rest, room), item);
             Ok((item, Some(from), rest))
         }
         None => Ok((item, None, rest)),
     }
 }
 
-pub fn write_in(alloc: Global, lexemes: &[Lexeme]) -> Result<(Head, bool, &[Lexeme]), Halt>
-    ensures gives { Gives (λ x. (plain_head x.0, signs x.2.now)) result (write_at (signs lexemes.now)) }
+pub fn write_in(
+    alloc: Global,
+    lexemes: &[Lexeme],
+    room: u32,
+) -> Result<(Head, bool, &[Lexeme]), Halt>
+    ensures gives { Gives (λ x. (plain_head x.0, signs x.2.now)) result (write_at room (signs lexemes.now)) }
     ensures takes { IfOk result (λ x. x.1 ≡ takes_behind (plain_head x.0) NotRelates) }
     ensures rest { IfOk result (λ x. length x.2.now ≤ length lexemes.now) }
 {
-    let (item, from, rest) = or_leave!(written_in(alloc, lexemes));
+    let (item, from, rest) = or_leave!(written_in(alloc, lexemes, room));
     match behind(Keyword::EndWrite, rest) {
         Some(rest) => Ok((write(item, from, true), false, rest)),
         None => Ok((write(item, from, false), false, rest)),
@@ -194,15 +210,19 @@ pub fn write_in(alloc: Global, lexemes: &[Lexeme]) -> Result<(Head, bool, &[Lexe
 }
 
 /// The file of a READ, with INTO or without.
-pub fn read_in(alloc: Global, lexemes: &[Lexeme]) -> Result<(Head, bool, &[Lexeme]), Halt>
-    ensures gives { Gives (λ x. (plain_head x.0, signs x.2.now)) result (read_at (signs lexemes.now)) }
+pub fn read_in(
+    alloc: Global,
+    lexemes: &[Lexeme],
+    room: u32,
+) -> Result<(Head, bool, &[Lexeme]), Halt>
+    ensures gives { Gives (λ x. (plain_head x.0, signs x.2.now)) result (read_at room (signs lexemes.now)) }
     ensures takes { IfOk result (λ x. x.1 ≡ takes_behind (plain_head x.0) NotRelates) }
     ensures rest { IfOk result (λ x. length x.2.now ≤ length lexemes.now) }
 {
     let (file, rest) = or_leave!(name_at(alloc, lexemes));
     match behind(Keyword::Into, rest) {
         Some(rest) => {
-            let (into, rest) = or_leave!(ref_in(alloc, rest), file);
+            let (into, rest) = or_leave!(ref_in(alloc, rest, room), file);
             let into = Some(into);
             Ok((Head::Read { file, into }, false, rest))
         }

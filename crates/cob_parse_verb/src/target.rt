@@ -52,12 +52,12 @@ fn aimed(recvs: Vec<Recv>, given: bool) -> Aim
 }
 
 /// Receivers, or an operand: a constant, or one item with GIVING behind it.
-pub fn aim_in(alloc: Global, lexemes: &[Lexeme]) -> Result<(Aim, &[Lexeme]), Halt>
-    ensures gives { Gives (λ x. (plain_aim x.0, signs x.1.now)) result (aim_at (signs lexemes.now)) }
+pub fn aim_in(alloc: Global, lexemes: &[Lexeme], room: u32) -> Result<(Aim, &[Lexeme]), Halt>
+    ensures gives { Gives (λ x. (plain_aim x.0, signs x.1.now)) result (aim_at room (signs lexemes.now)) }
     ensures rest { IfOk result (λ x. length x.1.now ≤ length lexemes.now) }
 {
     if begins_name(lexemes) {
-        let (recvs, rest) = or_leave!(recvs_in(alloc, lexemes));
+        let (recvs, rest) = or_leave!(recvs_in(alloc, lexemes, room));
         Ok((aimed(recvs, giving_begins(rest)), rest))
     } else {
         let (constant, rest) = or_leave!(const_at(alloc, lexemes));
@@ -66,23 +66,31 @@ pub fn aim_in(alloc: Global, lexemes: &[Lexeme]) -> Result<(Aim, &[Lexeme]), Hal
 }
 
 /// GIVING and receivers.
-pub fn giving_in(alloc: Global, lexemes: &[Lexeme]) -> Result<(Vec<Recv>, &[Lexeme]), Halt>
-    ensures gives { Gives (λ x. ((tt, x.0.items), signs x.1.now)) result (giving_at recvs_at (signs lexemes.now)) }
+pub fn giving_in(
+    alloc: Global,
+    lexemes: &[Lexeme],
+    room: u32,
+) -> Result<(Vec<Recv>, &[Lexeme]), Halt>
+    ensures gives { Gives (λ x. ((tt, x.0.items), signs x.1.now)) result (giving_at (recvs_at room) (signs lexemes.now)) }
     ensures rest { IfOk result (λ x. length x.1.now ≤ length lexemes.now) }
 {
     let rest = or_leave!(expect(Keyword::Giving, lexemes));
-    recvs_in(alloc, rest)
+    recvs_in(alloc, rest, room)
 }
 
 // Receivers, with REMAINDER or without.
-fn given_in(alloc: Global, lexemes: &[Lexeme]) -> Result<(Vec<Recv>, Option<Ref>, &[Lexeme]), Halt>
-    ensures gives { Gives (λ x. ((x.0.items, x.1), signs x.2.now)) result (given_at (signs lexemes.now)) }
+fn given_in(
+    alloc: Global,
+    lexemes: &[Lexeme],
+    room: u32,
+) -> Result<(Vec<Recv>, Option<Ref>, &[Lexeme]), Halt>
+    ensures gives { Gives (λ x. ((x.0.items, x.1), signs x.2.now)) result (given_at room (signs lexemes.now)) }
     ensures rest { IfOk result (λ x. length x.2.now ≤ length lexemes.now) }
 {
-    let (recvs, rest) = or_leave!(recvs_in(alloc, lexemes));
+    let (recvs, rest) = or_leave!(recvs_in(alloc, lexemes, room));
     match behind(Keyword::Remainder, rest) {
         Some(rest) => {
-            let (item, rest) = or_leave!(ref_in(alloc, rest), recvs);
+            let (item, rest) = or_leave!(ref_in(alloc, rest, room), recvs);
             Ok((recvs, Some(item), rest))
         }
         None => Ok((recvs, None, rest)),
@@ -93,24 +101,25 @@ fn given_in(alloc: Global, lexemes: &[Lexeme]) -> Result<(Vec<Recv>, Option<Ref>
 pub fn giving_remainder_in(
     alloc: Global,
     lexemes: &[Lexeme],
+    room: u32,
 ) -> Result<(Vec<Recv>, Option<Ref>, &[Lexeme]), Halt>
-    ensures gives { Gives (λ x. ((tt, (x.0.items, x.1)), signs x.2.now)) result (giving_at given_at (signs lexemes.now)) }
+    ensures gives { Gives (λ x. ((tt, (x.0.items, x.1)), signs x.2.now)) result (giving_at (given_at room) (signs lexemes.now)) }
     ensures rest { IfOk result (λ x. length x.2.now ≤ length lexemes.now) }
 {
     let rest = or_leave!(expect(Keyword::Giving, lexemes));
-    given_in(alloc, rest)
+    given_in(alloc, rest, room)
 }
 
 /// Receivers, or an operand and GIVING (ISO 1989:1985, the formats of ADD, SUBTRACT and MULTIPLY).
-pub fn target_in(alloc: Global, lexemes: &[Lexeme]) -> Result<(Target, &[Lexeme]), Halt>
-    ensures gives { Gives (λ x. (plain_target x.0, signs x.1.now)) result (target_at recvs_at (signs lexemes.now)) }
+pub fn target_in(alloc: Global, lexemes: &[Lexeme], room: u32) -> Result<(Target, &[Lexeme]), Halt>
+    ensures gives { Gives (λ x. (plain_target x.0, signs x.1.now)) result (target_at room (recvs_at room) (signs lexemes.now)) }
     ensures rest { IfOk result (λ x. length x.1.now ≤ length lexemes.now) }
 {
-    let (aim, rest) = or_leave!(aim_in(alloc, lexemes));
+    let (aim, rest) = or_leave!(aim_in(alloc, lexemes, room));
     match aim {
         Aim::Receivers(recvs) => Ok((Target::Receivers(recvs), rest)),
         Aim::Operand(opnd) => {
-            let (giving, rest) = or_leave!(giving_in(alloc, rest), opnd);
+            let (giving, rest) = or_leave!(giving_in(alloc, rest, room), opnd);
             Ok((Target::Giving(opnd, giving), rest))
         }
     }

@@ -4,7 +4,7 @@ ghost use Rattle.reading.specs.Readers.{lead, stands};
 ghost use Rattle.cob_parse_expr.specs.LexemeClasses.{word_symbol};
 ghost use Rattle.cob_parse_expr.specs.Lexemes.{plain_symbol};
 ghost use Rattle.cob_parse_expr.specs.Steps.{signs, Gives};
-ghost use Rattle.cob_parse_expr.specs.Classes.{name_of, const_of, of_key, of_of};
+ghost use Rattle.cob_parse_expr.specs.Classes.{name_of, const_of, of_key, of_of, mark_symbol, open_mark, open_of};
 ghost use Rattle.cob_parse_verb.specs.Words.{mode_key, mode_of, test_point_key, test_point_of, equal_symbol, equal_of, start_key, begin_of};
 
 use crate::word::{Begin, Start, start_of};
@@ -68,6 +68,12 @@ fn is_of(symbol: &Symbol) -> bool
     ensures { result ≡ is_some (word_symbol of_key (plain_symbol symbol.now)) }
 {
     matches!(symbol, Symbol::Key(Keyword::Of))
+}
+
+fn is_open(symbol: &Symbol) -> bool
+    ensures { result ≡ is_some (mark_symbol open_mark (plain_symbol symbol.now)) }
+{
+    matches!(symbol, Symbol::Mark(b'('))
 }
 
 /// The lexemes behind `=`, which has to stand first.
@@ -155,6 +161,16 @@ pub fn begins_of(lexemes: &[Lexeme]) -> bool
 {
     match next(lexemes) {
         Some((lexeme, _)) => is_of(&lexeme.symbol),
+        None => false,
+    }
+}
+
+/// Whether a parenthesis that opens stands first.
+pub fn begins_open(lexemes: &[Lexeme]) -> bool
+    ensures { result ≡ stands open_of (signs lexemes.now) }
+{
+    match next(lexemes) {
+        Some((lexeme, _)) => is_open(&lexeme.symbol),
         None => false,
     }
 }

@@ -1,6 +1,6 @@
 use Rattle.std.proofs.Common.{List, sym, subst, ◌∙◌, arith}
 use Rattle.cob_tree.specs.declared.front.Entry.{Entry}
-use Rattle.cob_parse_data.specs.Tokens.{number_symbol}
+use Rattle.cob_parse_expr.specs.LexemeClasses.{number_symbol}
 use Rattle.cob_parse_data.specs.Reading.{entry}
 use Rattle.cob_parse_data.proofs.ListLoop.{Kept, kept_start, kept_on, kept_end, kept_fail}
 use Rattle.cob_parse_data.proofs.entry.entries.Goals as goal

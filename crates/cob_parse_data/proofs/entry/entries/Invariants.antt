@@ -1,5 +1,5 @@
 use Rattle.std.proofs.Common.{◌≤◌, length}
-use Rattle.cob_parse_data.specs.Tokens.{number_symbol}
+use Rattle.cob_parse_expr.specs.LexemeClasses.{number_symbol}
 use Rattle.cob_parse_data.specs.Reading.{entry}
 use Rattle.cob_parse_data.proofs.ListLoop.{Kept}
 use Rattle.cob_parse_data.proofs.entry.entries.Given as goal

@@ -2,7 +2,7 @@ use Rattle.std.proofs.Common.{◌≡◌, ◌+◌, ◌*◌, ◌≤◌, length, ma
 use Rattle.cob_tree.specs.Cues.{Ands, Ors}
 use Rattle.cob_tree.specs.CondView.{plain_neg, plain_conj}
 use Rattle.cob_parse_expr.specs.Classes.{and_of, or_of}
-use Rattle.cob_parse_expr.specs.Reading.{group_at}
+use Rattle.cob_parse_expr.specs.Reading.{inner_at}
 use Rattle.cob_parse_expr.specs.CondReading.{paren_at, neg_with, conj_with}
 use Rattle.cob_parse_expr.specs.CondSteps.{last_neg, last_conj}
 use Rattle.cob_parse_expr.specs.Steps.{signs, behind_word}
@@ -41,7 +41,7 @@ decreases-paren l = 9 * l.room
 
 abbrev pub invariant-negs-negs : goal.invariant-negs-negs
 invariant-negs-negs l = record {
-  goes : Goes Ands and_of (neg_with (paren_at l.room) (group_at l.room)) (map behind_word (map plain_neg l.negs.items)) (signs l.left) (signs l.lexemes);
+  goes : Goes Ands and_of (neg_with (paren_at l.room) (inner_at l.room)) (map behind_word (map plain_neg l.negs.items)) (signs l.left) (signs l.lexemes);
   shorter : length l.left ≤ length l.lexemes;
   takes : l.takes_not ≡ last_neg l.before (map plain_neg l.negs.items);
 }
@@ -51,7 +51,7 @@ decreases-negs-negs l = length l.left
 
 abbrev pub invariant-conjs-conjs : goal.invariant-conjs-conjs
 invariant-conjs-conjs l = record {
-  goes : Goes Ors or_of (conj_with (paren_at l.room) (group_at l.room)) (map behind_word (map plain_conj l.conjs.items)) (signs l.left) (signs l.lexemes);
+  goes : Goes Ors or_of (conj_with (paren_at l.room) (inner_at l.room)) (map behind_word (map plain_conj l.conjs.items)) (signs l.left) (signs l.lexemes);
   shorter : length l.left ≤ length l.lexemes;
   takes : l.takes_not ≡ last_conj l.before (map plain_conj l.conjs.items);
 }

@@ -2,7 +2,7 @@ use Rattle.std.proofs.Common.{◌+◌, ◌*◌, ◌≤◌, length, map}
 use Rattle.cob_tree.specs.Cues.{Scales, Signs}
 use Rattle.cob_tree.specs.ExprView.{added, multiplied}
 use Rattle.cob_parse_expr.specs.Classes.{scaling_of, sign_of}
-use Rattle.cob_parse_expr.specs.Reading.{group_at, fact_with, term_with}
+use Rattle.cob_parse_expr.specs.Reading.{inner_at, fact_with, term_with}
 use Rattle.cob_parse_expr.specs.Steps.{signs}
 use Rattle.cob_parse_expr.proofs.Loop.{Goes}
 use Rattle.cob_parse_expr.proofs.expr.+expr.Given as goal
@@ -30,7 +30,7 @@ decreases-group l = 7 * l.room
 
 abbrev pub invariant-factors_in-factors : goal.invariant-factors_in-factors
 invariant-factors_in-factors l = record {
-  goes : Goes Scales scaling_of (fact_with (group_at l.room)) (map multiplied l.factors.items) (signs l.left) (signs l.lexemes);
+  goes : Goes Scales scaling_of (fact_with (inner_at l.room)) (map multiplied l.factors.items) (signs l.left) (signs l.lexemes);
   shorter : length l.left ≤ length l.lexemes;
 }
 
@@ -39,7 +39,7 @@ decreases-factors_in-factors l = length l.left
 
 abbrev pub invariant-summands_in-summands : goal.invariant-summands_in-summands
 invariant-summands_in-summands l = record {
-  goes : Goes Signs sign_of (term_with (group_at l.room)) (map added l.summands.items) (signs l.left) (signs l.lexemes);
+  goes : Goes Signs sign_of (term_with (inner_at l.room)) (map added l.summands.items) (signs l.left) (signs l.lexemes);
   shorter : length l.left ≤ length l.lexemes;
 }
 

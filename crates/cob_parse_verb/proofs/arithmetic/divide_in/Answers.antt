@@ -5,8 +5,8 @@ use Rattle.cob_parse_verb.proofs.arithmetic.divide_in.Goals as goal
 
 pub returns-in-Some-clause-gives : goal.returns-in-Some-clause-gives
 returns-in-Some-clause-gives c = gives_as _ c.divide_into_in.result _ _
-    (division_into (signs c.args.lexemes.now) (signs c.in-Ok.given.1.now) (signs c.in-Some.rest.now) c.in-Ok.given.0 c.in-Ok.ensures.gives c.in-Some.ensures.found) c.divide_into_in.ensures.gives
+    (division_into c.args.room (signs c.args.lexemes.now) (signs c.in-Ok.given.1.now) (signs c.in-Some.rest.now) c.in-Ok.given.0 c.in-Ok.ensures.gives c.in-Some.ensures.found) c.divide_into_in.ensures.gives
 
 pub returns-in-None-clause-gives : goal.returns-in-None-clause-gives
 returns-in-None-clause-gives c = gives_as _ c.divide_by_in.result _ _
-    (division_by (signs c.args.lexemes.now) (signs c.in-Ok.given.1.now) c.in-Ok.given.0 c.in-Ok.ensures.gives c.in-None.ensures.none) c.divide_by_in.ensures.gives
+    (division_by c.args.room (signs c.args.lexemes.now) (signs c.in-Ok.given.1.now) c.in-Ok.given.0 c.in-Ok.ensures.gives c.in-None.ensures.none) c.divide_by_in.ensures.gives

@@ -7,7 +7,7 @@ use Rattle.cob_parse_verb.proofs.list.opnds_in.Given as goal
 
 abbrev pub invariant-opnds : goal.invariant-opnds
 invariant-opnds l = record {
-  goes : Listing begins_opnd opnd_at l.opnds.items (signs l.left) (signs l.lexemes);
+  goes : Listing begins_opnd (opnd_at l.room) l.opnds.items (signs l.left) (signs l.lexemes);
   shorter : length l.left ≤ length l.lexemes;
 }
 

@@ -7,7 +7,7 @@ use Rattle.cob_parse_verb.proofs.list.recvs_in.Given as goal
 
 abbrev pub invariant-recvs : goal.invariant-recvs
 invariant-recvs l = record {
-  goes : Listing (is Names) recv_at l.recvs.items (signs l.left) (signs l.lexemes);
+  goes : Listing (is Names) (recv_at l.room) l.recvs.items (signs l.left) (signs l.lexemes);
   shorter : length l.left ≤ length l.lexemes;
 }
 

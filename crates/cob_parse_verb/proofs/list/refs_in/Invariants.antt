@@ -7,7 +7,7 @@ use Rattle.cob_parse_verb.proofs.list.refs_in.Given as goal
 
 abbrev pub invariant-items : goal.invariant-items
 invariant-items l = record {
-  goes : Listing (is Names) ref_at l.items.items (signs l.left) (signs l.lexemes);
+  goes : Listing (is Names) (ref_at l.room) l.items.items (signs l.left) (signs l.lexemes);
   shorter : length l.left ≤ length l.lexemes;
 }
 

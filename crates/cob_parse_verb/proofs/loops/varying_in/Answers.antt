@@ -23,4 +23,4 @@ pub returns-clause-rest : goal.returns-clause-rest
 returns-clause-rest c = omega (arith, c.in-Ok.ensures.rest, c.in-Ok-expect.ensures.rest, c.in-Ok-opnd_in.ensures.rest, c.in-Ok-expect-2.ensures.rest, c.in-Ok-opnd_in-2.ensures.rest)
 
 pub returns-clause-gives : goal.returns-clause-gives
-returns-clause-gives c = varying_read (signs c.args.lexemes.now) (signs c.in-Ok.given.1.now) (signs c.in-Ok-expect.given.now) (signs c.in-Ok-opnd_in.given.1.now) (signs c.in-Ok-expect-2.given.now) (signs c.in-Ok-opnd_in-2.given.1.now) c.in-Ok.given.0 c.in-Ok-opnd_in.given.0 c.in-Ok-opnd_in-2.given.0 c.in-Ok.ensures.gives c.in-Ok-expect.ensures.gives c.in-Ok-opnd_in.ensures.gives c.in-Ok-expect-2.ensures.gives c.in-Ok-opnd_in-2.ensures.gives
+returns-clause-gives c = varying_read c.args.room (signs c.args.lexemes.now) (signs c.in-Ok.given.1.now) (signs c.in-Ok-expect.given.now) (signs c.in-Ok-opnd_in.given.1.now) (signs c.in-Ok-expect-2.given.now) (signs c.in-Ok-opnd_in-2.given.1.now) c.in-Ok.given.0 c.in-Ok-opnd_in.given.0 c.in-Ok-opnd_in-2.given.0 c.in-Ok.ensures.gives c.in-Ok-expect.ensures.gives c.in-Ok-opnd_in.ensures.gives c.in-Ok-expect-2.ensures.gives c.in-Ok-opnd_in-2.ensures.gives
