@@ -21,3 +21,5 @@ pub mod OneAnswer
 pub mod Levels
 pub mod CondLemmas
 pub mod AloneLemmas
+mod GoesOn
+mod Once

@@ -28,15 +28,13 @@ use Rattle.reading.proofs.Choose.{choose_syntax, choose_law}
 use Rattle.reading.proofs.Must.{Ends, closed_law}
 use Rattle.reading.proofs.Full.{full_law}
 use Rattle.reading.proofs.Opt.{phrase_syntax, plain_law}
+use Rattle.cob_parse_expr.specs.Parsing.{ref_syntax}
 use Rattle.cob_parse_expr.specs.LexemeClasses.{name_symbol}
 use Rattle.cob_parse_expr.specs.Classes.{name_of, const_of, of_of, open_of, close_of}
 use Rattle.cob_parse_expr.specs.Reading.{here, qualifier_at, second, named_at, make_sub, inner_sub_at, sub_goes, inside_sub, sub_at, make_ref, ref_with, ref_at, make_opnd, opnd_with, opnd_at}
 use Rattle.cob_parse_expr.proofs.CueLemmas.{only, not_taken}
 use Rattle.cob_parse_expr.proofs.ClassLaws.{ofs, names, numbers, consts, opens, closes, of_told}
 use Rattle.cob_parse_expr.proofs.Generic.{tells_by_one, all_good}
-
-abbrev pub ref_syntax : ℕ → Syntax Item Cue Ref
-ref_syntax d = record { Good = Always; print = print_ref d; takes = takes_ref }
 
 abbrev pub const_syntax : ℕ → Syntax Item Cue Const
 const_syntax d = record { Good = Always; print = print_const d; takes = takes_nothing }

@@ -5,8 +5,8 @@ use Rattle.reading.specs.Readers.{Fault, Stop, Deep, Reader}
 use Rattle.reading.specs.Printing.{Alphabet, Matches, Below, Next}
 use Rattle.reading.specs.Law.{Syntax, At, Law, Agrees}
 use Rattle.reading.specs.Outcome.{GoesOn, NoneReads, IsRead, Stops, OpensTooDeep}
-use Rattle.reading.proofs.Results.{ok_fails, fault_is}
-use Rattle.reading.proofs.Texts.{matches_join}
+use Rattle.reading.proofs.Results.{ok_is, ok_fails, fault_is}
+use Rattle.reading.proofs.Texts.{matches_join, below_left}
 use Rattle.reading.proofs.Consequences.{longest, one_tree, none_goes_on}
 
 module _ {T I M A : Type 0} {G : Alphabet T I M} {s : Syntax I M A} {R : Reader T A} {limit : ℕ} (L : Law G R s limit) where
@@ -53,6 +53,19 @@ module _ {T I M : Type 0} (G : Alphabet T I M) (spell : (i : I) → (t : T) × G
         let text = spelled (s.print a) in
         let below : Below G top (s.print a) = below_deepest top (s.print a) (omega arith) in
         one_tree (laws room top refl) text.0 a b text.1 good below (subst (λ (is : List I). Matches G is text.0) same text.1) good' (subst (Below G top) same below)
+
+    -- no tree's text is longer by what another doesn't take
+    pub no_longer : (a b : A) (more : List I) (tokens : List T) → s.Good a → s.Good b → s.print b ≡ s.print a ++ more → Matches G more tokens → Next G (s.takes a) tokens → tokens ≡ []
+    no_longer a b more tokens good good' parts spells next =
+        let room = deepest (s.print b) in
+        let top = suc (d + room) in
+        let text = spelled (s.print a) in
+        let below : Below G top (s.print b) = below_deepest top (s.print b) (omega arith) in
+        let whole : Matches G (s.print b) (text.0 ++ tokens) = subst (λ (is : List I). Matches G is (text.0 ++ tokens)) (sym parts) (matches_join G (s.print a) more text.0 tokens text.1 spells) in
+        let short : R room (text.0 ++ tokens) ≡ Ok (a, tokens) = (laws room top refl).complete a text.0 tokens text.1 good (below_left G top (s.print a) more (subst (Below G top) parts below)) next in
+        let long : R room ((text.0 ++ tokens) ++ []) ≡ Ok (b, []) = (laws room top refl).complete b (text.0 ++ tokens) [] whole good' below refl in
+        let both : (a, tokens) ≡ (b, []) = ok_is (a, tokens) (b, []) (sym short ∙ ap (R room) (sym (append-nil (text.0 ++ tokens))) ∙ long) in
+        ap (λ (z : A × List T). z.1) both
 
     module _ (wider : (room more : ℕ) → Agrees (R room) (R (room + more))) (room limit : ℕ) (e : limit ≡ suc (d + room)) where
       still : (more n : ℕ) (ts : List T) → R room ts ≡ Err (Stop n) → R (room + more) ts ≡ Err (Stop n)

@@ -1,5 +1,5 @@
 -- From what is read of lexemes to what is promised of tokens.
-use Rattle.std.proofs.Common.{◌≡◌, ℕ, zero, suc, ◌+◌, ◌-◌, ◌≤◌, List, [], ◌∷◌, ◌++◌, length, length-append, length-drop, drop, map, Option, Some, None, Result, Ok, Err, refl, sym, ap, subst, ◌∙◌, arith}
+use Rattle.std.proofs.Common.{◌≡◌, ℕ, zero, suc, ◌+◌, ◌-◌, ◌≤◌, ◌⊎◌, inl, inr, List, [], ◌∷◌, ◌++◌, length, length-append, length-drop, drop, map, Option, Some, None, Result, Ok, Err, refl, sym, ap, subst, ◌∙◌, arith}
 use Rattle.std.proofs.lemmas.List.{length-map}
 use Rattle.cob_tree.specs.declared.token.Token.{Token}
 use Rattle.cob_parse_expr.specs.declared.lexeme.Lexeme.{Lexeme}
@@ -18,7 +18,8 @@ use Rattle.cob_parse_expr.specs.Steps.{signs, Fails}
 use Rattle.cob_parse_expr.specs.declared.end.ParseEnd.TheVariants as end
 use Rattle.cob_parse_expr.proofs.PlaceLemmas.{rest_is}
 use Rattle.cob_parse_expr.specs.Places.{from, line_at, end_at}
-use Rattle.cob_parse_expr.specs.Parsing.{IsWrong}
+use Rattle.cob_parse_expr.specs.Parsing.{SomeRead, IsWrong}
+use Rattle.cob_parse_expr.specs.Laws.{OneAnswer}
 use Rattle.cob_parse_expr.proofs.Outcomes.{is_read, too_deep, stops}
 
 -- each item has a token
@@ -76,3 +77,22 @@ module _ {A : Type 0} (s : Syntax Item Cue A) (R : ℕ → Reader Sign A) (depth
   parse_within h n is f =
       let le = within law (signs lexemes) (Stop n) (subst Halts is f) in
       omega (arith, le, ap length same, length-map (drop old tokens) seen, length-drop old tokens)
+
+  -- Where some tree is read, nothing but memory halts the reader; and where none is, the end is the one that is told.
+  module _ (one : OneAnswer s 65 (from tokens old)) where
+    pub parse_accepted : (h : Halt) → Halts h → SomeRead s 65 tokens old → end_at tokens h ≡ end.Memory
+    parse_accepted halt.Memory f r = refl
+    parse_accepted (halt.Stop n) f r = let w = parse_wrong (halt.Stop n) (line_at tokens n) f refl in absurd (one.read_or_wrong r.tree r.rest w.left r.read w.stops)
+    parse_accepted (halt.Deep n) f r = absurd (one.read_or_deep r.tree r.rest r.read (parse_deep (halt.Deep n) 65 f refl).1)
+
+    pub parse_refused : (h : Halt) → Halts h → (line : ℕ) → IsWrong s 65 tokens old line → (end_at tokens h ≡ end.Syntax line) ⊎ (end_at tokens h ≡ end.Memory)
+    parse_refused halt.Memory f line w = inr refl
+    parse_refused (halt.Stop n) f line w =
+        let v = parse_wrong (halt.Stop n) (line_at tokens n) f refl in
+        inl (ap end.Syntax (v.line_is ∙ ap (λ (left : List Sign). line_at tokens (length left)) (one.wrong_once v.left w.left v.stops w.stops) ∙ sym w.line_is))
+    parse_refused (halt.Deep n) f line w = absurd (one.wrong_or_deep w.left w.stops (parse_deep (halt.Deep n) 65 f refl).1)
+
+    pub parse_too_deep : (h : Halt) → Halts h → OpensTooDeep grammar s 65 (from tokens old) → (end_at tokens h ≡ end.Deep 65) ⊎ (end_at tokens h ≡ end.Memory)
+    parse_too_deep halt.Memory f w = inr refl
+    parse_too_deep (halt.Stop n) f w = let v = parse_wrong (halt.Stop n) (line_at tokens n) f refl in absurd (one.wrong_or_deep v.left v.stops w)
+    parse_too_deep (halt.Deep n) f w = inl refl

@@ -41,7 +41,9 @@ pub use cond::cond_in;
 pub use end::ParseEnd;
 pub use expr::{expr_in, fact_in, factors_in, group, summands_in};
 pub use halt::Halt;
-pub use laws::{one_answer_for_conds, one_answer_for_exprs, one_cond, one_expr};
+pub use laws::{
+    one_answer_for_conds, one_answer_for_exprs, one_cond, one_expr, takes_of_conds, takes_of_exprs, takes_of_refs,
+};
 pub use lexeme::{Lexeme, Symbol, lexemes};
 pub use operand::{const_at, name_at, opnd_in, ref_in};
 pub use other::{behind_stop, is_name, is_stop, name, number, number_at, stands_name, stop};

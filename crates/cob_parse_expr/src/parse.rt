@@ -5,7 +5,7 @@ ghost use Rattle.cob_tree.specs.CondView.{plain_cond};
 ghost use Rattle.reading.specs.Outcome.{IsRead, OpensTooDeep};
 ghost use Rattle.cob_parse_expr.specs.Places.{from};
 ghost use Rattle.cob_parse_expr.specs.Alphabet.{grammar};
-ghost use Rattle.cob_parse_expr.specs.Parsing.{expr_syntax, cond_syntax, IsWrong};
+ghost use Rattle.cob_parse_expr.specs.Parsing.{expr_syntax, cond_syntax, SomeRead, IsWrong, IsAccepted, IsRefused};
 
 use crate::cond::cond_in;
 use crate::end::ParseEnd;
@@ -30,6 +30,9 @@ pub fn expr_of(
     ensures stays { OnErr result (at.new ≡ at.old) }
     ensures syntax { (line : ℕ) → result ≡ Err (ParseEnd.Syntax line) → IsWrong (expr_syntax depth) 65 tokens.now at.old line }
     ensures deep { (count : ℕ) → result ≡ Err (ParseEnd.Deep count) → (count ≡ 65) × OpensTooDeep grammar (expr_syntax depth) 65 (from tokens.now at.old) }
+    ensures accepted { SomeRead (expr_syntax depth) 65 tokens.now at.old → IsAccepted result }
+    ensures refused { (line : ℕ) → IsWrong (expr_syntax depth) 65 tokens.now at.old line → IsRefused result (ParseEnd.Syntax line) }
+    ensures too_deep { OpensTooDeep grammar (expr_syntax depth) 65 (from tokens.now at.old) → IsRefused result (ParseEnd.Deep 65) }
 {
     let lexemes = lexemes_from(alloc, tokens, *at)?;
     match expr_in(alloc, lexemes.as_slice(), 64 - depth) {
@@ -57,6 +60,9 @@ pub fn cond_of(
     ensures stays { OnErr result (at.new ≡ at.old) }
     ensures syntax { (line : ℕ) → result ≡ Err (ParseEnd.Syntax line) → IsWrong (cond_syntax depth) 65 tokens.now at.old line }
     ensures deep { (count : ℕ) → result ≡ Err (ParseEnd.Deep count) → (count ≡ 65) × OpensTooDeep grammar (cond_syntax depth) 65 (from tokens.now at.old) }
+    ensures accepted { SomeRead (cond_syntax depth) 65 tokens.now at.old → IsAccepted result }
+    ensures refused { (line : ℕ) → IsWrong (cond_syntax depth) 65 tokens.now at.old line → IsRefused result (ParseEnd.Syntax line) }
+    ensures too_deep { OpensTooDeep grammar (cond_syntax depth) 65 (from tokens.now at.old) → IsRefused result (ParseEnd.Deep 65) }
 {
     let lexemes = lexemes_from(alloc, tokens, *at)?;
     match cond_in(alloc, lexemes.as_slice(), 64 - depth) {

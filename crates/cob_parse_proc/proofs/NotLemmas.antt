@@ -1,5 +1,7 @@
 -- What may go on with NOT.
 use Rattle.std.proofs.Common.{◌≡◌, ◌||◌, ◌&&◌, not, Bool, true, false, List, [], ◌∷◌, ◌++◌, Option, Some, None, refl, sym, ap, ◌∙◌}
+use Rattle.reading.proofs.Texts.{or_false}
+use Rattle.cob_tree.specs.declared.operand.Ref.{Ref}
 use Rattle.cob_tree.specs.declared.operand.Opnd.{Opnd}
 use Rattle.cob_tree.specs.declared.operand.Opnd.TheVariants as opnd
 use Rattle.cob_tree.specs.declared.stmt.Subject.{Subject}
@@ -11,9 +13,11 @@ use Rattle.cob_tree.specs.PrintExpr.{one_alone}
 use Rattle.cob_tree.specs.Cues.{Cue, is, NotRelates, NotTests, NotSize, NotAtEnd, Size, EndAdd, EndSubtract, EndMultiply, EndDivide, EndCompute}
 use Rattle.cob_tree.specs.Cues as cue
 use Rattle.cob_tree.specs.Stmt.{Sel, any, range, choice, Loop, times, until, Stmt, Verb, move, set, display, perform_range, go, exit, continue, stop_run, open_, close, write, if_, Stmts, stmts_of, Phrase, left_out, given, Tail, MkTail, whens_of, When}
-use Rattle.cob_tree.specs.Takes.{takes_opnds, takes_simple, takes_negs, takes_conjs, takes_cond, takes_thru, takes_sel, takes_loop, takes_stmts, takes_stmt, takes_phrase, takes_tail, takes_whens, takes_when, takes_verb}
-use Rattle.cob_parse_expr.proofs.ExprLaws.{expr_never}
+use Rattle.cob_tree.specs.Takes.{takes_ref, takes_opnd, takes_refs, takes_opnds, takes_simple, takes_negs, takes_conjs, takes_cond, takes_thru, takes_sel, takes_loop, takes_stmts, takes_stmt, takes_phrase, takes_tail, takes_whens, takes_when, takes_verb}
+use Rattle.cob_parse_expr.proofs.ExprLaws.{ref_never, expr_never}
 use Rattle.cob_parse_expr.proofs.CondLaws.{cond_never}
+use Rattle.cob_parse_verb.proofs.ListLaws.{opnd_never, refs_never}
+use Rattle.cob_parse_verb.proofs.TargetLaws.{opnds_never}
 use Rattle.cob_parse_verb.specs.Heads.{Arithmetic, add_to, add_giving, subtract_from, subtract_giving, multiply_by, multiply_giving, divide_into, divide_giving, compute, if_head, evaluate_head, perform_head, with_tail, verb_start, takes_done, takes_arithmetic, takes_behind}
 use Rattle.cob_parse_verb.specs.Listed.{takes_listed}
 use Rattle.cob_parse_proc.specs.StmtSteps.{may, phrase_may, tail_may}

@@ -3,6 +3,8 @@ use Rattle.std.proofs.Common.{◌≡◌, ℕ, suc, Bool, true, false, List, [], 
 use Rattle.cob_tree.specs.declared.keyword.Keyword.{Keyword}
 use Rattle.cob_tree.specs.declared.keyword.Keyword.TheVariants as word
 use Rattle.cob_tree.specs.declared.operand.Ref.{Ref}
+use Rattle.cob_tree.specs.declared.operand.Subscript.{Subscript}
+use Rattle.cob_tree.specs.declared.operand.Subscript.TheVariants as subscript
 use Rattle.cob_tree.specs.declared.operand.Recv.{Recv}
 use Rattle.cob_tree.specs.declared.operand.Opnd.{Opnd}
 use Rattle.cob_tree.specs.declared.operand.Opnd.TheVariants as opnd
@@ -11,12 +13,13 @@ use Rattle.cob_tree.specs.declared.stmt.Subject.{Subject}
 use Rattle.cob_tree.specs.declared.stmt.Subject.TheVariants as subject
 use Rattle.cob_tree.specs.declared.stmt.OpenPhrase.{OpenPhrase}
 use Rattle.cob_tree.specs.declared.stmt.Varying.{Varying}
-use Rattle.cob_tree.specs.Items.{Item, key, keys, name, word_if, behind, each}
+use Rattle.cob_tree.specs.Symbols.{Mark}
+use Rattle.cob_tree.specs.Items.{Item, item, key, keys, name, word_if, behind, each}
 use Rattle.cob_tree.specs.Expr.{Expr, MkExpr, Terms, no_terms, more_terms, Term, MkTerm, Facts, no_facts, more_facts, Fact, MkFact, Primary, operand, group}
 use Rattle.cob_tree.specs.Cond.{Cond, MkCond, Conjs, no_conjs, more_conjs, Conj, MkConj, Negs, no_negs, more_negs, Neg, MkNeg, Simple, parenthesised, relation, abbreviated, numeric, alone}
 use Rattle.cob_tree.specs.Cond as cond
 use Rattle.cob_tree.specs.Stmt.{Sel, any, range, choice, Loop, times, until}
-use Rattle.cob_tree.specs.PrintExpr.{print_qualifier, print_ref, print_opnd, print_recv, open_mark, close_mark, print_sign, print_scaling, print_sign_if, print_expr, print_terms, print_term, print_facts, print_fact, print_primary, print_not, print_relation, sign_word, print_cond, print_conj, print_conjs, print_neg, print_negs, print_simple}
+use Rattle.cob_tree.specs.PrintExpr.{print_qualifier, print_sub, print_sub_if, print_ref, print_opnd, print_recv, open_mark, close_mark, print_sign, print_scaling, print_sign_if, print_expr, print_terms, print_term, print_facts, print_fact, print_primary, print_not, print_relation, sign_word, print_cond, print_conj, print_conjs, print_neg, print_negs, print_simple}
 use Rattle.cob_tree.specs.PrintFront.{print_if}
 use Rattle.cob_tree.specs.PrintStmt.{print_opnds, print_recvs, print_refs, print_names, print_subject, print_sel, print_choice, mode_word, print_opens, print_test_point, print_varying, print_loop}
 
