@@ -13,3 +13,4 @@ pub mod Outcomes
 pub mod ParseLemmas
 pub mod LinesLaw
 pub mod GoesOn
+mod MaybeLemmas
