@@ -35,6 +35,12 @@ pub record IsRead (ts : List Sign) (f : Front) (rest : List Sign) : Type 0 where
   pub ends : Ends f rest
   pub longest : (g : Front) (text' rest' : List Sign) → ts ≡ text' ++ rest' → IsFront g text' → length rest ≤ length rest'
 
+-- a text of these divisions is read from a place on
+pub record SomeRead (tokens : List Token) (place : ℕ) : Type 0 where
+  pub front : Front
+  pub rest : List Sign
+  pub read : IsRead (from tokens place) front rest
+
 -- Nothing is read, and what is left is where nothing goes on: some text begins with the tokens before, and none with
 -- these and the next.
 pub record Stops (ts left : List Sign) : Type 0 where

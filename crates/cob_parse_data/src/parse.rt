@@ -2,7 +2,8 @@
 ghost use Rattle.std.specs.Prelude.{◌≡◌, ◌≤◌, ℕ, length, IfOk, OnErr, Err};
 ghost use Rattle.cob_parse_expr.specs.declared.end.ParseEnd.TheVariants as end;
 ghost use Rattle.cob_parse_expr.specs.Places.{from};
-ghost use Rattle.cob_parse_data.specs.Outcome.{IsRead, IsWrong};
+ghost use Rattle.cob_parse_expr.specs.Parsing.{IsAccepted, IsRefused};
+ghost use Rattle.cob_parse_data.specs.Outcome.{IsRead, SomeRead, IsWrong};
 
 use crate::front::front_in;
 use cob_parse_expr::{ParseEnd, end_at, lexemes_from};
@@ -20,6 +21,8 @@ pub fn front_of(alloc: Global, tokens: &[Token], at: &mut usize) -> Result<Front
     ensures stays { OnErr result (at.new ≡ at.old) }
     ensures syntax { (line : ℕ) → result ≡ Err (end.Syntax line) → IsWrong tokens.now at.old line }
     ensures never_deep { (count : ℕ) → result ≡ Err (end.Deep count) → ⊥ }
+    ensures accepted { SomeRead tokens.now at.old → IsAccepted result }
+    ensures refused { (line : ℕ) → IsWrong tokens.now at.old line → IsRefused result (end.Syntax line) }
 {
     let lexemes = lexemes_from(alloc, tokens, *at)?;
     match front_in(alloc, lexemes.as_slice()) {

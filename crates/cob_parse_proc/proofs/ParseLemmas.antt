@@ -1,5 +1,5 @@
 -- From what is read of lexemes to what is promised of tokens.
-use Rattle.std.proofs.Common.{◌≡◌, ◌≢◌, ℕ, suc, ◌≤◌, List, [], ◌∷◌, length, map, Result, Ok, Err, refl, sym, ap, subst, ◌∙◌, arith}
+use Rattle.std.proofs.Common.{◌≡◌, ◌≢◌, ◌⊎◌, inl, inr, ℕ, suc, ◌≤◌, List, [], ◌∷◌, length, map, Result, Ok, Err, refl, sym, ap, subst, ◌∙◌, arith}
 use Rattle.std.proofs.lemmas.List.{length-map}
 use Rattle.cob_tree.specs.declared.token.Token.{Token}
 use Rattle.cob_tree.specs.Symbols.{Sign, seen}
@@ -14,7 +14,8 @@ use Rattle.cob_parse_expr.specs.Places.{line_at, end_at}
 use Rattle.cob_parse_expr.proofs.LexemeSteps.{fails_first}
 use Rattle.reading.specs.Readers.{Fault, Stop, Deep, ◌>>=◌, ended, whole}
 use Rattle.cob_parse_proc.specs.Program.{limit, tree_at}
-use Rattle.cob_parse_proc.specs.Parsing.{IsTree, IsWrong, IsDeep}
+use Rattle.cob_parse_proc.specs.Parsing.{IsTree, HasTree, IsWrong, IsDeep}
+use Rattle.cob_parse_proc.proofs.OneAnswer.{one_answer}
 use Rattle.cob_parse_proc.proofs.ProgramAnswers.{tree_read, tree_stops, tree_deep, tree_within}
 
 -- ---- all lexemes
@@ -63,3 +64,21 @@ module _ (tokens : List Token) (items lexemes : List Lexeme) (shown : lexemes �
   program_within h n is f =
       let le = tree_within (map seen tokens) n (sym (ap (whole (tree_at limit)) same) ∙ subst Halts is f) in
       omega (arith, le, length-map tokens seen)
+
+  -- where the tokens are a tree's, nothing but memory halts the reader; and where they aren't, the end is the one that is told
+  pub program_accepted : (h : Halt) → Halts h → HasTree (map seen tokens) → end_at tokens h ≡ end.Memory
+  program_accepted halt.Memory f r = refl
+  program_accepted (halt.Stop n) f r = let w = program_wrong (halt.Stop n) (line_at tokens n) f refl in absurd ((one_answer (map seen tokens)).read_or_wrong r.tree w.left r.is_so w.stops)
+  program_accepted (halt.Deep n) f r = absurd ((one_answer (map seen tokens)).read_or_deep r.tree r.is_so (program_deep (halt.Deep n) 65 f refl).1)
+
+  pub program_refused : (h : Halt) → Halts h → (line : ℕ) → IsWrong tokens line → (end_at tokens h ≡ end.Syntax line) ⊎ (end_at tokens h ≡ end.Memory)
+  program_refused halt.Memory f line w = inr refl
+  program_refused (halt.Stop n) f line w =
+      let v = program_wrong (halt.Stop n) (line_at tokens n) f refl in
+      inl (ap end.Syntax (v.line_is ∙ ap (λ (left : List Sign). line_at tokens (length left)) ((one_answer (map seen tokens)).wrong_once v.left w.left v.stops w.stops) ∙ sym w.line_is))
+  program_refused (halt.Deep n) f line w = absurd ((one_answer (map seen tokens)).wrong_or_deep w.left w.stops (program_deep (halt.Deep n) 65 f refl).1)
+
+  pub program_too_deep : (h : Halt) → Halts h → IsDeep (map seen tokens) → (end_at tokens h ≡ end.Deep 65) ⊎ (end_at tokens h ≡ end.Memory)
+  program_too_deep halt.Memory f w = inr refl
+  program_too_deep (halt.Stop n) f w = let v = program_wrong (halt.Stop n) (line_at tokens n) f refl in absurd ((one_answer (map seen tokens)).wrong_or_deep v.left v.stops w)
+  program_too_deep (halt.Deep n) f w = inl refl

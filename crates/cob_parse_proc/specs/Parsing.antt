@@ -26,6 +26,11 @@ pub record IsTree (ts : List Sign) (t : Tree) : Type 0 where
   pub spells : Matches by_symbol (print_tree t) ts
   pub below : Below by_symbol top (print_tree t)
 
+-- the tokens are some tree's
+pub record HasTree (ts : List Sign) : Type 0 where
+  pub tree : Tree
+  pub is_so : IsTree ts tree
+
 -- some tree's text begins with the tokens
 pub record GoesOn (front : List Sign) : Type 0 where
   pub tree : Tree

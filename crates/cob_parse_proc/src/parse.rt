@@ -4,9 +4,10 @@ ghost use Rattle.cob_tree.specs.Symbols.{seen};
 ghost use Rattle.cob_tree.specs.StmtView.{plain_tree};
 ghost use Rattle.reading.specs.Readers.{whole};
 ghost use Rattle.cob_parse_expr.specs.declared.end.ParseEnd.TheVariants as end;
+ghost use Rattle.cob_parse_expr.specs.Parsing.{IsAccepted, IsRefused};
 ghost use Rattle.cob_parse_expr.specs.Steps.{signs, Gives};
 ghost use Rattle.cob_parse_proc.specs.Program.{limit, tree_at};
-ghost use Rattle.cob_parse_proc.specs.Parsing.{IsTree, IsWrong, IsDeep};
+ghost use Rattle.cob_parse_proc.specs.Parsing.{IsTree, HasTree, IsWrong, IsDeep};
 
 use crate::tree::tree_in;
 use cob_parse_expr::{Halt, Lexeme, ParseEnd, end_at, lexemes};
@@ -33,6 +34,9 @@ pub fn program_of(alloc: Global, tokens: &[Token]) -> Result<Tree, ParseEnd>
     ensures read { IfOk result (λ tree. IsTree (map seen tokens.now) (plain_tree tree)) }
     ensures syntax { (line : ℕ) → result ≡ Err (end.Syntax line) → IsWrong tokens.now line }
     ensures deep { (count : ℕ) → result ≡ Err (end.Deep count) → (count ≡ 65) × IsDeep (map seen tokens.now) }
+    ensures accepted { HasTree (map seen tokens.now) → IsAccepted result }
+    ensures refused { (line : ℕ) → IsWrong tokens.now line → IsRefused result (end.Syntax line) }
+    ensures too_deep { IsDeep (map seen tokens.now) → IsRefused result (end.Deep 65) }
 {
     let lexemes = lexemes(alloc, tokens)?;
     match whole_in(alloc, lexemes.as_slice()) {
