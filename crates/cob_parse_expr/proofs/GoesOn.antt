@@ -26,6 +26,7 @@ use Rattle.cob_tree.specs.Shaped.{ShapedCond, ShapedConjs, ShapedConj, ShapedNeg
 use Rattle.reading.specs.Readers.{Reader}
 use Rattle.reading.specs.Printing.{Matches, Next, on_mark, peek}
 use Rattle.reading.specs.Law.{Syntax, Law}
+use Rattle.reading.proofs.Texts.{Always}
 use Rattle.cob_parse_expr.specs.Alphabet.{grammar}
 use Rattle.cob_parse_expr.specs.Laws.{GoesOnWith, TakesWhatGoesOn}
 use Rattle.cob_parse_expr.proofs.CueLemmas.{only}
@@ -58,9 +59,6 @@ record Grown {A : Type 0} (Good : A → Type 0) (print : A → List Item) (a : A
   text : print longer ≡ print a ++ more
   begins : peek grammar (signs more) ≡ Some m
 
-abbrev Any : {A : Type 0} → A → Type 0
-Any a = Unit {0}
-
 or_cases : (a b : Bool) → (a || b) ≡ true → (a ≡ true) ⊎ (b ≡ true)
 or_cases true b e = inl refl
 or_cases false b e = inr e
@@ -80,32 +78,32 @@ each_more print (y ∷ xs) x = ap (λ (z : List Item). print y ++ z) (each_more 
 -- ---- operands
 
 module _ (d : ℕ) (m : Cue) where
-  pub ref_grows : (r : Ref) → takes_ref r m ≡ true → Grown {Ref} Any (print_ref d) r m
+  bare : (r : Ref) → r.sub ≡ None → each (print_qualifier d) r.of ≡ each (print_qualifier d) r.of ++ print_sub_if d r.sub
+  bare r none = sym (append-nil (each (print_qualifier d) r.of)) ∙ ap (λ (o : Option Subscript). each (print_qualifier d) r.of ++ print_sub_if d o) (sym none)
+
+  pub ref_grows : (r : Ref) → takes_ref r m ≡ true → Grown {Ref} Always (print_ref d) r m
   ref_grows r e = go r.sub refl e
     where
-      go : (sub : Option Subscript) → r.sub ≡ sub → takes_behind sub m ≡ true → Grown {Ref} Any (print_ref d) r m
+      go : (sub : Option Subscript) → r.sub ≡ sub → takes_behind sub m ≡ true → Grown {Ref} Always (print_ref d) r m
       go (Some s) same f = absurd cc
       go None same f = ⊎_elim
           (λ here. record {
             longer = record { name = r.name; of = r.of ++ [] ∷ []; sub = None };
             good = tt;
             more = print_qualifier d [];
-            text = ap (λ (z : List Item). name d r.name ∷ z) (append-nil (each (print_qualifier d) (r.of ++ [] ∷ [])) ∙ each_more (print_qualifier d) r.of [] ∙ ap (λ (z : List Item). z ++ print_qualifier d []) bare);
+            text = ap (λ (z : List Item). name d r.name ∷ z) (append-nil (each (print_qualifier d) (r.of ++ [] ∷ [])) ∙ each_more (print_qualifier d) r.of [] ∙ ap (λ (z : List Item). z ++ print_qualifier d []) (bare r same));
             begins = this Qualifies m here (Some Qualifies) refl;
           })
           (λ here. record {
             longer = record { name = r.name; of = r.of; sub = Some (subscript.Item [] []) };
             good = tt;
             more = print_sub d (subscript.Item [] []);
-            text = ap (λ (z : List Item). name d r.name ∷ (z ++ print_sub d (subscript.Item [] []))) bare;
+            text = ap (λ (z : List Item). name d r.name ∷ (z ++ print_sub d (subscript.Item [] []))) (bare r same);
             begins = this Subscripts m here (Some Subscripts) refl;
           })
           (or_cases (is Qualifies m) (is Subscripts m) f)
-        where
-          bare : each (print_qualifier d) r.of ≡ each (print_qualifier d) r.of ++ print_sub_if d r.sub
-          bare = sym (append-nil (each (print_qualifier d) r.of)) ∙ ap (λ (o : Option Subscript). each (print_qualifier d) r.of ++ print_sub_if d o) (sym same)
 
-  opnd_grows : (o : Opnd) → takes_opnd o m ≡ true → Grown {Opnd} Any (print_opnd d) o m
+  opnd_grows : (o : Opnd) → takes_opnd o m ≡ true → Grown {Opnd} Always (print_opnd d) o m
   opnd_grows (opnd.Const c) e = absurd cc
   opnd_grows (opnd.Ref r) e =
       let w = ref_grows r e in
@@ -113,13 +111,13 @@ module _ (d : ℕ) (m : Cue) where
 
   -- ---- expressions
 
-  primary_grows : (p : Primary) → takes_primary p m ≡ true → Grown {Primary} Any (print_primary d) p m
+  primary_grows : (p : Primary) → takes_primary p m ≡ true → Grown {Primary} Always (print_primary d) p m
   primary_grows (group x) e = absurd cc
   primary_grows (operand o) e =
       let w = opnd_grows o e in
       record { longer = operand w.longer; good = tt; more = w.more; text = w.text; begins = w.begins }
 
-  fact_grows : (f : Fact) → takes_fact f m ≡ true → Grown {Fact} Any (print_fact d) f m
+  fact_grows : (f : Fact) → takes_fact f m ≡ true → Grown {Fact} Always (print_fact d) f m
   fact_grows (MkFact s p) e =
       let w = primary_grows p e in
       record { longer = MkFact s w.longer; good = tt; more = w.more; text = behind_so (print_sign_if d s) (print_primary d p) w.more (print_primary d w.longer) w.text; begins = w.begins }
@@ -131,7 +129,7 @@ module _ (d : ℕ) (m : Cue) where
   some_fact = MkFact None (operand (opnd.Const const.Zero))
 
   -- the last factor
-  facts_grow : (f : Fact) (fs : Facts) → takes_facts f fs m ≡ true → Grown {Fact × Facts} Any print_all_facts (f, fs) m
+  facts_grow : (f : Fact) (fs : Facts) → takes_facts f fs m ≡ true → Grown {Fact × Facts} Always print_all_facts (f, fs) m
   facts_grow f no_facts e =
       let w = fact_grows f e in
       record { longer = (w.longer, no_facts); good = tt; more = w.more; text = append-nil (print_fact d w.longer) ∙ w.text ∙ ap (λ (z : List Item). z ++ w.more) (sym (append-nil (print_fact d f))); begins = w.begins }
@@ -140,14 +138,14 @@ module _ (d : ℕ) (m : Cue) where
       record { longer = (f, more_facts s w.longer.0 w.longer.1); good = tt; more = w.more; text = behind_so (print_fact d f) (print_scaling d s ∷ print_all_facts (g, gs)) w.more (print_scaling d s ∷ print_all_facts w.longer) (ap (λ (z : List Item). print_scaling d s ∷ z) w.text); begins = w.begins }
 
   -- one more factor
-  facts_more : (f : Fact) (fs : Facts) → is Scales m ≡ true → Grown {Fact × Facts} Any print_all_facts (f, fs) m
+  facts_more : (f : Fact) (fs : Facts) → is Scales m ≡ true → Grown {Fact × Facts} Always print_all_facts (f, fs) m
   facts_more f no_facts e =
       record { longer = (f, more_facts scaling.Times some_fact no_facts); good = tt; more = print_scaling d scaling.Times ∷ print_fact d some_fact; text = ap (λ (z : List Item). print_fact d f ++ z) (append-nil (print_scaling d scaling.Times ∷ print_fact d some_fact)) ∙ ap (λ (z : List Item). z ++ print_scaling d scaling.Times ∷ print_fact d some_fact) (sym (append-nil (print_fact d f))); begins = this Scales m e (Some Scales) refl }
   facts_more f (more_facts s g gs) e =
       let w = facts_more g gs e in
       record { longer = (f, more_facts s w.longer.0 w.longer.1); good = tt; more = w.more; text = behind_so (print_fact d f) (print_scaling d s ∷ print_all_facts (g, gs)) w.more (print_scaling d s ∷ print_all_facts w.longer) (ap (λ (z : List Item). print_scaling d s ∷ z) w.text); begins = w.begins }
 
-  term_grows : (t : Term) → takes_term t m ≡ true → Grown {Term} Any (print_term d) t m
+  term_grows : (t : Term) → takes_term t m ≡ true → Grown {Term} Always (print_term d) t m
   term_grows (MkTerm f fs) e =
       let w = ⊎_elim (facts_grow f fs) (facts_more f fs) (or_cases (takes_facts f fs m) (is Scales m) e) in
       record { longer = MkTerm w.longer.0 w.longer.1; good = tt; more = w.more; text = w.text; begins = w.begins }
@@ -158,7 +156,7 @@ module _ (d : ℕ) (m : Cue) where
   abbrev some_term : Term
   some_term = MkTerm some_fact no_facts
 
-  terms_grow : (t : Term) (ts : Terms) → takes_terms t ts m ≡ true → Grown {Term × Terms} Any print_all_terms (t, ts) m
+  terms_grow : (t : Term) (ts : Terms) → takes_terms t ts m ≡ true → Grown {Term × Terms} Always print_all_terms (t, ts) m
   terms_grow t no_terms e =
       let w = term_grows t e in
       record { longer = (w.longer, no_terms); good = tt; more = w.more; text = append-nil (print_term d w.longer) ∙ w.text ∙ ap (λ (z : List Item). z ++ w.more) (sym (append-nil (print_term d t))); begins = w.begins }
@@ -166,14 +164,14 @@ module _ (d : ℕ) (m : Cue) where
       let w = terms_grow u us e in
       record { longer = (t, more_terms s w.longer.0 w.longer.1); good = tt; more = w.more; text = behind_so (print_term d t) (print_sign d s ∷ print_all_terms (u, us)) w.more (print_sign d s ∷ print_all_terms w.longer) (ap (λ (z : List Item). print_sign d s ∷ z) w.text); begins = w.begins }
 
-  terms_more : (t : Term) (ts : Terms) → is Signs m ≡ true → Grown {Term × Terms} Any print_all_terms (t, ts) m
+  terms_more : (t : Term) (ts : Terms) → is Signs m ≡ true → Grown {Term × Terms} Always print_all_terms (t, ts) m
   terms_more t no_terms e =
       record { longer = (t, more_terms plus_minus.Plus some_term no_terms); good = tt; more = print_sign d plus_minus.Plus ∷ print_term d some_term; text = ap (λ (z : List Item). print_term d t ++ z) (append-nil (print_sign d plus_minus.Plus ∷ print_term d some_term)) ∙ ap (λ (z : List Item). z ++ print_sign d plus_minus.Plus ∷ print_term d some_term) (sym (append-nil (print_term d t))); begins = this Signs m e (Some Signs) refl }
   terms_more t (more_terms s u us) e =
       let w = terms_more u us e in
       record { longer = (t, more_terms s w.longer.0 w.longer.1); good = tt; more = w.more; text = behind_so (print_term d t) (print_sign d s ∷ print_all_terms (u, us)) w.more (print_sign d s ∷ print_all_terms w.longer) (ap (λ (z : List Item). print_sign d s ∷ z) w.text); begins = w.begins }
 
-  pub expr_grows : (x : Expr) → takes_expr x m ≡ true → Grown {Expr} Any (print_expr d) x m
+  pub expr_grows : (x : Expr) → takes_expr x m ≡ true → Grown {Expr} Always (print_expr d) x m
   expr_grows (MkExpr t ts) e =
       let w = ⊎_elim (terms_grow t ts) (terms_more t ts) (or_cases (takes_terms t ts m) (is Signs m) e) in
       record { longer = MkExpr w.longer.0 w.longer.1; good = tt; more = w.more; text = w.text; begins = w.begins }
