@@ -129,7 +129,7 @@ module _ (d : ℕ) (m : Cue) where
   some_fact = MkFact None (operand (opnd.Const const.Zero))
 
   -- the last factor
-  facts_grow : (f : Fact) (fs : Facts) → takes_facts f fs m ≡ true → Grown {Fact × Facts} Always print_all_facts (f, fs) m
+  facts_grow : (f : Fact) (fs : Facts) → takes_facts f fs m ≡ true → Grown Always print_all_facts (f, fs) m
   facts_grow f no_facts e =
       let w = fact_grows f e in
       record { longer = (w.longer, no_facts); good = tt; more = w.more; text = append-nil (print_fact d w.longer) ∙ w.text ∙ ap (λ (z : List Item). z ++ w.more) (sym (append-nil (print_fact d f))); begins = w.begins }
@@ -138,7 +138,7 @@ module _ (d : ℕ) (m : Cue) where
       record { longer = (f, more_facts s w.longer.0 w.longer.1); good = tt; more = w.more; text = behind_so (print_fact d f) (print_scaling d s ∷ print_all_facts (g, gs)) w.more (print_scaling d s ∷ print_all_facts w.longer) (ap (λ (z : List Item). print_scaling d s ∷ z) w.text); begins = w.begins }
 
   -- one more factor
-  facts_more : (f : Fact) (fs : Facts) → is Scales m ≡ true → Grown {Fact × Facts} Always print_all_facts (f, fs) m
+  facts_more : (f : Fact) (fs : Facts) → is Scales m ≡ true → Grown Always print_all_facts (f, fs) m
   facts_more f no_facts e =
       record { longer = (f, more_facts scaling.Times some_fact no_facts); good = tt; more = print_scaling d scaling.Times ∷ print_fact d some_fact; text = ap (λ (z : List Item). print_fact d f ++ z) (append-nil (print_scaling d scaling.Times ∷ print_fact d some_fact)) ∙ ap (λ (z : List Item). z ++ print_scaling d scaling.Times ∷ print_fact d some_fact) (sym (append-nil (print_fact d f))); begins = this Scales m e (Some Scales) refl }
   facts_more f (more_facts s g gs) e =
@@ -156,7 +156,7 @@ module _ (d : ℕ) (m : Cue) where
   abbrev some_term : Term
   some_term = MkTerm some_fact no_facts
 
-  terms_grow : (t : Term) (ts : Terms) → takes_terms t ts m ≡ true → Grown {Term × Terms} Always print_all_terms (t, ts) m
+  terms_grow : (t : Term) (ts : Terms) → takes_terms t ts m ≡ true → Grown Always print_all_terms (t, ts) m
   terms_grow t no_terms e =
       let w = term_grows t e in
       record { longer = (w.longer, no_terms); good = tt; more = w.more; text = append-nil (print_term d w.longer) ∙ w.text ∙ ap (λ (z : List Item). z ++ w.more) (sym (append-nil (print_term d t))); begins = w.begins }
@@ -164,7 +164,7 @@ module _ (d : ℕ) (m : Cue) where
       let w = terms_grow u us e in
       record { longer = (t, more_terms s w.longer.0 w.longer.1); good = tt; more = w.more; text = behind_so (print_term d t) (print_sign d s ∷ print_all_terms (u, us)) w.more (print_sign d s ∷ print_all_terms w.longer) (ap (λ (z : List Item). print_sign d s ∷ z) w.text); begins = w.begins }
 
-  terms_more : (t : Term) (ts : Terms) → is Signs m ≡ true → Grown {Term × Terms} Always print_all_terms (t, ts) m
+  terms_more : (t : Term) (ts : Terms) → is Signs m ≡ true → Grown Always print_all_terms (t, ts) m
   terms_more t no_terms e =
       record { longer = (t, more_terms plus_minus.Plus some_term no_terms); good = tt; more = print_sign d plus_minus.Plus ∷ print_term d some_term; text = ap (λ (z : List Item). print_term d t ++ z) (append-nil (print_sign d plus_minus.Plus ∷ print_term d some_term)) ∙ ap (λ (z : List Item). z ++ print_sign d plus_minus.Plus ∷ print_term d some_term) (sym (append-nil (print_term d t))); begins = this Signs m e (Some Signs) refl }
   terms_more t (more_terms s u us) e =
@@ -252,7 +252,7 @@ module _ (d : ℕ) (m : Cue) where
   abbrev GoodNegs : Neg × Negs → Type 0
   GoodNegs x = ShapedNeg x.0 × ShapedNegs x.1
 
-  negs_grow : (n : Neg) (ns : Negs) → GoodNegs (n, ns) → takes_negs n ns m ≡ true → Grown {Neg × Negs} GoodNegs print_all_negs (n, ns) m
+  negs_grow : (n : Neg) (ns : Negs) → GoodNegs (n, ns) → takes_negs n ns m ≡ true → Grown GoodNegs print_all_negs (n, ns) m
   negs_grow n no_negs good e =
       let w = neg_grows n good.0 e in
       record { longer = (w.longer, no_negs); good = (w.good, tt); more = w.more; text = append-nil (print_neg d w.longer) ∙ w.text ∙ ap (λ (z : List Item). z ++ w.more) (sym (append-nil (print_neg d n))); begins = w.begins }
@@ -260,7 +260,7 @@ module _ (d : ℕ) (m : Cue) where
       let w = negs_grow p ps good.1 e in
       record { longer = (n, more_negs w.longer.0 w.longer.1); good = (good.0, w.good); more = w.more; text = behind_so (print_neg d n) (items.key d key.And ∷ print_all_negs (p, ps)) w.more (items.key d key.And ∷ print_all_negs w.longer) (ap (λ (z : List Item). items.key d key.And ∷ z) w.text); begins = w.begins }
 
-  negs_more : (n : Neg) (ns : Negs) → GoodNegs (n, ns) → is Ands m ≡ true → Grown {Neg × Negs} GoodNegs print_all_negs (n, ns) m
+  negs_more : (n : Neg) (ns : Negs) → GoodNegs (n, ns) → is Ands m ≡ true → Grown GoodNegs print_all_negs (n, ns) m
   negs_more n no_negs good e =
       record { longer = (n, more_negs some_neg no_negs); good = (good.0, tt, tt); more = items.key d key.And ∷ print_neg d some_neg; text = ap (λ (z : List Item). print_neg d n ++ z) (append-nil (items.key d key.And ∷ print_neg d some_neg)) ∙ ap (λ (z : List Item). z ++ items.key d key.And ∷ print_neg d some_neg) (sym (append-nil (print_neg d n))); begins = this Ands m e (Some Ands) refl }
   negs_more n (more_negs p ps) good e =
@@ -281,7 +281,7 @@ module _ (d : ℕ) (m : Cue) where
   abbrev GoodConjs : Conj × Conjs → Type 0
   GoodConjs x = ShapedConj x.0 × ShapedConjs x.1
 
-  conjs_grow : (c : Conj) (cs : Conjs) → GoodConjs (c, cs) → takes_conjs c cs m ≡ true → Grown {Conj × Conjs} GoodConjs print_all_conjs (c, cs) m
+  conjs_grow : (c : Conj) (cs : Conjs) → GoodConjs (c, cs) → takes_conjs c cs m ≡ true → Grown GoodConjs print_all_conjs (c, cs) m
   conjs_grow c no_conjs good e =
       let w = conj_grows c good.0 e in
       record { longer = (w.longer, no_conjs); good = (w.good, tt); more = w.more; text = append-nil (print_conj d w.longer) ∙ w.text ∙ ap (λ (z : List Item). z ++ w.more) (sym (append-nil (print_conj d c))); begins = w.begins }
@@ -289,7 +289,7 @@ module _ (d : ℕ) (m : Cue) where
       let w = conjs_grow p ps good.1 e in
       record { longer = (c, more_conjs w.longer.0 w.longer.1); good = (good.0, w.good); more = w.more; text = behind_so (print_conj d c) (items.key d key.Or ∷ print_all_conjs (p, ps)) w.more (items.key d key.Or ∷ print_all_conjs w.longer) (ap (λ (z : List Item). items.key d key.Or ∷ z) w.text); begins = w.begins }
 
-  conjs_more : (c : Conj) (cs : Conjs) → GoodConjs (c, cs) → is Ors m ≡ true → Grown {Conj × Conjs} GoodConjs print_all_conjs (c, cs) m
+  conjs_more : (c : Conj) (cs : Conjs) → GoodConjs (c, cs) → is Ors m ≡ true → Grown GoodConjs print_all_conjs (c, cs) m
   conjs_more c no_conjs good e =
       record { longer = (c, more_conjs some_conj no_conjs); good = (good.0, (tt, tt), tt); more = items.key d key.Or ∷ print_conj d some_conj; text = ap (λ (z : List Item). print_conj d c ++ z) (append-nil (items.key d key.Or ∷ print_conj d some_conj)) ∙ ap (λ (z : List Item). z ++ items.key d key.Or ∷ print_conj d some_conj) (sym (append-nil (print_conj d c))); begins = this Ors m e (Some Ors) refl }
   conjs_more c (more_conjs p ps) good e =

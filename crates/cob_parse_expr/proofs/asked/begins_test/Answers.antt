@@ -1,4 +1,4 @@
-use Rattle.std.proofs.Common.{◌≡◌, sym, ◌∙◌}
+use Rattle.std.proofs.Common.{sym, ◌∙◌}
 use Rattle.cob_parse_expr.specs.Steps.{signs}
 use Rattle.cob_parse_expr.proofs.CondLemmas.{begins_behind_not}
 use Rattle.cob_parse_expr.proofs.asked.begins_test.Goals as goal

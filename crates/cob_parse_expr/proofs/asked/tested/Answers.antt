@@ -1,4 +1,4 @@
-use Rattle.std.proofs.Common.{◌≡◌, sym, ap, ◌∙◌}
+use Rattle.std.proofs.Common.{sym, ap, ◌∙◌}
 use Rattle.cob_tree.specs.ExprView.{plain_expr}
 use Rattle.cob_parse_expr.specs.declared.asked.Asked.{Asked}
 use Rattle.cob_parse_expr.specs.CondReading.{tested}

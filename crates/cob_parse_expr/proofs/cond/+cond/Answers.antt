@@ -1,8 +1,8 @@
-use Rattle.std.proofs.Common.{◌≡◌, ◌++◌, ◌∷◌, [], Bool, map, arith, refl, ap, sym, ◌∙◌, ℕ, inl, inr}
+use Rattle.std.proofs.Common.{◌≡◌, ◌++◌, ◌∷◌, [], Bool, map, arith, ap, sym, ◌∙◌, inl, inr}
 use Rattle.std.proofs.lemmas.List.{map_push, length-map}
-use Rattle.cob_tree.specs.Cond.{Cond, Conj, Neg, Simple}
+use Rattle.cob_tree.specs.Cond.{Cond, Conj, Simple}
 use Rattle.cob_tree.specs.ExprView.{plain_expr, plain_fact}
-use Rattle.cob_tree.specs.Takes.{takes_simple, takes_neg, takes_conj, takes_cond}
+use Rattle.cob_tree.specs.Takes.{takes_simple, takes_conj, takes_cond}
 use Rattle.cob_tree.specs.Cues.{Ands, Ors, NotRelates}
 use Rattle.cob_tree.specs.CondView.{plain_cond, plain_conj, plain_neg, plain_simple}
 use Rattle.reading.specs.Readers.{branch, stands}

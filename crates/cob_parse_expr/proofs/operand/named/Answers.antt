@@ -1,4 +1,4 @@
-use Rattle.std.proofs.Common.{◌≡◌, List, ℕ, Ok, map, refl, ap, sym, ◌∙◌}
+use Rattle.std.proofs.Common.{List, ℕ, Ok, map, ap, sym}
 use Rattle.cob_parse_expr.specs.Steps.{signs, behind_word}
 use Rattle.cob_parse_expr.proofs.operand.named.Goals as goal
 

@@ -1,11 +1,11 @@
-use Rattle.std.proofs.Common.{◌≡◌, ◌++◌, ◌∷◌, [], map, arith, refl, sym, ◌∙◌, ℕ}
+use Rattle.std.proofs.Common.{◌≡◌, ◌++◌, ◌∷◌, [], map, arith}
 use Rattle.std.proofs.lemmas.List.{map_push, length-map}
 use Rattle.reading.specs.Readers.{lead}
 use Rattle.cob_tree.specs.Cues.{Qualifies}
 use Rattle.cob_parse_expr.specs.Classes.{name_of, of_of}
 use Rattle.cob_parse_expr.specs.Steps.{signs, behind_word}
 use Rattle.cob_parse_expr.proofs.ClassLaws.{of_told}
-use Rattle.cob_parse_expr.proofs.Loop.{goes_first, goes_on, goes_end, goes_fails}
+use Rattle.cob_parse_expr.proofs.Loop.{goes_on, goes_end, goes_fails}
 use Rattle.cob_parse_expr.proofs.operand.qualifiers.Goals as goal
 
 pub returns-in-Err-clause-gives : goal.returns-in-Err-clause-gives

@@ -1,5 +1,4 @@
-use Rattle.std.proofs.Common.{◌∙◌, List, ℕ, Option, Some, None, Ok, ap}
-use Rattle.cob_tree.specs.declared.operand.Ref.{Ref}
+use Rattle.std.proofs.Common.{◌∙◌, List, ℕ, Some, None, Ok, ap}
 use Rattle.cob_parse_expr.specs.Steps.{signs}
 use Rattle.cob_parse_expr.proofs.ClassLaws.{here_open}
 use Rattle.cob_parse_expr.proofs.StepLemmas.{bare}

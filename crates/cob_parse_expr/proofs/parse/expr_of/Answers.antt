@@ -1,4 +1,4 @@
-use Rattle.std.proofs.Common.{◌≡◌, ◌⊎◌, ◌-◌, ◌∙◌, ℕ, length, sym, subst}
+use Rattle.std.proofs.Common.{◌≡◌, ◌⊎◌, ◌-◌, ◌∙◌, length, sym, subst}
 use Rattle.cob_parse_expr.specs.declared.end.ParseEnd.TheVariants as end
 use Rattle.cob_parse_expr.specs.Places.{from}
 use Rattle.cob_tree.specs.ExprView.{plain_expr}

@@ -1,4 +1,4 @@
-use Rattle.std.proofs.Common.{◌≡◌, ◌-◌, ℕ, Some, List, length, max, refl, sym, subst, get_or, ◌<◌}
+use Rattle.std.proofs.Common.{◌≡◌, ◌-◌, ℕ, Some, List, length, max, refl, subst, get_or, ◌<◌}
 use Rattle.std.specs.Prelude.{slice_get}
 use Rattle.std.proofs.lemmas.Option.{slice_get_read}
 use Rattle.cob_tree.specs.declared.token.Token.{Token}

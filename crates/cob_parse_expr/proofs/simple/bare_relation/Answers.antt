@@ -1,4 +1,4 @@
-use Rattle.std.proofs.Common.{◌≡◌, false, ap, ◌∙◌}
+use Rattle.std.proofs.Common.{false, ap, ◌∙◌}
 use Rattle.cob_tree.specs.Cond.{Neg, MkNeg, Simple}
 use Rattle.cob_tree.specs.Cues.{NotRelates}
 use Rattle.cob_tree.specs.ExprView.{plain_expr}

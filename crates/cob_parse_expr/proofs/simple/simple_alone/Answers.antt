@@ -1,4 +1,3 @@
-use Rattle.std.proofs.Common.{◌≡◌, None}
 use Rattle.cob_parse_expr.proofs.AloneLemmas.{simple_other}
 use Rattle.cob_parse_expr.proofs.simple.simple_alone.Goals as goal
 
