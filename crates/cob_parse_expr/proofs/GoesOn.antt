@@ -197,15 +197,15 @@ module _ (d : ℕ) (m : Cue) where
   test_grows : (x : Expr) → takes_test m ≡ true → Grown {Simple} (AsGood (alone x)) (print_simple d) (alone x) m
   test_grows x e = ⊎_elim
       (λ first. ⊎_elim
-          (λ first. ⊎_elim
-              (λ first. ⊎_elim
-                  (λ here. record { longer = relation x false rel.Equal some_expr; good = (tt, refl); more = print_relation d rel.Equal ∷ print_expr d some_expr; text = refl; begins = this Relates m here (Some Relates) refl })
-                  (λ here. record { longer = relation x true rel.Equal some_expr; good = (tt, refl); more = items.key d key.Not ∷ print_relation d rel.Equal ∷ print_expr d some_expr; text = refl; begins = this NotRelates m here (Some NotRelates) refl })
-                  (or_cases (is Relates m) (is NotRelates m) first))
-              (λ here. record { longer = numeric x false; good = (tt, refl); more = items.key d key.Numeric ∷ []; text = refl; begins = this Tests m here (Some Tests) refl })
-              (or_cases (is Relates m || is NotRelates m) (is Tests m) first))
-          (λ here. record { longer = numeric x true; good = (tt, refl); more = items.key d key.Not ∷ items.key d key.Numeric ∷ []; text = refl; begins = this NotTests m here (Some NotTests) refl })
-          (or_cases (is Relates m || is NotRelates m || is Tests m) (is NotTests m) first))
+      (λ first. ⊎_elim
+      (λ first. ⊎_elim
+      (λ here. record { longer = relation x false rel.Equal some_expr; good = (tt, refl); more = print_relation d rel.Equal ∷ print_expr d some_expr; text = refl; begins = this Relates m here (Some Relates) refl })
+      (λ here. record { longer = relation x true rel.Equal some_expr; good = (tt, refl); more = items.key d key.Not ∷ print_relation d rel.Equal ∷ print_expr d some_expr; text = refl; begins = this NotRelates m here (Some NotRelates) refl })
+      (or_cases (is Relates m) (is NotRelates m) first))
+      (λ here. record { longer = numeric x false; good = (tt, refl); more = items.key d key.Numeric ∷ []; text = refl; begins = this Tests m here (Some Tests) refl })
+      (or_cases (is Relates m || is NotRelates m) (is Tests m) first))
+      (λ here. record { longer = numeric x true; good = (tt, refl); more = items.key d key.Not ∷ items.key d key.Numeric ∷ []; text = refl; begins = this NotTests m here (Some NotTests) refl })
+      (or_cases (is Relates m || is NotRelates m || is Tests m) (is NotTests m) first))
       (λ here. record { longer = cond.sign x false test.Zero; good = (tt, refl); more = items.key d key.Zero ∷ []; text = refl; begins = this Zeros m here (Some Zeros) refl })
       (or_cases (is Relates m || is NotRelates m || is Tests m || is NotTests m) (is Zeros m) e)
 
@@ -233,8 +233,8 @@ module _ (d : ℕ) (m : Cue) where
       }
   simple_grows (alone x) e = ⊎_elim
       (λ here.
-          let w = expr_grows x here in
-          record { longer = alone w.longer; good = (tt, refl); more = w.more; text = w.text; begins = w.begins })
+      let w = expr_grows x here in
+      record { longer = alone w.longer; good = (tt, refl); more = w.more; text = w.text; begins = w.begins })
       (test_grows x)
       (or_cases (takes_expr x m) (takes_test m) e)
 

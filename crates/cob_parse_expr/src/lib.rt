@@ -42,7 +42,8 @@ pub use end::ParseEnd;
 pub use expr::{expr_in, fact_in, factors_in, group, summands_in};
 pub use halt::Halt;
 pub use laws::{
-    one_answer_for_conds, one_answer_for_exprs, one_cond, one_expr, takes_of_conds, takes_of_exprs, takes_of_refs,
+    one_answer_for_conds, one_answer_for_exprs, one_cond, one_expr, takes_of_conds, takes_of_exprs,
+    takes_of_refs,
 };
 pub use lexeme::{Lexeme, Symbol, lexemes};
 pub use operand::{const_at, name_at, opnd_in, ref_in};

@@ -172,6 +172,6 @@ pub behind_ahead : (ts : List Sign) → begins procedure follows_name ts ≡ (((
 behind_ahead ts =
     let inner : begins procedure begins_loop ts ≡ (stands (the word.Times) ts || begins grammar begins_loop ts) = times_ahead begins_loop refl ts in
     let outer : begins grammar follows_name ts ≡ (stands of_of ts || (stands open_of ts || (stands (the word.Thru) ts || begins grammar begins_loop ts))) =
-        behind_told ts ∙ ap (λ (b : Bool). stands of_of ts || (stands open_of ts || (stands (the word.Thru) ts || b))) (sym (loops_told ts)) in
+    behind_told ts ∙ ap (λ (b : Bool). stands of_of ts || (stands open_of ts || (stands (the word.Thru) ts || b))) (sym (loops_told ts)) in
     times_ahead follows_name refl ts ∙ (ap (λ (b : Bool). stands (the word.Times) ts || b) outer
     ∙ (swapped (stands (the word.Times) ts) (stands of_of ts) (stands open_of ts) (stands (the word.Thru) ts) (begins grammar begins_loop ts) ∙ ap (λ (b : Bool). ((stands of_of ts || stands open_of ts) || stands (the word.Thru) ts) || b) (sym inner)))
