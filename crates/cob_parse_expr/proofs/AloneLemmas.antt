@@ -1,5 +1,5 @@
 -- Conditions that are one expression alone, by their parts.
-use Rattle.std.proofs.Common.{◌≡◌, ◌≢◌, ℕ, Bool, true, false, List, [], ◌∷◌, length, map, Option, Some, None, refl, sym, ap, subst, ◌∙◌}
+use Rattle.std.proofs.Common.{◌≡◌, ◌≢◌, true, false, List, [], ◌∷◌, length, map, None, refl, sym, ap, subst, ◌∙◌}
 use Rattle.std.proofs.lemmas.List.{length-map}
 use Rattle.cob_tree.specs.declared.expr.Expr as declared_expr
 use Rattle.cob_tree.specs.declared.cond.Cond as declared_cond
@@ -10,7 +10,6 @@ use Rattle.cob_tree.specs.declared.cond.Simple.TheOpen as layer
 use Rattle.cob_tree.specs.declared.cond.Simple.TheVariants.{rolls-Expr}
 use Rattle.cob_tree.specs.declared.cond.Simple.TheViews.{out-Simple, roll-Simple, roll-out-Simple, out-Conj, out-Cond}
 use Rattle.cob_tree.specs.declared.cond.Simple.TheFolds.{fold_out-Conj, fold_out-Cond, fold-roll-Simple}
-use Rattle.cob_tree.specs.Expr.{Expr}
 use Rattle.cob_tree.specs.Cond.{Cond, MkCond, Conj, MkConj, Negs, no_negs, more_negs, Conjs, no_conjs, more_conjs, Neg, MkNeg, Simple, parenthesised, relation, abbreviated, numeric, alone, conjs_of, negs_of}
 use Rattle.cob_tree.specs.Cond as cond
 use Rattle.cob_tree.specs.CondView.{plain_cond, plain_conj, plain_neg, plain_simple}

@@ -14,12 +14,12 @@ use Rattle.cob_tree.specs.declared.cond.SignTest.TheVariants as test
 use Rattle.cob_tree.specs.declared.token.Num.{Num}
 use Rattle.cob_tree.specs.declared.token.Rel.{Rel}
 use Rattle.cob_tree.specs.Symbols.{Symbol, Key, Name, Number, Text, Mark, Relation, Pic, Stop, Sign}
-use Rattle.cob_tree.specs.Items.{Item, Fits, item, name}
-use Rattle.cob_tree.specs.Cues.{Cue, is, mark_cue, key_cue, not_cue, Qualifies, Names, Constants, Zeros, Signs, Scales, Subscripts, Relates, NotRelates, Tests, NotTests, Ands, Ors, Size, NotSize, NotAtEnd}
+use Rattle.cob_tree.specs.Items.{item, name}
+use Rattle.cob_tree.specs.Cues.{Cue, is, mark_cue, key_cue, Qualifies, Names, Constants, Signs, Scales, Subscripts, Relates, NotRelates, NotTests, Ands, Ors, NotSize, NotAtEnd}
 use Rattle.cob_parse_expr.specs.Alphabet.{key_front, symbol_front, grammar}
 use Rattle.cob_tree.specs.PrintExpr.{const_symbol, sign_character, scaling_character, sign_word}
 use Rattle.reading.specs.Readers.{stands}
-use Rattle.reading.specs.Printing.{peek_on, on_mark, begins}
+use Rattle.reading.specs.Printing.{peek_on, on_mark}
 use Rattle.reading.proofs.Texts.{Always}
 use Rattle.reading.proofs.Lead.{Class}
 use Rattle.cob_parse_expr.specs.LexemeClasses.{of, name_symbol, number_symbol, word_symbol}

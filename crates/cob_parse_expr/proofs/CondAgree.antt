@@ -2,7 +2,7 @@
 use Rattle.std.proofs.Common.{◌≡◌, ℕ, zero, suc, ◌+◌, ◌&&◌, length, refl, sym, subst, zero-add, arith}
 use Rattle.cob_tree.specs.Symbols.{Sign}
 use Rattle.cob_tree.specs.Cues.{is, Scales, Signs, Ands, Ors}
-use Rattle.cob_tree.specs.Expr.{Expr, Term, Fact}
+use Rattle.cob_tree.specs.Expr.{Term, Fact}
 use Rattle.cob_tree.specs.Cond.{Cond}
 use Rattle.cob_tree.specs.Takes.{takes_test}
 use Rattle.reading.specs.Readers.{Reader, lead, choose, stands}
@@ -11,8 +11,8 @@ use Rattle.reading.specs.Law.{Agrees}
 use Rattle.reading.proofs.Wider.{agree_same, agree_seen, agree_follow, agree_branch, agree_choose, agree_many, agree_opt, agree_closed, agree_full}
 use Rattle.cob_parse_expr.specs.Alphabet.{grammar}
 use Rattle.cob_parse_expr.specs.Classes.{open_of, close_of, sign_of, scaling_of, not_of, and_of, or_of, numeric_of, sign_test_of, relation_of}
-use Rattle.cob_parse_expr.specs.Reading.{here, Inner, opnd_with, inner_at}
-use Rattle.cob_parse_expr.specs.CondReading.{Begun, goes_on, make_head, head_with, begun_factors, begun_term, head_term, begun_summands, begun_expr, head_expr, make_asked, compared_with, asked_with, make_test, test_with, make_subject, subject_with, make_further, further_with, negated_with, plain_with, make_neg, neg_with, negs_with, make_conj, conj_with, conjs_with, make_cond, cond_with, cond_goes, inside_cond, paren_at, cond_at}
+use Rattle.cob_parse_expr.specs.Reading.{here, Inner, opnd_with}
+use Rattle.cob_parse_expr.specs.CondReading.{Begun, goes_on, make_head, head_with, begun_factors, begun_term, head_term, begun_summands, begun_expr, head_expr, make_asked, compared_with, asked_with, make_test, test_with, make_subject, subject_with, make_further, further_with, negated_with, plain_with, make_neg, neg_with, make_conj, conj_with, make_cond, cond_with, cond_goes, inside_cond, paren_at, cond_at}
 use Rattle.cob_parse_expr.proofs.StepLemmas.{paren_lacks}
 use Rattle.cob_parse_expr.proofs.ExprAgree.{AgreesInner, agree_opnd, agree_primary, agree_fact, agree_term, agree_expr, lacks, inner_wider}
 

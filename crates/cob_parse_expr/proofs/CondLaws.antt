@@ -1,5 +1,5 @@
 -- The laws of conditions, where the readers of what stands in parentheses are given.
-use Rattle.std.proofs.Common.{◌≡◌, ℕ, suc, ◌<◌, ◌⊎◌, inl, inr, ⊎_elim, Bool, true, false, ◌||◌, ◌&&◌, List, [], ◌∷◌, ◌++◌, Option, Some, None, is_some, refl, sym, ap, subst, ◌∙◌, map}
+use Rattle.std.proofs.Common.{◌≡◌, ℕ, suc, ◌<◌, ◌⊎◌, inl, inr, ⊎_elim, Bool, true, false, List, [], ◌∷◌, ◌++◌, Option, Some, None, is_some, refl, sym, ap, subst, ◌∙◌, map}
 use Rattle.std.proofs.lemmas.List.{append-nil}
 use Rattle.cob_tree.specs.declared.operand.Opnd.{Opnd}
 use Rattle.cob_tree.specs.declared.operand.Opnd.TheVariants as opnd
@@ -8,30 +8,26 @@ use Rattle.cob_tree.specs.declared.operand.Const.TheVariants as const
 use Rattle.cob_tree.specs.declared.expr.Sign as plus_minus
 use Rattle.cob_tree.specs.declared.expr.Sign.TheVariants as plus_minus_of
 use Rattle.cob_tree.specs.declared.expr.Scaling.{Scaling}
-use Rattle.cob_tree.specs.declared.cond.SignTest.{SignTest}
-use Rattle.cob_tree.specs.declared.cond.SignTest.TheVariants as test
 use Rattle.cob_tree.specs.declared.token.Rel.{Rel}
-use Rattle.cob_tree.specs.declared.token.Rel.TheVariants as rel
 use Rattle.cob_tree.specs.declared.keyword.Keyword.TheVariants as key
-use Rattle.cob_tree.specs.Symbols.{Symbol, Key, Name, Mark, Relation, Sign}
+use Rattle.cob_tree.specs.Symbols.{Symbol, Key, Name, Mark, Sign}
 use Rattle.cob_tree.specs.Items.{Item, item}
 use Rattle.cob_tree.specs.Items as items
 use Rattle.cob_tree.specs.Cues.{Cue, is, Qualifies, Subscripts, Signs, Scales, Relates, Ands, Ors}
 use Rattle.cob_parse_expr.specs.Alphabet.{grammar}
-use Rattle.cob_tree.specs.Expr.{Expr, MkExpr, terms_of, Term, MkTerm, facts_of, Fact, MkFact, Primary, operand, group}
+use Rattle.cob_tree.specs.Expr.{Expr, MkExpr, Term, MkTerm, Fact, MkFact, Primary, operand, group}
 use Rattle.cob_tree.specs.Cond.{Cond, MkCond, Conjs, no_conjs, more_conjs, Conj, MkConj, Negs, no_negs, more_negs, Neg, MkNeg, Simple, parenthesised, relation, abbreviated, numeric, alone, conjs_of, negs_of}
 use Rattle.cob_tree.specs.Cond as cond
-use Rattle.cob_tree.specs.PrintExpr.{const_symbol, sign_character, print_expr, print_terms, print_term, print_facts, print_fact, print_primary, print_not, print_relation, sign_word, print_cond, print_conjs, print_conj, print_negs, print_neg, print_simple, one_alone}
+use Rattle.cob_tree.specs.PrintExpr.{const_symbol, sign_character, print_expr, print_term, print_fact, print_not, print_relation, sign_word, print_conjs, print_conj, print_negs, print_neg, print_simple, one_alone}
 use Rattle.cob_tree.specs.Takes.{takes_fact, takes_term, takes_expr, takes_test, takes_simple, takes_neg, takes_negs, takes_conj, takes_conjs, takes_cond}
 use Rattle.cob_tree.specs.Shaped.{begins_with_relation, ShapedCond, ShapedConjs, ShapedConj, ShapedNegs, ShapedNeg, ShapedSimple}
-use Rattle.reading.specs.Readers.{Reader, lead, follow, branch, choose, stands}
+use Rattle.reading.specs.Readers.{Reader, stands}
 use Rattle.reading.specs.Printing.{Matches}
 use Rattle.reading.specs.Law.{Syntax, Law, onward}
 use Rattle.reading.proofs.Texts.{Always, takes_nothing, or_false}
 use Rattle.reading.proofs.Dependent.{dependent_syntax, seq_syntax}
-use Rattle.reading.proofs.Lead.{lead_syntax, lead_law, branch_law}
+use Rattle.reading.proofs.Lead.{lead_syntax, branch_law}
 use Rattle.reading.proofs.Seen.{View, seen_law}
-use Rattle.reading.proofs.Starts.{Begins, Starts, starts_by_one}
 use Rattle.reading.proofs.Tail.{apart, tail_syntax, tail_law}
 use Rattle.reading.proofs.Many.{is_given, many_syntax}
 use Rattle.reading.proofs.Opt.{when, opt_syntax, opt_law}
@@ -40,16 +36,16 @@ use Rattle.reading.proofs.Choose.{choose_syntax, choose_law}
 use Rattle.cob_parse_expr.specs.Classes.{mark_symbol, open_of, sign_mark, sign_of, scaling_of, not_key, not_of, numeric_key, numeric_of, sign_test_key, sign_test_of, relation_symbol, relation_of, and_of, or_of}
 use Rattle.cob_parse_expr.specs.LexemeClasses.{word_symbol}
 use Rattle.cob_parse_expr.specs.Classes as class
-use Rattle.cob_parse_expr.specs.Reading.{here, second, Inner, primary_with, expr_with, opnd_with}
-use Rattle.cob_parse_expr.specs.CondReading.{Begun, whole, part, goes_on, begun_fact, make_head, head_with, begun_factors, begun_term, head_term, begun_summands, begun_expr, head_expr, Asked, compared, for_digits, for_sign, make_asked, compared_with, asked_with, make_test, test_with, tested, make_subject, subject_with, make_further, further_with, negated_with, plain_with, make_neg, neg_with, negs_with, make_conj, conj_with, conjs_with, make_cond, cond_with}
+use Rattle.cob_parse_expr.specs.Reading.{second, Inner}
+use Rattle.cob_parse_expr.specs.CondReading.{Begun, whole, part, goes_on, begun_fact, make_head, head_with, begun_term, head_term, begun_expr, head_expr, Asked, compared, for_digits, for_sign, compared_with, make_subject, subject_with, make_further, further_with, negated_with, plain_with, make_neg, neg_with, make_conj, conj_with, make_cond, cond_with}
 use Rattle.cob_parse_expr.specs.Parsing.{expr_syntax, cond_syntax}
 use Rattle.cob_parse_expr.proofs.CueLemmas.{only, not_taken}
-use Rattle.cob_parse_expr.proofs.ClassLaws.{signs, relations, numerics, sign_tests, nots, ands, ors, and_told, or_told}
+use Rattle.cob_parse_expr.proofs.ClassLaws.{signs, relations, nots, ands, ors, and_told, or_told}
 use Rattle.cob_parse_expr.proofs.Generic.{tells_by_one, all_good}
 use Rattle.cob_parse_expr.proofs.GuardLaws.{guarded, guarded_tail, both}
 use Rattle.cob_parse_expr.proofs.OperandLaws.{opnd_syntax, opnd_law}
-use Rattle.cob_parse_expr.proofs.ExprLaws.{fact_syntax, term_syntax, InnerLaw, signed_syntax, signed_law, factors, factors_back, factors_print, factors_take, factor_syntax, factor_law, factor_starts, summands, summands_back, summands_print, summands_take, summand_syntax, summand_law, summand_starts, fact_never, term_never, expr_never, expr_law, first_symbol, first_of, some_first, some_expr}
-use Rattle.cob_parse_expr.proofs.TestLaws.{asked_syntax, test_syntax, compared_syntax, compared_law, test_law, test_starts, asked_cues}
+use Rattle.cob_parse_expr.proofs.ExprLaws.{fact_syntax, term_syntax, InnerLaw, signed_syntax, signed_law, factors, factors_back, factors_print, factors_take, factor_syntax, factor_law, factor_starts, summands, summands_back, summands_print, summands_take, summand_syntax, summand_law, summand_starts, fact_never, term_never, expr_never, first_symbol, first_of, some_first}
+use Rattle.cob_parse_expr.proofs.TestLaws.{test_syntax, compared_syntax, compared_law, test_law, test_starts, asked_cues}
 
 -- ---- a condition that is one expression alone
 

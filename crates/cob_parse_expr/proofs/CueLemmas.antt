@@ -1,12 +1,12 @@
 -- What the cues say of tokens, and how the classes tell them.
-use Rattle.std.proofs.Common.{◌≡◌, ℕ, ◌==◌, ◌⊎◌, inl, inr, Bool, true, false, ◌||◌, List, [], ◌∷◌, ◌++◌, Option, Some, None, is_some, refl, sym, ap, subst, ◌∙◌, get_or}
+use Rattle.std.proofs.Common.{◌≡◌, ℕ, Bool, true, false, List, [], ◌∷◌, Option, None, refl, sym, ap, subst, ◌∙◌, get_or}
 use Rattle.std.proofs.lemmas.Bool.{eqb-true}
 use Rattle.cob_tree.specs.declared.keyword.Keyword.{Keyword}
 use Rattle.cob_tree.specs.declared.keyword.Keyword.TheVariants as key
 use Rattle.cob_tree.specs.Symbols.{Symbol, Key, Name, Number, Text, Mark, Relation, Pic, Stop, Sign}
-use Rattle.cob_tree.specs.Cues.{Cue, number, is, mark_cue, key_cue, not_cue, Starts, Qualifies, Rounds, Names, Constants, Zeros, Signs, Scales, Relates, NotRelates, Tests, NotTests, Ands, Ors, Throughs, Givings, Remainders, Intos, Froms, Modes, Loops, Size, NotSize, AtEnd, NotAtEnd, Else, Whens, EndAdd, EndSubtract, EndMultiply, EndDivide, EndCompute, EndIf, EndEvaluate, EndRead, EndWrite, Subscripts}
+use Rattle.cob_tree.specs.Cues.{Cue, number, is, not_cue, Starts, Qualifies, Rounds, Names, Constants, Zeros, Signs, Scales, Relates, NotRelates, Tests, NotTests, Ands, Ors, Throughs, Givings, Remainders, Intos, Froms, Modes, Loops, Size, NotSize, AtEnd, NotAtEnd, Else, Whens, EndAdd, EndSubtract, EndMultiply, EndDivide, EndCompute, EndIf, EndEvaluate, EndRead, EndWrite, Subscripts}
 use Rattle.cob_parse_expr.specs.Alphabet.{key_front, symbol_front, grammar}
-use Rattle.reading.specs.Printing.{Front, Here, Ahead, peek_on, peek, on_mark, begins, Next}
+use Rattle.reading.specs.Printing.{Front, Here, Ahead, on_mark}
 use Rattle.reading.proofs.Starts.{OneToken}
 
 -- ---- cues by their numbers

@@ -1,11 +1,10 @@
 -- With more room the answer of reading an expression is the same, unless there was too little.
-use Rattle.std.proofs.Common.{◌≡◌, ℕ, zero, suc, ◌+◌, false, List, [], ◌∷◌, length, Option, Some, None, is_some, Err, refl, sym, subst, zero-add, arith}
+use Rattle.std.proofs.Common.{◌≡◌, ℕ, zero, suc, ◌+◌, false, List, [], ◌∷◌, length, Option, Some, None, is_some, refl, sym, subst, zero-add, arith}
 use Rattle.cob_tree.specs.Symbols.{Sign}
 use Rattle.cob_tree.specs.Cues.{Scales, Signs, Subscripts}
-use Rattle.cob_tree.specs.Expr.{Expr}
 use Rattle.cob_tree.specs.declared.operand.Subscript.{Subscript}
 use Rattle.reading.specs.Readers.{Reader, lead, here_if, stands}
-use Rattle.reading.specs.Law.{Agree, Agrees}
+use Rattle.reading.specs.Law.{Agrees}
 use Rattle.reading.proofs.Wider.{agree_same, agree_seen, agree_follow, agree_branch, agree_choose, agree_phrase, agree_many, agree_closed, agree_full}
 use Rattle.cob_parse_expr.specs.Classes.{name_of, const_of, open_of, close_of, sign_of, scaling_of}
 use Rattle.cob_parse_expr.specs.Reading.{here, make_primary, primary_with, make_fact, fact_with, factors_with, make_term, term_with, summands_with, make_expr, expr_with, inside, expr_goes, group_at, expr_at, named_at, make_ref, ref_with, make_opnd, opnd_with, sub_at, ref_at, opnd_at, Inner, inner_at}

@@ -1,5 +1,5 @@
 -- The laws of expressions: with the readers of what stands in parentheses given, and then for each room.
-use Rattle.std.proofs.Common.{◌≡◌, ℕ, zero, suc, ◌+◌, ◌<◌, ◌⊎◌, inl, inr, Bool, true, false, ◌||◌, List, [], ◌∷◌, ◌++◌, Option, Some, None, is_some, refl, sym, ap, subst, ◌∙◌, arith}
+use Rattle.std.proofs.Common.{◌≡◌, ℕ, zero, suc, ◌+◌, ◌<◌, ◌⊎◌, inl, inr, true, false, List, [], ◌∷◌, ◌++◌, Option, Some, None, is_some, refl, ap, ◌∙◌, arith}
 use Rattle.cob_tree.specs.declared.operand.Opnd.{Opnd}
 use Rattle.cob_tree.specs.declared.operand.Opnd.TheVariants as opnd
 use Rattle.cob_tree.specs.declared.operand.Ref.{Ref}
@@ -10,15 +10,15 @@ use Rattle.cob_tree.specs.declared.expr.Sign as plus_minus
 use Rattle.cob_tree.specs.declared.expr.Sign.TheVariants as sign
 use Rattle.cob_tree.specs.declared.expr.Scaling.{Scaling}
 use Rattle.cob_tree.specs.declared.expr.Scaling.TheVariants as scaling
-use Rattle.cob_tree.specs.Symbols.{Symbol, Key, Name, Mark, Sign}
+use Rattle.cob_tree.specs.Symbols.{Symbol, Name, Mark, Sign}
 use Rattle.cob_tree.specs.Items.{Item, Fits, item}
 use Rattle.cob_tree.specs.Cues.{Cue, is, Qualifies, Subscripts, Signs, Scales, NotRelates, NotTests, NotSize, NotAtEnd}
-use Rattle.cob_parse_expr.specs.Alphabet.{symbol_front, grammar}
+use Rattle.cob_parse_expr.specs.Alphabet.{grammar}
 use Rattle.cob_tree.specs.Expr.{Expr, MkExpr, Terms, no_terms, more_terms, terms_of, Term, MkTerm, Facts, no_facts, more_facts, facts_of, Fact, MkFact, Primary, operand, group}
 use Rattle.cob_tree.specs.PrintExpr.{const_symbol, open_mark, close_mark, sign_character, scaling_character, print_expr, print_terms, print_term, print_facts, print_fact, print_primary}
 use Rattle.cob_tree.specs.Takes.{takes_behind, takes_ref, takes_primary, takes_fact, takes_facts, takes_term, takes_terms, takes_expr}
-use Rattle.reading.specs.Readers.{Reader, branch, stands, closed, full}
-use Rattle.reading.specs.Printing.{Matches, Below, peek_on, on_mark, Next}
+use Rattle.reading.specs.Readers.{branch, stands, closed}
+use Rattle.reading.specs.Printing.{Matches}
 use Rattle.reading.specs.Law.{Syntax, Law, onward}
 use Rattle.reading.proofs.Texts.{Always, takes_nothing, or_false}
 use Rattle.reading.proofs.Dependent.{dependent_syntax, seq_syntax}
@@ -33,7 +33,7 @@ use Rattle.reading.proofs.Choose.{choose_syntax, choose_law}
 use Rattle.reading.proofs.Full.{full_law}
 use Rattle.cob_parse_expr.specs.Classes.{mark_symbol, open_of, close_of, sign_mark, sign_of, scaling_of}
 use Rattle.cob_parse_expr.specs.Classes as class
-use Rattle.cob_parse_expr.specs.Reading.{Inner, inner_at, sub_at, make_primary, primary_with, make_fact, fact_with, make_term, term_with, make_expr, expr_with, inside, expr_goes, group_at, expr_at}
+use Rattle.cob_parse_expr.specs.Reading.{Inner, inner_at, make_primary, primary_with, make_fact, fact_with, make_term, term_with, make_expr, expr_with, expr_goes, group_at, expr_at}
 use Rattle.cob_parse_expr.specs.Parsing.{expr_syntax}
 use Rattle.cob_parse_expr.proofs.CueLemmas.{only, not_taken}
 use Rattle.cob_parse_expr.proofs.ClassLaws.{opens, closes, signs, scalings, sign_told, scaling_told}

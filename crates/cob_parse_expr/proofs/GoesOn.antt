@@ -1,5 +1,5 @@
 -- What a reference, an expression or a condition can still take is what some text goes on with behind its own.
-use Rattle.std.proofs.Common.{◌≡◌, ◌↔◌, ◌⊎◌, inl, inr, ⊎_elim, ℕ, suc, Bool, true, false, ◌||◌, ◌<◌, ◌+◌, List, [], ◌∷◌, ◌++◌, Option, Some, None, refl, sym, ap, ◌∙◌, append_assoc, arith}
+use Rattle.std.proofs.Common.{◌≡◌, ◌⊎◌, inl, inr, ⊎_elim, ℕ, suc, Bool, true, false, ◌||◌, ◌+◌, List, [], ◌∷◌, ◌++◌, Option, Some, None, refl, sym, ap, ◌∙◌, append_assoc}
 use Rattle.std.proofs.lemmas.List.{append-nil}
 use Rattle.cob_tree.specs.declared.keyword.Keyword.TheVariants as key
 use Rattle.cob_tree.specs.declared.operand.Ref.{Ref}
@@ -13,7 +13,7 @@ use Rattle.cob_tree.specs.declared.expr.Scaling.TheVariants as scaling
 use Rattle.cob_tree.specs.declared.cond.SignTest.TheVariants as test
 use Rattle.cob_tree.specs.declared.token.Rel.{Rel}
 use Rattle.cob_tree.specs.declared.token.Rel.TheVariants as rel
-use Rattle.cob_tree.specs.Symbols.{Sign, Mark}
+use Rattle.cob_tree.specs.Symbols.{Sign}
 use Rattle.cob_tree.specs.Items.{Item, IsLine, Fits, item, name, each}
 use Rattle.cob_tree.specs.Items as items
 use Rattle.cob_tree.specs.Cues.{Cue, is, Qualifies, Subscripts, Scales, Signs, Relates, NotRelates, Tests, NotTests, Zeros, Ands, Ors}
@@ -35,7 +35,7 @@ use Rattle.cob_parse_expr.proofs.ParseLemmas.{spell}
 
 -- ---- a text of items
 
-abbrev line_in : Option ℕ → ℕ
+abbrev pub line_in : Option ℕ → ℕ
 line_in None = 0
 line_in (Some l) = l
 
@@ -43,7 +43,7 @@ line_fits : (o : Option ℕ) → IsLine o (line_in o)
 line_fits None = tt
 line_fits (Some l) = refl
 
-abbrev signs : List Item → List Sign
+abbrev pub signs : List Item → List Sign
 signs [] = []
 signs (i ∷ is) = record { symbol = i.symbol; line = line_in i.line } ∷ signs is
 
@@ -52,12 +52,12 @@ signs_fit [] = tt
 signs_fit (i ∷ is) = (record { symbol = refl; line = line_fits i.line }, signs_fit is)
 
 -- some longer tree, and what its text has behind the other's
-record Grown {A : Type 0} (Good : A → Type 0) (print : A → List Item) (a : A) (m : Cue) : Type 0 where
-  longer : A
-  good : Good longer
-  more : List Item
-  text : print longer ≡ print a ++ more
-  begins : peek grammar (signs more) ≡ Some m
+pub record Grown {A : Type 0} (Good : A → Type 0) (print : A → List Item) (a : A) (m : Cue) : Type 0 where
+  pub longer : A
+  pub good : Good longer
+  pub more : List Item
+  pub text : print longer ≡ print a ++ more
+  pub begins : peek grammar (signs more) ≡ Some m
 
 or_cases : (a b : Bool) → (a || b) ≡ true → (a ≡ true) ⊎ (b ≡ true)
 or_cases true b e = inl refl
@@ -81,10 +81,10 @@ module _ (d : ℕ) (m : Cue) where
   bare : (r : Ref) → r.sub ≡ None → each (print_qualifier d) r.of ≡ each (print_qualifier d) r.of ++ print_sub_if d r.sub
   bare r none = sym (append-nil (each (print_qualifier d) r.of)) ∙ ap (λ (o : Option Subscript). each (print_qualifier d) r.of ++ print_sub_if d o) (sym none)
 
-  pub ref_grows : (r : Ref) → takes_ref r m ≡ true → Grown {Ref} Always (print_ref d) r m
+  pub ref_grows : (r : Ref) → takes_ref r m ≡ true → Grown Always (print_ref d) r m
   ref_grows r e = go r.sub refl e
     where
-      go : (sub : Option Subscript) → r.sub ≡ sub → takes_behind sub m ≡ true → Grown {Ref} Always (print_ref d) r m
+      go : (sub : Option Subscript) → r.sub ≡ sub → takes_behind sub m ≡ true → Grown Always (print_ref d) r m
       go (Some s) same f = absurd cc
       go None same f = ⊎_elim
           (λ here. record {
@@ -103,7 +103,7 @@ module _ (d : ℕ) (m : Cue) where
           })
           (or_cases (is Qualifies m) (is Subscripts m) f)
 
-  opnd_grows : (o : Opnd) → takes_opnd o m ≡ true → Grown {Opnd} Always (print_opnd d) o m
+  opnd_grows : (o : Opnd) → takes_opnd o m ≡ true → Grown Always (print_opnd d) o m
   opnd_grows (opnd.Const c) e = absurd cc
   opnd_grows (opnd.Ref r) e =
       let w = ref_grows r e in
@@ -111,13 +111,13 @@ module _ (d : ℕ) (m : Cue) where
 
   -- ---- expressions
 
-  primary_grows : (p : Primary) → takes_primary p m ≡ true → Grown {Primary} Always (print_primary d) p m
+  primary_grows : (p : Primary) → takes_primary p m ≡ true → Grown Always (print_primary d) p m
   primary_grows (group x) e = absurd cc
   primary_grows (operand o) e =
       let w = opnd_grows o e in
       record { longer = operand w.longer; good = tt; more = w.more; text = w.text; begins = w.begins }
 
-  fact_grows : (f : Fact) → takes_fact f m ≡ true → Grown {Fact} Always (print_fact d) f m
+  fact_grows : (f : Fact) → takes_fact f m ≡ true → Grown Always (print_fact d) f m
   fact_grows (MkFact s p) e =
       let w = primary_grows p e in
       record { longer = MkFact s w.longer; good = tt; more = w.more; text = behind_so (print_sign_if d s) (print_primary d p) w.more (print_primary d w.longer) w.text; begins = w.begins }
@@ -145,7 +145,7 @@ module _ (d : ℕ) (m : Cue) where
       let w = facts_more g gs e in
       record { longer = (f, more_facts s w.longer.0 w.longer.1); good = tt; more = w.more; text = behind_so (print_fact d f) (print_scaling d s ∷ print_all_facts (g, gs)) w.more (print_scaling d s ∷ print_all_facts w.longer) (ap (λ (z : List Item). print_scaling d s ∷ z) w.text); begins = w.begins }
 
-  term_grows : (t : Term) → takes_term t m ≡ true → Grown {Term} Always (print_term d) t m
+  term_grows : (t : Term) → takes_term t m ≡ true → Grown Always (print_term d) t m
   term_grows (MkTerm f fs) e =
       let w = ⊎_elim (facts_grow f fs) (facts_more f fs) (or_cases (takes_facts f fs m) (is Scales m) e) in
       record { longer = MkTerm w.longer.0 w.longer.1; good = tt; more = w.more; text = w.text; begins = w.begins }
@@ -171,7 +171,7 @@ module _ (d : ℕ) (m : Cue) where
       let w = terms_more u us e in
       record { longer = (t, more_terms s w.longer.0 w.longer.1); good = tt; more = w.more; text = behind_so (print_term d t) (print_sign d s ∷ print_all_terms (u, us)) w.more (print_sign d s ∷ print_all_terms w.longer) (ap (λ (z : List Item). print_sign d s ∷ z) w.text); begins = w.begins }
 
-  pub expr_grows : (x : Expr) → takes_expr x m ≡ true → Grown {Expr} Always (print_expr d) x m
+  pub expr_grows : (x : Expr) → takes_expr x m ≡ true → Grown Always (print_expr d) x m
   expr_grows (MkExpr t ts) e =
       let w = ⊎_elim (terms_grow t ts) (terms_more t ts) (or_cases (takes_terms t ts m) (is Signs m) e) in
       record { longer = MkExpr w.longer.0 w.longer.1; good = tt; more = w.more; text = w.text; begins = w.begins }
@@ -194,7 +194,7 @@ module _ (d : ℕ) (m : Cue) where
   neg_kept true s s' good as_good = (as_good.0, as_good.1 ∙ good.1)
 
   -- an expression with what makes it a condition
-  test_grows : (x : Expr) → takes_test m ≡ true → Grown {Simple} (AsGood (alone x)) (print_simple d) (alone x) m
+  test_grows : (x : Expr) → takes_test m ≡ true → Grown (AsGood (alone x)) (print_simple d) (alone x) m
   test_grows x e = ⊎_elim
       (λ first. ⊎_elim
       (λ first. ⊎_elim
@@ -209,7 +209,7 @@ module _ (d : ℕ) (m : Cue) where
       (λ here. record { longer = cond.sign x false test.Zero; good = (tt, refl); more = items.key d key.Zero ∷ []; text = refl; begins = this Zeros m here (Some Zeros) refl })
       (or_cases (is Relates m || is NotRelates m || is Tests m || is NotTests m) (is Zeros m) e)
 
-  simple_grows : (s : Simple) → takes_simple s m ≡ true → Grown {Simple} (AsGood s) (print_simple d) s m
+  simple_grows : (s : Simple) → takes_simple s m ≡ true → Grown (AsGood s) (print_simple d) s m
   simple_grows (parenthesised c) e = absurd cc
   simple_grows (numeric x not_) e = absurd cc
   simple_grows (cond.sign x not_ asked) e = absurd cc
@@ -238,7 +238,7 @@ module _ (d : ℕ) (m : Cue) where
       (test_grows x)
       (or_cases (takes_expr x m) (takes_test m) e)
 
-  neg_grows : (n : Neg) → ShapedNeg n → takes_neg n m ≡ true → Grown {Neg} ShapedNeg (print_neg d) n m
+  neg_grows : (n : Neg) → ShapedNeg n → takes_neg n m ≡ true → Grown ShapedNeg (print_neg d) n m
   neg_grows (MkNeg not_ s) good e =
       let w = simple_grows s e in
       record { longer = MkNeg not_ w.longer; good = neg_kept not_ s w.longer good w.good; more = w.more; text = behind_so (print_not d not_) (print_simple d s) w.more (print_simple d w.longer) w.text; begins = w.begins }
@@ -262,12 +262,12 @@ module _ (d : ℕ) (m : Cue) where
 
   negs_more : (n : Neg) (ns : Negs) → GoodNegs (n, ns) → is Ands m ≡ true → Grown GoodNegs print_all_negs (n, ns) m
   negs_more n no_negs good e =
-      record { longer = (n, more_negs some_neg no_negs); good = (good.0, tt, tt); more = items.key d key.And ∷ print_neg d some_neg; text = ap (λ (z : List Item). print_neg d n ++ z) (append-nil (items.key d key.And ∷ print_neg d some_neg)) ∙ ap (λ (z : List Item). z ++ items.key d key.And ∷ print_neg d some_neg) (sym (append-nil (print_neg d n))); begins = this Ands m e (Some Ands) refl }
+      record { longer = (n, more_negs some_neg no_negs); good = (good.0, (tt, tt)); more = items.key d key.And ∷ print_neg d some_neg; text = ap (λ (z : List Item). print_neg d n ++ z) (append-nil (items.key d key.And ∷ print_neg d some_neg)) ∙ ap (λ (z : List Item). z ++ items.key d key.And ∷ print_neg d some_neg) (sym (append-nil (print_neg d n))); begins = this Ands m e (Some Ands) refl }
   negs_more n (more_negs p ps) good e =
       let w = negs_more p ps good.1 e in
       record { longer = (n, more_negs w.longer.0 w.longer.1); good = (good.0, w.good); more = w.more; text = behind_so (print_neg d n) (items.key d key.And ∷ print_all_negs (p, ps)) w.more (items.key d key.And ∷ print_all_negs w.longer) (ap (λ (z : List Item). items.key d key.And ∷ z) w.text); begins = w.begins }
 
-  conj_grows : (c : Conj) → ShapedConj c → takes_conj c m ≡ true → Grown {Conj} ShapedConj (print_conj d) c m
+  conj_grows : (c : Conj) → ShapedConj c → takes_conj c m ≡ true → Grown ShapedConj (print_conj d) c m
   conj_grows (MkConj n ns) good e =
       let w = ⊎_elim (negs_grow n ns good) (negs_more n ns good) (or_cases (takes_negs n ns m) (is Ands m) e) in
       record { longer = MkConj w.longer.0 w.longer.1; good = w.good; more = w.more; text = w.text; begins = w.begins }
@@ -291,12 +291,12 @@ module _ (d : ℕ) (m : Cue) where
 
   conjs_more : (c : Conj) (cs : Conjs) → GoodConjs (c, cs) → is Ors m ≡ true → Grown GoodConjs print_all_conjs (c, cs) m
   conjs_more c no_conjs good e =
-      record { longer = (c, more_conjs some_conj no_conjs); good = (good.0, (tt, tt), tt); more = items.key d key.Or ∷ print_conj d some_conj; text = ap (λ (z : List Item). print_conj d c ++ z) (append-nil (items.key d key.Or ∷ print_conj d some_conj)) ∙ ap (λ (z : List Item). z ++ items.key d key.Or ∷ print_conj d some_conj) (sym (append-nil (print_conj d c))); begins = this Ors m e (Some Ors) refl }
+      record { longer = (c, more_conjs some_conj no_conjs); good = (good.0, ((tt, tt), tt)); more = items.key d key.Or ∷ print_conj d some_conj; text = ap (λ (z : List Item). print_conj d c ++ z) (append-nil (items.key d key.Or ∷ print_conj d some_conj)) ∙ ap (λ (z : List Item). z ++ items.key d key.Or ∷ print_conj d some_conj) (sym (append-nil (print_conj d c))); begins = this Ors m e (Some Ors) refl }
   conjs_more c (more_conjs p ps) good e =
       let w = conjs_more p ps good.1 e in
       record { longer = (c, more_conjs w.longer.0 w.longer.1); good = (good.0, w.good); more = w.more; text = behind_so (print_conj d c) (items.key d key.Or ∷ print_all_conjs (p, ps)) w.more (items.key d key.Or ∷ print_all_conjs w.longer) (ap (λ (z : List Item). items.key d key.Or ∷ z) w.text); begins = w.begins }
 
-  pub cond_grows : (c : Cond) → ShapedCond c → takes_cond c m ≡ true → Grown {Cond} ShapedCond (print_cond d) c m
+  pub cond_grows : (c : Cond) → ShapedCond c → takes_cond c m ≡ true → Grown ShapedCond (print_cond d) c m
   cond_grows (MkCond c cs) good e =
       let w = ⊎_elim (conjs_grow c cs good) (conjs_more c cs good) (or_cases (takes_conjs c cs m) (is Ors m) e) in
       record { longer = MkCond w.longer.0 w.longer.1; good = w.good; more = w.more; text = w.text; begins = w.begins }

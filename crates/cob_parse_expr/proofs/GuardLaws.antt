@@ -1,7 +1,7 @@
 -- Any number behind something that may go on, or may not.
-use Rattle.std.proofs.Common.{◌≡◌, ℕ, suc, Bool, true, false, ◌&&◌, List, [], ◌∷◌, ◌++◌, length, Err, refl, sym, ap, ◌∙◌}
-use Rattle.reading.specs.Readers.{Stop, Reader, many, no_step}
-use Rattle.reading.specs.Printing.{Alphabet, Matches, begins}
+use Rattle.std.proofs.Common.{◌≡◌, ℕ, Bool, true, false, ◌&&◌, List, ◌∷◌, ◌++◌, refl, sym, ◌∙◌}
+use Rattle.reading.specs.Readers.{Reader, many, no_step}
+use Rattle.reading.specs.Printing.{Alphabet, begins}
 use Rattle.reading.specs.Law.{Syntax, Law}
 use Rattle.reading.proofs.Texts.{next_none}
 use Rattle.reading.proofs.Starts.{Starts}

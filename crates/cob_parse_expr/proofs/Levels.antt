@@ -1,5 +1,5 @@
 -- The tokens of expressions and conditions stand at the depths that the parentheses before them tell.
-use Rattle.std.proofs.Common.{◌≡◌, ℕ, zero, suc, Bool, true, false, List, [], ◌∷◌, ◌++◌, Option, Some, None, refl, sym, subst}
+use Rattle.std.proofs.Common.{◌≡◌, ℕ, suc, Bool, true, false, List, [], ◌∷◌, ◌++◌, Option, Some, None, refl, sym, subst}
 use Rattle.cob_tree.specs.declared.keyword.Keyword.TheVariants as key
 use Rattle.cob_tree.specs.declared.operand.Opnd.{Opnd}
 use Rattle.cob_tree.specs.declared.operand.Opnd.TheVariants as opnd
@@ -14,13 +14,13 @@ use Rattle.cob_tree.specs.declared.expr.Scaling.{Scaling}
 use Rattle.cob_tree.specs.declared.expr.Scaling.TheVariants as scaling
 use Rattle.cob_tree.specs.declared.cond.SignTest.{SignTest}
 use Rattle.cob_tree.specs.declared.cond.SignTest.TheVariants as test
-use Rattle.cob_tree.specs.Symbols.{Symbol, Key, Mark}
+use Rattle.cob_tree.specs.Symbols.{Symbol, Mark}
 use Rattle.cob_tree.specs.Items.{Item, each}
 use Rattle.cob_tree.specs.Items as items
 use Rattle.cob_tree.specs.Expr.{Expr, MkExpr, Terms, no_terms, more_terms, Term, MkTerm, Facts, no_facts, more_facts, Fact, MkFact, Primary, operand, group}
 use Rattle.cob_tree.specs.Cond.{Cond, MkCond, Conjs, no_conjs, more_conjs, Conj, MkConj, Negs, no_negs, more_negs, Neg, MkNeg, Simple, parenthesised, relation, abbreviated, numeric, alone}
 use Rattle.cob_tree.specs.Cond as cond
-use Rattle.cob_tree.specs.PrintExpr.{const_symbol, open_mark, close_mark, sign_character, scaling_character, print_qualifier, print_sub, print_sub_if, print_ref, print_opnd, print_sign, print_scaling, print_sign_if, print_expr, print_terms, print_term, print_facts, print_fact, print_primary, print_not, print_relation, sign_word, print_cond, print_conjs, print_conj, print_negs, print_neg, print_simple}
+use Rattle.cob_tree.specs.PrintExpr.{const_symbol, close_mark, sign_character, scaling_character, print_qualifier, print_sub, print_sub_if, print_ref, print_opnd, print_sign_if, print_expr, print_terms, print_term, print_facts, print_fact, print_primary, print_not, print_relation, sign_word, print_cond, print_conjs, print_conj, print_negs, print_neg, print_simple}
 use Rattle.cob_parse_expr.proofs.OneAnswer.{depth_at, depth_behind, Leveled, leveled_join}
 
 -- ---- a token that is no parenthesis

@@ -1,5 +1,5 @@
 -- Each list of tokens has one answer.
-use Rattle.std.proofs.Common.{◌≡◌, ℕ, suc, ◌+◌, ◌-◌, ◌≤◌, List, arith}
+use Rattle.std.proofs.Common.{ℕ, ◌-◌, ◌≤◌, List, arith}
 use Rattle.cob_tree.specs.Symbols.{Sign}
 use Rattle.cob_parse_expr.specs.Parsing.{expr_syntax, cond_syntax}
 use Rattle.cob_parse_expr.specs.Reading.{expr_at}

@@ -1,5 +1,5 @@
 -- No tokens have two answers.
-use Rattle.std.proofs.Common.{◌≡◌, ℕ, zero, suc, ◌+◌, ◌≤◌, ◌<◌, ◌⊎◌, inl, inr, ⊎_elim, ◌==◌, if◌then◌else◌, List, [], ◌∷◌, ◌++◌, length, length-append, Ok, refl, sym, ap, subst, ◌∙◌, append_assoc, arith}
+use Rattle.std.proofs.Common.{◌≡◌, ℕ, zero, suc, ◌≤◌, ◌<◌, ⊎_elim, ◌==◌, if◌then◌else◌, List, [], ◌∷◌, ◌++◌, length, length-append, Ok, refl, sym, ap, subst, ◌∙◌, append_assoc, arith}
 use Rattle.cob_tree.specs.Symbols.{Symbol, Mark, Sign}
 use Rattle.cob_tree.specs.Items.{Item}
 use Rattle.cob_tree.specs.Cues.{Cue}

@@ -9,13 +9,13 @@ use Rattle.cob_tree.specs.declared.operand.Opnd.{Opnd}
 use Rattle.cob_tree.specs.declared.operand.Opnd.TheVariants as opnd
 use Rattle.cob_tree.specs.declared.token.Num.{Num}
 use Rattle.cob_tree.specs.declared.keyword.Keyword.TheVariants as key
-use Rattle.cob_tree.specs.Symbols.{Symbol, Key, Name, Number, Mark, Sign}
+use Rattle.cob_tree.specs.Symbols.{Symbol, Key, Number, Mark, Sign}
 use Rattle.cob_tree.specs.Items.{Item, Fits, item, name, each}
 use Rattle.cob_tree.specs.Cues.{Cue, is, Qualifies, Subscripts, NotRelates, NotTests, NotSize, NotAtEnd}
 use Rattle.cob_parse_expr.specs.Alphabet.{symbol_front, grammar}
 use Rattle.cob_tree.specs.PrintExpr.{const_symbol, print_const, print_qualifier, print_sub, print_ref, print_opnd}
 use Rattle.cob_tree.specs.Takes.{takes_ref, takes_opnd}
-use Rattle.reading.specs.Readers.{Reader, lead, seq, many, stands, branch, closed, full}
+use Rattle.reading.specs.Readers.{Reader, lead, many, stands, closed}
 use Rattle.reading.specs.Printing.{Matches, Next, peek_on, on_mark}
 use Rattle.reading.specs.Law.{Syntax, Law}
 use Rattle.reading.proofs.Texts.{Always, takes_nothing}
@@ -30,8 +30,8 @@ use Rattle.reading.proofs.Full.{full_law}
 use Rattle.reading.proofs.Opt.{phrase_syntax, plain_law}
 use Rattle.cob_parse_expr.specs.Parsing.{ref_syntax}
 use Rattle.cob_parse_expr.specs.LexemeClasses.{name_symbol}
-use Rattle.cob_parse_expr.specs.Classes.{name_of, const_of, of_of, open_of, close_of}
-use Rattle.cob_parse_expr.specs.Reading.{here, qualifier_at, second, named_at, make_sub, inner_sub_at, sub_goes, inside_sub, sub_at, make_ref, ref_with, ref_at, make_opnd, opnd_with, opnd_at}
+use Rattle.cob_parse_expr.specs.Classes.{name_of, const_of, open_of, close_of}
+use Rattle.cob_parse_expr.specs.Reading.{here, qualifier_at, second, named_at, make_sub, inner_sub_at, sub_goes, sub_at, make_ref, ref_with, ref_at, make_opnd, opnd_with, opnd_at}
 use Rattle.cob_parse_expr.proofs.CueLemmas.{only, not_taken}
 use Rattle.cob_parse_expr.proofs.ClassLaws.{ofs, names, numbers, consts, opens, closes, of_told}
 use Rattle.cob_parse_expr.proofs.Generic.{tells_by_one, all_good}

@@ -1,22 +1,21 @@
 -- Conditions in parentheses, for each room.
-use Rattle.std.proofs.Common.{◌≡◌, ℕ, zero, suc, ◌+◌, ◌<◌, ◌⊎◌, inl, inr, Bool, true, false, ◌||◌, ◌&&◌, List, [], ◌∷◌, ◌++◌, Option, Some, None, is_some, refl, sym, ap, subst, ◌∙◌, append_assoc, zero-add, arith, length}
+use Rattle.std.proofs.Common.{◌≡◌, ℕ, zero, suc, ◌+◌, ◌<◌, Bool, true, false, ◌||◌, ◌&&◌, List, [], ◌∷◌, ◌++◌, Option, Some, None, is_some, refl, sym, ap, subst, ◌∙◌, append_assoc, arith}
 use Rattle.std.proofs.lemmas.List.{append-nil}
 use Rattle.cob_tree.specs.declared.token.Rel.TheVariants as rel
-use Rattle.cob_tree.specs.declared.keyword.Keyword.{Keyword}
 use Rattle.cob_tree.specs.declared.keyword.Keyword.TheVariants as key
 use Rattle.cob_tree.specs.Symbols.{Symbol, Key, Mark, Relation, Sign}
 use Rattle.cob_tree.specs.Items.{Item, Fits, item}
 use Rattle.cob_tree.specs.Items as items
-use Rattle.cob_tree.specs.Cues.{Cue, not_cue, NotRelates, NotTests, NotSize, NotAtEnd, Ands, Ors}
-use Rattle.cob_parse_expr.specs.Alphabet.{symbol_front, key_front, grammar}
+use Rattle.cob_tree.specs.Cues.{Cue, NotRelates, NotTests, NotSize, NotAtEnd}
+use Rattle.cob_parse_expr.specs.Alphabet.{symbol_front, grammar}
 use Rattle.cob_tree.specs.Expr.{Expr}
 use Rattle.cob_tree.specs.Cond.{Cond, MkCond, Conjs, no_conjs, more_conjs, Conj, MkConj, Negs, no_negs, more_negs, Neg, MkNeg, Simple, parenthesised, relation, abbreviated, numeric, alone}
 use Rattle.cob_tree.specs.Cond as cond
-use Rattle.cob_tree.specs.PrintExpr.{open_mark, close_mark, print_expr, print_relation, print_cond, print_conjs, print_conj, print_negs, print_neg, print_simple, print_not}
-use Rattle.cob_tree.specs.Takes.{takes_expr, takes_test, takes_simple, takes_neg, takes_negs, takes_conj, takes_conjs, takes_cond}
+use Rattle.cob_tree.specs.PrintExpr.{open_mark, close_mark, print_expr, print_relation, print_cond, print_conjs, print_conj, print_negs, print_neg, print_simple}
+use Rattle.cob_tree.specs.Takes.{takes_expr, takes_simple, takes_neg, takes_negs, takes_conj, takes_conjs, takes_cond}
 use Rattle.cob_tree.specs.Shaped.{begins_with_relation, ShapedCond, ShapedConjs, ShapedConj, ShapedNegs, ShapedNeg, ShapedSimple}
-use Rattle.reading.specs.Readers.{Reader, branch, closed, stands, full_on, lead, choose}
-use Rattle.reading.specs.Printing.{Front, Here, Ahead, Below, on_mark, Next}
+use Rattle.reading.specs.Readers.{closed, stands}
+use Rattle.reading.specs.Printing.{Front, Here, Ahead, Below, on_mark}
 use Rattle.reading.specs.Law.{Law}
 use Rattle.reading.proofs.Texts.{Always}
 use Rattle.reading.proofs.Dependent.{seq_syntax}
@@ -28,7 +27,7 @@ use Rattle.reading.proofs.Full.{full_law}
 use Rattle.cob_parse_expr.specs.Classes.{open_of, close_of, not_key, not_of}
 use Rattle.cob_parse_expr.specs.LexemeClasses.{word_symbol}
 use Rattle.cob_parse_expr.specs.Reading.{inner_at}
-use Rattle.cob_parse_expr.specs.CondReading.{cond_with, cond_goes, inside_cond, paren_at, cond_at}
+use Rattle.cob_parse_expr.specs.CondReading.{cond_with, cond_goes, paren_at, cond_at}
 use Rattle.cob_parse_expr.specs.Parsing.{cond_syntax}
 use Rattle.cob_parse_expr.proofs.CueLemmas.{not_alone, not_cues}
 use Rattle.cob_parse_expr.proofs.ClassLaws.{opens, closes, nots}

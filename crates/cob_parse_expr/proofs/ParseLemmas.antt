@@ -1,17 +1,16 @@
 -- From what is read of lexemes to what is promised of tokens.
-use Rattle.std.proofs.Common.{◌≡◌, ℕ, zero, suc, ◌+◌, ◌-◌, ◌≤◌, ◌⊎◌, inl, inr, List, [], ◌∷◌, ◌++◌, length, length-append, length-drop, drop, map, Option, Some, None, Result, Ok, Err, refl, sym, ap, subst, ◌∙◌, arith}
+use Rattle.std.proofs.Common.{◌≡◌, ℕ, suc, ◌+◌, ◌-◌, ◌≤◌, ◌⊎◌, inl, inr, List, length, length-drop, drop, Option, Some, None, Ok, Err, refl, sym, ap, subst, ◌∙◌, arith}
 use Rattle.std.proofs.lemmas.List.{length-map}
 use Rattle.cob_tree.specs.declared.token.Token.{Token}
 use Rattle.cob_parse_expr.specs.declared.lexeme.Lexeme.{Lexeme}
-use Rattle.cob_tree.specs.Symbols.{Sign, Symbol, seen}
+use Rattle.cob_tree.specs.Symbols.{Sign, seen}
 use Rattle.cob_tree.specs.Items.{Item, Fits, IsLine}
 use Rattle.cob_tree.specs.Cues.{Cue}
 use Rattle.cob_parse_expr.specs.Alphabet.{grammar}
-use Rattle.reading.specs.Readers.{Fault, Stop, Deep, Reader}
+use Rattle.reading.specs.Readers.{Stop, Reader}
 use Rattle.reading.specs.Law.{Syntax, Law, Agrees}
-use Rattle.reading.specs.Outcome.{IsRead, Stops, OpensTooDeep}
+use Rattle.reading.specs.Outcome.{IsRead, OpensTooDeep}
 use Rattle.reading.proofs.Consequences.{within}
-use Rattle.cob_parse_expr.specs.Lexemes.{plain_lexeme}
 use Rattle.cob_parse_expr.specs.declared.halt.Halt.{Halt}
 use Rattle.cob_parse_expr.specs.declared.halt.Halt.TheVariants as halt
 use Rattle.cob_parse_expr.specs.Steps.{signs, Fails}

@@ -4,7 +4,7 @@ use Rattle.cob_tree.specs.Symbols.{Sign}
 use Rattle.cob_tree.specs.Cond.{Cond}
 use Rattle.cob_tree.specs.Cues.{NotRelates}
 use Rattle.cob_tree.specs.Takes.{takes_cond}
-use Rattle.reading.specs.Readers.{Fault, Stop, Deep, Reader, ◌>>=◌, lead_as, lead, seq, branch, seen, choose, stands, need, closed, left_on, full}
+use Rattle.reading.specs.Readers.{Fault, Stop, Deep, Reader, lead_as, lead, seq, branch, seen, choose, stands, need, closed, left_on, full}
 use Rattle.reading.proofs.Results.{done, ok_is}
 use Rattle.cob_parse_expr.specs.declared.halt.Halt.{Halt}
 use Rattle.cob_parse_expr.specs.declared.halt.Halt.TheVariants as halt

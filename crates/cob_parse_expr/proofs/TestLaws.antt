@@ -1,5 +1,5 @@
 -- The laws of what is asked of an expression: a relation, NUMERIC, or a sign, with NOT or without.
-use Rattle.std.proofs.Common.{◌≡◌, ℕ, suc, ◌≤◌, ◌<◌, ◌==◌, if◌then◌else◌, ◌⊎◌, inl, inr, Bool, true, false, ◌||◌, ◌&&◌, List, [], ◌∷◌, ◌++◌, length, Option, Some, None, is_some, Result, Ok, Err, refl, sym, ap, subst, ◌∙◌, arith}
+use Rattle.std.proofs.Common.{◌≡◌, ℕ, suc, ◌≤◌, ◌<◌, ◌==◌, if◌then◌else◌, ◌⊎◌, inl, inr, Bool, true, false, ◌||◌, List, [], ◌∷◌, ◌++◌, length, Option, Some, None, is_some, Err, refl, sym, ap, subst, ◌∙◌, arith}
 use Rattle.cob_tree.specs.declared.keyword.Keyword.{Keyword}
 use Rattle.cob_tree.specs.declared.keyword.Keyword.TheVariants as key
 use Rattle.cob_tree.specs.declared.cond.SignTest.{SignTest}
@@ -15,24 +15,24 @@ use Rattle.cob_tree.specs.Cues as cue
 use Rattle.cob_tree.specs.Expr.{Expr}
 use Rattle.cob_tree.specs.PrintExpr.{print_expr, print_not, print_relation, sign_word}
 use Rattle.cob_tree.specs.Takes.{takes_expr, takes_test}
-use Rattle.reading.specs.Readers.{left_of, Fault, Reader, lead_as, lead, branch, choose_on, choose, stands}
-use Rattle.reading.specs.Printing.{Front, Here, Ahead, Matches, peek_on, on_mark, begins}
+use Rattle.reading.specs.Readers.{left_of, Fault, lead, branch, choose_on, choose, stands}
+use Rattle.reading.specs.Printing.{Ahead, Matches, peek_on, on_mark, begins}
 use Rattle.reading.specs.Law.{Syntax, Law}
 use Rattle.reading.proofs.Results.{fault_before, done, faulty, ok_fails}
-use Rattle.reading.proofs.Texts.{Always, takes_nothing, peek_two}
+use Rattle.reading.proofs.Texts.{Always, peek_two}
 use Rattle.reading.proofs.Dependent.{dependent_syntax}
 use Rattle.reading.proofs.Lead.{lead_syntax, lead_law, branch_law}
-use Rattle.reading.proofs.Seen.{View, seen_law}
+use Rattle.reading.proofs.Seen.{seen_law}
 use Rattle.reading.proofs.Starts.{Starts, enters}
 use Rattle.reading.proofs.Choose.{choose_syntax, choose_law}
 use Rattle.cob_parse_expr.specs.LexemeClasses.{word_symbol}
-use Rattle.cob_parse_expr.specs.Classes.{not_key, not_of, numeric_key, numeric_of, sign_test_key, sign_test_of, relation_symbol, relation_of, bare_symbol, bare_first}
+use Rattle.cob_parse_expr.specs.Classes.{not_key, not_of, numeric_key, numeric_of, sign_test_of, relation_symbol, relation_of, bare_symbol, bare_first}
 use Rattle.cob_parse_expr.specs.Reading.{Inner, expr_with}
 use Rattle.cob_parse_expr.specs.CondReading.{Asked, compared, for_digits, for_sign, make_asked, compared_with, asked_with, make_test, test_with}
 use Rattle.cob_parse_expr.specs.Parsing.{expr_syntax}
 use Rattle.cob_parse_expr.proofs.ClassLaws.{relations, numerics, sign_tests, nots}
 use Rattle.cob_parse_expr.proofs.Generic.{tells_by_one}
-use Rattle.cob_parse_expr.proofs.ExprLaws.{InnerLaw, expr_law, some_expr}
+use Rattle.cob_parse_expr.proofs.ExprLaws.{InnerLaw, expr_law}
 
 abbrev pub compared_syntax : ℕ → Syntax Item Cue (Rel × Expr)
 compared_syntax d = dependent_syntax (lead_syntax Always (λ x. item d (Relation x))) (λ r. expr_syntax d)

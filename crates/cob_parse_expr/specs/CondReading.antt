@@ -1,5 +1,5 @@
 -- How conditions are read.
-use Rattle.std.specs.Prelude.{ℕ, zero, suc, ◌⊎◌, ◌&&◌, Bool, true, false, List, [], ◌∷◌, Option, Some, None, is_some, map}
+use Rattle.std.specs.Prelude.{ℕ, zero, suc, ◌⊎◌, ◌&&◌, Bool, true, false, List, Option, Some, None, is_some, map}
 use Rattle.std.proofs.Common.{inl, inr}
 use Rattle.cob_tree.specs.declared.operand.Opnd.{Opnd}
 use Rattle.cob_tree.specs.declared.expr.Sign as plus_minus
@@ -7,14 +7,14 @@ use Rattle.cob_tree.specs.declared.expr.Scaling.{Scaling}
 use Rattle.cob_tree.specs.declared.cond.SignTest.{SignTest}
 use Rattle.cob_tree.specs.declared.token.Rel.{Rel}
 use Rattle.cob_tree.specs.Symbols.{Sign}
-use Rattle.cob_tree.specs.Cues.{Cue, is, Signs, Scales, NotRelates, Ands, Ors}
+use Rattle.cob_tree.specs.Cues.{is, Signs, Scales, NotRelates, Ands, Ors}
 use Rattle.cob_parse_expr.specs.Alphabet.{grammar}
 use Rattle.cob_tree.specs.Expr.{Expr, MkExpr, terms_of, Term, MkTerm, facts_of, Fact, MkFact, Primary, operand, group}
 use Rattle.cob_tree.specs.Cond.{Cond, MkCond, Conj, MkConj, Neg, MkNeg, Simple, parenthesised, relation, abbreviated, numeric, alone, conjs_of, negs_of}
 use Rattle.cob_tree.specs.Cond as cond
 use Rattle.cob_tree.specs.PrintExpr.{one_alone}
-use Rattle.cob_tree.specs.Takes.{takes_test, takes_neg, takes_conj, takes_cond}
-use Rattle.reading.specs.Readers.{Reader, lead, follow, seq, branch, seen, choose, many, opt, stands, left_on, closed, full}
+use Rattle.cob_tree.specs.Takes.{takes_test, takes_cond}
+use Rattle.reading.specs.Readers.{Reader, lead, follow, seq, branch, seen, choose, many, opt, stands, closed, full}
 use Rattle.reading.specs.Printing.{begins}
 use Rattle.cob_parse_expr.specs.Classes.{open_of, close_of, sign_of, scaling_of, not_of, and_of, or_of, numeric_of, sign_test_of, relation_of}
 use Rattle.cob_parse_expr.specs.Reading.{here, second, Inner, opnd_with, primary_with, fact_with, term_with, expr_with, inner_at}

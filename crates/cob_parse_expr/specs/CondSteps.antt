@@ -1,9 +1,8 @@
 -- What one function says of the part of a condition that it read.
-use Rattle.std.specs.Prelude.{ℕ, ◌⊎◌, ◌&&◌, Bool, true, false, List, [], ◌∷◌, Option, Some, None, is_some, Result, Ok}
+use Rattle.std.specs.Prelude.{ℕ, ◌&&◌, Bool, true, false, List, [], ◌∷◌, Option, Some, None, is_some, Ok}
 use Rattle.std.proofs.Common.{inl, inr}
 use Rattle.cob_tree.specs.declared.expr.Sign as plus_minus
 use Rattle.cob_tree.specs.declared.expr.Scaling.{Scaling}
-use Rattle.cob_tree.specs.declared.token.Rel.{Rel}
 use Rattle.cob_parse_expr.specs.declared.asked.Asked as declared
 use Rattle.cob_parse_expr.specs.declared.asked.Asked.TheVariants as variant
 use Rattle.cob_tree.specs.Symbols.{Sign}
@@ -11,9 +10,8 @@ use Rattle.cob_tree.specs.Cues.{NotRelates}
 use Rattle.cob_tree.specs.Expr.{Expr, MkExpr, terms_of, Term, MkTerm, facts_of, Fact, MkFact, group}
 use Rattle.cob_tree.specs.ExprView.{plain_expr}
 use Rattle.cob_tree.specs.Cond.{Cond, Conj, MkConj, no_negs, Neg, MkNeg, Simple, parenthesised, alone}
-use Rattle.cob_tree.specs.PrintExpr.{one_alone}
 use Rattle.cob_tree.specs.Takes.{takes_test, takes_neg, takes_conj}
-use Rattle.reading.specs.Readers.{Fault, Reader, seq, seen, opt, left_on}
+use Rattle.reading.specs.Readers.{Reader, seq, seen, opt, left_on}
 use Rattle.reading.specs.Printing.{begins}
 use Rattle.cob_parse_expr.specs.Alphabet.{grammar}
 use Rattle.cob_parse_expr.specs.Classes.{not_of}

@@ -1,5 +1,5 @@
 -- How expressions are read.
-use Rattle.std.specs.Prelude.{ℕ, zero, suc, ◌⊎◌, Bool, true, false, List, [], ◌∷◌, Option, Some, None, map}
+use Rattle.std.specs.Prelude.{ℕ, zero, suc, ◌⊎◌, Bool, false, List, Option, Some, None, map}
 use Rattle.std.proofs.Common.{inl, inr}
 use Rattle.cob_tree.specs.declared.operand.Const.{Const}
 use Rattle.cob_tree.specs.declared.operand.Ref.{Ref}

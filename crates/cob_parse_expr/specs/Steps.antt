@@ -1,5 +1,5 @@
 -- What one function says of what it read, in the terms of readers.
-use Rattle.std.specs.Prelude.{◌≡◌, Bool, true, false, List, length, Option, Result, Ok, Err, map}
+use Rattle.std.specs.Prelude.{◌≡◌, true, false, List, length, Option, Result, Ok, Err, map}
 use Rattle.cob_parse_expr.specs.declared.lexeme.Lexeme.{Lexeme}
 use Rattle.cob_parse_expr.specs.Lexemes.{plain_lexeme}
 use Rattle.cob_tree.specs.Symbols.{Sign}
