@@ -28,11 +28,11 @@ use Rattle.reading.proofs.Opt.{phrase_syntax, phrase_law}
 use Rattle.reading.proofs.Choose.{choose_syntax, choose_law}
 use Rattle.cob_parse_expr.specs.Alphabet.{grammar}
 use Rattle.cob_parse_expr.specs.LexemeClasses.{word_symbol}
-use Rattle.cob_parse_expr.specs.Parsing.{cond_syntax}
+use Rattle.cob_parse_expr.specs.Parsing.{ref_syntax, cond_syntax}
 use Rattle.cob_parse_expr.specs.CondReading.{cond_at}
 use Rattle.cob_parse_expr.proofs.CueLemmas.{only}
 use Rattle.cob_parse_expr.proofs.Generic.{tells_by_one}
-use Rattle.cob_parse_expr.proofs.OperandLaws.{ref_syntax, law_of_references, opnd_syntax, law_of_operands}
+use Rattle.cob_parse_expr.proofs.OperandLaws.{law_of_references, opnd_syntax, law_of_operands}
 use Rattle.cob_parse_expr.proofs.ExprLaws.{some_expr, ref_never, expr_never}
 use Rattle.cob_parse_expr.proofs.CondLaws.{cond_never}
 use Rattle.cob_parse_expr.proofs.ParenLaws.{law_of_conditions}

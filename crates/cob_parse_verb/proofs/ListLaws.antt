@@ -38,7 +38,8 @@ use Rattle.cob_parse_expr.specs.Classes.{name_of}
 use Rattle.cob_parse_expr.specs.Reading.{here, ref_at, opnd_at}
 use Rattle.cob_parse_expr.proofs.CueLemmas.{only, not_cues, not_taken}
 use Rattle.cob_parse_expr.proofs.ClassLaws.{names, told}
-use Rattle.cob_parse_expr.proofs.OperandLaws.{ref_syntax, law_of_references, opnd_syntax, law_of_operands}
+use Rattle.cob_parse_expr.specs.Parsing.{ref_syntax}
+use Rattle.cob_parse_expr.proofs.OperandLaws.{law_of_references, opnd_syntax, law_of_operands}
 use Rattle.cob_parse_expr.proofs.ExprLaws.{ref_never}
 use Rattle.cob_parse_verb.specs.Words as word
 use Rattle.cob_parse_verb.specs.Words.{mode_key, mode_of}

@@ -29,7 +29,8 @@ use Rattle.cob_parse_expr.specs.LexemeClasses.{name_symbol}
 use Rattle.cob_parse_expr.specs.Classes.{name_of}
 use Rattle.cob_parse_expr.proofs.CueLemmas.{only}
 use Rattle.cob_parse_expr.proofs.Generic.{tells_by_one}
-use Rattle.cob_parse_expr.proofs.OperandLaws.{ref_syntax, law_of_references, const_syntax, const_law}
+use Rattle.cob_parse_expr.specs.Parsing.{ref_syntax}
+use Rattle.cob_parse_expr.proofs.OperandLaws.{law_of_references, const_syntax, const_law}
 use Rattle.cob_parse_expr.proofs.ExprLaws.{ref_never}
 use Rattle.cob_parse_verb.specs.Words as word
 use Rattle.cob_parse_verb.specs.Targets.{Target, receivers, giving, may_give, make_target, giving_at, target_at, given_at}
