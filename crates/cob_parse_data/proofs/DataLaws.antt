@@ -424,9 +424,6 @@ module _ (top : ℕ) (low : 0 < top) where
   abbrev fd_bodies : FdHead → Syntax Item Symbol FdClause
   fd_bodies k = record { Good = λ c. (fd_head_of c ≡ k) × ShapedFdClause c; print = fd_rest; takes = takes_fd_clause }
 
-  abbrev no_number : Num
-  no_number = record { sign = 0; digits = []; scale = 0 }
-
   abbrev fd_number : FdClause → Num
   fd_number (fd_clause.Block n) = n
   fd_number (fd_clause.RecordSize n) = n

@@ -4,7 +4,7 @@ use Rattle.cob_tree.specs.declared.keyword.Keyword.TheVariants as key
 use Rattle.reading.specs.Readers.{maybe}
 use Rattle.cob_parse_expr.specs.LexemeClasses.{number_symbol, of, the}
 use Rattle.cob_parse_expr.specs.Steps.{signs}
-use Rattle.cob_parse_expr.proofs.StepLemmas.{seq_first, seq_read}
+use Rattle.cob_parse_expr.proofs.StepLemmas.{seq_read}
 use Rattle.cob_parse_data.specs.Reading.{one, to_occurs}
 use Rattle.cob_parse_data.proofs.MaybeLemmas.{maybe_leads, maybe_lacks}
 use Rattle.cob_parse_data.proofs.entry.occurs_behind.Goals as goal
