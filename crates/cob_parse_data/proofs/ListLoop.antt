@@ -1,5 +1,5 @@
 -- Lists read one item after the other, as a loop does.
-use Rattle.std.proofs.Common.{◌≡◌, ◌<◌, ◌≤◌, true, false, List, [], ◌∷◌, ◌++◌, length, Option, Result, Ok, Err, refl, sym, ap, ◌∙◌, arith}
+use Rattle.std.proofs.Common.{◌≡◌, ◌<◌, ◌≤◌, true, false, List, [], ◌∷◌, ◌++◌, length, Option, Result, Ok, Err, refl, ap, ◌∙◌, arith}
 use Rattle.std.proofs.lemmas.List.{length-map}
 use Rattle.cob_tree.specs.Symbols.{Symbol, Sign}
 use Rattle.cob_parse_expr.specs.declared.lexeme.Lexeme.{Lexeme}

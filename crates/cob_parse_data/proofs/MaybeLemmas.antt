@@ -1,7 +1,7 @@
 -- What a word that stands first, or doesn't, says of reading it where it may be left out.
 use Rattle.std.proofs.Common.{◌≡◌, false, List, [], ◌∷◌, Option, Some, None, is_some, Ok, refl, ap}
 use Rattle.cob_tree.specs.Symbols.{Sign}
-use Rattle.reading.specs.Readers.{lead_as, lead, split_on, maybe_on, maybe}
+use Rattle.reading.specs.Readers.{lead_as, split_on, maybe_on, maybe}
 use Rattle.reading.proofs.Results.{ok_is}
 use Rattle.cob_parse_expr.specs.Steps.{Leads, Lacks}
 
