@@ -25,7 +25,7 @@ use Rattle.cob_calc.specs.Receiving.{is_whole, IsSmallSum, AreSmall, CanWork, cu
 use Rattle.cob_calc.specs.Arithmetic.{quotient_at, is_small_rest_at, is_small_rest, is_small_result}
 use Rattle.cob_calc.proofs.Within as within
 use Rattle.cob_calc.proofs.ExactLemmas.{near_shift}
-use Rattle.cob_calc.proofs.SumLemmas.{small_sum_bound}
+use Rattle.cob_program.proofs.SmallSums.{small_sum_bound}
 
 -- ---- results
 
