@@ -16,7 +16,7 @@ use Rattle.cob_program.specs.Sum.{Parts, more_parts, Part, Factors, no_factors, 
 use Rattle.cob_program.specs.Values.{whole_number, quotient_scale, ◌>>=◌}
 use Rattle.cob_program.specs.Bounds.{Bound, exactly, joint, raised, sum_bound, product_bound, quotient_bound, factor_bound, is_small, part_most, atom_most, is_small_sum_from, is_small_part, is_small_product, is_small_atom}
 use Rattle.cob_program.proofs.Steps.{some_bound, both, whole_within, factor_within}
-pub use Rattle.cob_program.proofs.SmallSums.{small_part_most, small_atom_most}
+pub use Rattle.cob_program.proofs.SmallSums.{small_atom_most}
 use Rattle.cob_program.proofs.SmallSums.{bind_bind, at_most, one_is_small, none_is_small}
 use Rattle.sum_ranges.specs.declared.ranged.Ranged.{Ranged}
 use Rattle.sum_ranges.specs.Ranged.{decimal, point}
