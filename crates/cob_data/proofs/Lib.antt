@@ -1,3 +1,5 @@
+pub mod ExtentStarts
+pub mod Meeting
 pub mod LengthLemmas
 pub mod SpotLemmas
 pub mod ReadLemmas

@@ -1,3 +1,4 @@
+pub mod Extents
 pub mod Entries
 pub mod Reading
 pub mod Lengths
