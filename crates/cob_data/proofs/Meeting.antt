@@ -39,7 +39,7 @@ any_isnt n test none = go (any_below n test) refl
         found : (k : ℕ) × (k < n) × (test k ≡ true) → any_below n test ≡ false
         found (k, l, h) = absurd (none k l h)
 
-share_is : (offset count from many : ℕ) → share_bytes offset count from many ≡ true → (offset < from + many) × (from < offset + count)
+pub share_is : (offset count from many : ℕ) → share_bytes offset count from many ≡ true → (offset < from + many) × (from < offset + count)
 share_is offset count from many e = go (nat_le (from + many) offset) (nat_le (offset + count) from) refl refl e
   where
     go : (u v : Bool) → nat_le (from + many) offset ≡ u → nat_le (offset + count) from ≡ v → not (u || v) ≡ true → (offset < from + many) × (from < offset + count)
@@ -47,7 +47,7 @@ share_is offset count from many e = go (nat_le (from + many) offset) (nat_le (of
     go false true f g h = absurd cc
     go false false f g h = (grind (arith, nat_tests, f), grind (arith, nat_tests, g))
 
-share_for : (offset count from many : ℕ) → offset < from + many → from < offset + count → share_bytes offset count from many ≡ true
+pub share_for : (offset count from many : ℕ) → offset < from + many → from < offset + count → share_bytes offset count from many ≡ true
 share_for offset count from many a b = go (nat_le (from + many) offset) (nat_le (offset + count) from) refl refl
   where
     go : (u v : Bool) → nat_le (from + many) offset ≡ u → nat_le (offset + count) from ≡ v → not (u || v) ≡ true

@@ -17,6 +17,7 @@ ghost use Rattle.cob_tree.specs.Limits.{token_limit};
 
 use crate::build::layout_in;
 use crate::end::DataEnd;
+use crate::extent::share_extents;
 use crate::layout::{Item, Layout};
 use crate::names::names_of;
 use crate::read::facts_of;
@@ -77,15 +78,10 @@ pub fn layout_of(alloc: Global, tree: &Tree) -> Result<Layout, DataEnd>
     laid_out(alloc, tree)
 }
 
-fn end_of(item: &Item) -> u64
-    ensures { result ≡ item.now.offset + item.now.length }
-{
-    u64::from(item.offset) + u64::from(item.length)
-}
-
-/// Whether some byte lies in both items.
+/// Whether some byte lies in both items, in whichever of their occurrences.
+#[tactic(auto, using(crate::proofs::Overlapping::meets_is))]
 pub fn overlaps(a: &Item, b: &Item) -> bool
     ensures { IsTrue result ↔ Meet a.now b.now }
 {
-    u64::from(a.offset.max(b.offset)) < end_of(a).min(end_of(b))
+    share_extents(&a.extent(), &b.extent())
 }
