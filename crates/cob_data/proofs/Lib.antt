@@ -1,3 +1,4 @@
+pub mod OneOccurrence
 pub mod Overlapping
 pub mod ExtentStarts
 pub mod Meeting

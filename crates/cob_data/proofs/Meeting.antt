@@ -4,7 +4,7 @@ use Rattle.std.specs.Prelude.{nat_le, ◌-◌, ◌/◌}
 use Rattle.std.proofs.Math.Nat.{mul-le-mul_right, lt-div-mul-add, div-mul-le_self}
 use Rattle.std.proofs.lemmas.Bool.Decides.{nat_tests}
 use Rattle.cob_data.specs.declared.extent.Extent.{Extent}
-use Rattle.cob_data.specs.Extents.{start_of, any_below, share_bytes, meets_range}
+use Rattle.cob_data.specs.Extents.{start_of, any_below, share_bytes, AreApart, meets_range, share_extents, LieApart}
 use Rattle.cob_data.proofs.ExtentStarts.{start_is, start_rises, none_below}
 
 pub some_below : (n : ℕ) (test : ℕ → Bool) → any_below n test ≡ true → (k : ℕ) × (k < n) × (test k ≡ true)
@@ -131,3 +131,20 @@ next_is_behind e offset ends wide =
   where
     next : (n s : ℕ) → (n + 1) * s ≡ n * s + s
     next n s = omega arith
+
+-- ---- none in common
+
+pub apart_for : (offset count from many : ℕ) → share_bytes offset count from many ≡ false → AreApart offset count from many
+apart_for offset count from many e = go (nat_le (from + many) offset) (nat_le (offset + count) from) refl refl e
+  where
+    go : (u v : Bool) → nat_le (from + many) offset ≡ u → nat_le (offset + count) from ≡ v → not (u || v) ≡ false
+        → AreApart offset count from many
+    go true v f g h = inl (grind (arith, nat_tests, f))
+    go false true f g h = inr (grind (arith, nat_tests, g))
+    go false false f g h = absurd cc
+
+pub lie_apart : (a b : Extent) → share_extents a b ≡ false → LieApart a b
+lie_apart a b e m n l k =
+    apart_for (start_of a m) a.length (start_of b n) b.length
+    (none_below b.times (λ j. share_bytes (start_of a m) a.length (start_of b j) b.length)
+    (none_below a.times (λ i. meets_range b (start_of a i) a.length) e m l) n k)

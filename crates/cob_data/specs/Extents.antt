@@ -1,5 +1,5 @@
 -- The bytes of an item in all its occurrences (ISO 1989:1985, "OCCURS clause").
-use Rattle.std.specs.Prelude.{◌≡◌, ◌<◌, ◌≤◌, ℕ, zero, suc, ◌+◌, ◌*◌, nat_le, ◌||◌, not, Bool, false}
+use Rattle.std.specs.Prelude.{◌≡◌, ◌<◌, ◌≤◌, ◌⊎◌, ℕ, zero, suc, ◌+◌, ◌*◌, nat_le, ◌||◌, not, Bool, false}
 use Rattle.cob_data.specs.declared.extent.Extent.{Extent}
 
 -- where an occurrence starts; they are numbered from 0
@@ -18,6 +18,10 @@ any_below (suc n) test = any_below n test || test n
 abbrev pub share_bytes : ℕ → ℕ → ℕ → ℕ → Bool
 share_bytes offset count from many = not (nat_le (from + many) offset || nat_le (offset + count) from)
 
+-- two ranges have none in common
+abbrev pub AreApart : ℕ → ℕ → ℕ → ℕ → Type 0
+AreApart offset count from many = (from + many ≤ offset) ⊎ (offset + count ≤ from)
+
 -- some occurrence has a byte of a range
 abbrev pub meets_range : Extent → ℕ → ℕ → Bool
 meets_range e offset count = any_below e.times (λ n. share_bytes offset count (start_of e n) e.length)
@@ -25,6 +29,10 @@ meets_range e offset count = any_below e.times (λ n. share_bytes offset count (
 -- some occurrence of one has a byte of some occurrence of the other
 abbrev pub share_extents : Extent → Extent → Bool
 share_extents a b = any_below a.times (λ n. meets_range b (start_of a n) a.length)
+
+-- no occurrence of one has a byte of an occurrence of the other
+abbrev pub LieApart : Extent → Extent → Type 0
+LieApart a b = (m n : ℕ) → m < a.times → n < b.times → AreApart (start_of a m) a.length (start_of b n) b.length
 
 -- ---- what an extent is like
 

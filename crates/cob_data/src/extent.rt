@@ -12,13 +12,15 @@ pub struct Extent {
     pub stride: u32,
 }
 
-// Where an occurrence starts, counted from 0. The greatest start and a length behind it fill 64 bits.
-#[tactic(auto, using(crate::proofs::ExtentStarts::start_is, crate::proofs::ExtentStarts::start_fits))]
-fn start(extent: &Extent, number: u32) -> u64
-    ensures value { result ≡ start_of extent.now number }
-    ensures room { result ≤ 18446744069414584320 }
-{
-    u64::from(extent.offset) + u64::from(number) * u64::from(extent.stride)
+impl Extent {
+    /// Where an occurrence starts, counted from 0. The greatest start and a length behind it fill 64 bits.
+    #[tactic(auto, using(crate::proofs::ExtentStarts::start_is, crate::proofs::ExtentStarts::start_fits))]
+    pub fn start(&self, number: u32) -> u64
+        ensures value { result ≡ start_of self.now number }
+        ensures room { result ≤ 18446744069414584320 }
+    {
+        u64::from(self.offset) + u64::from(number) * u64::from(self.stride)
+    }
 }
 
 // Whether two ranges of storage, each an offset and a number of bytes, have a byte in common.
@@ -51,12 +53,12 @@ fn first_behind(extent: &Extent, offset: u64) -> u64
 fn meets(a: &Extent, number: u32, b: &Extent) -> bool
     ensures { result ≡ meets_range b.now (start_of a.now number) a.now.length }
 {
-    let from = start(a, number);
+    let from = a.start(number);
     let first = first_behind(b, from);
     if first >= u64::from(b.times) {
         return false;
     }
-    let other = start(b, first as u32);
+    let other = b.start(first as u32);
     share_bytes(from, a.length, other, b.length)
 }
 
