@@ -1,6 +1,6 @@
 //! The layout of a program's data: items, condition-names and files, and copies of them.
 ghost use Rattle.std.specs.Prelude.{◌≡◌, IfOk};
-ghost use Rattle.cob_data.specs.Occurrences.{extent_of};
+ghost use Rattle.cob_data.specs.Occurrences.{extent_of, area_of};
 
 use crate::extent::Extent;
 use cob_tree::{Bytes, Form, Many, Name, Num};
@@ -186,6 +186,18 @@ fn copied_places(alloc: Global, places: &[u32]) -> Result<Many<u32>, AllocError>
 }
 
 impl FileDecl {
+    /// The bytes of its record area.
+    pub fn area(&self) -> Extent
+        ensures { result ≡ area_of self.now }
+    {
+        Extent {
+            offset: self.offset,
+            length: self.length,
+            times: 1,
+            stride: 0,
+        }
+    }
+
     /// Copies the file's declaration.
     pub fn copied(&self, alloc: Global) -> Result<FileDecl, AllocError>
         ensures { IfOk result (λ copy. copy ≡ self.now) }
