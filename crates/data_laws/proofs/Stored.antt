@@ -176,7 +176,7 @@ pub values_stand_at_first : ValuesStandAtFirst
 values_stand_at_first l first place i bytes sound apart begins n less =
     let behind : IsLeftBehind l l.items place i n = left_behind l l.items place i n
     (λ b j x low at given m there.
-        apart b place j i (record { at = at; value = x; given = given }) begins.has (λ same. omega (arith, low, same)) m n there less) in
+    apart b place j i (record { at = at; value = x; given = given }) begins.has (λ same. omega (arith, low, same)) m n there less) in
     first_area l (first_storage l first) place n i begins.has.at
     ∙ stands_behind l l.items (fitted l.storage first) place i begins.has.value bytes n less
     (recursion_from_All (IsWellFormedItem l) l.items sound.items)
