@@ -1,3 +1,4 @@
+pub mod Blocks
 pub mod OneOccurrence
 pub mod Overlapping
 pub mod ExtentStarts

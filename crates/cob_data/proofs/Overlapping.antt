@@ -1,5 +1,5 @@
 -- Items whose extents have a byte in common share a byte.
-use Rattle.std.proofs.Common.{◌≡◌, ◌<◌, ◌≤◌, ◌⊎◌, inl, inr, ℕ, ◌+◌, Bool, true, false, refl, sym, arith}
+use Rattle.std.proofs.Common.{◌≡◌, ◌<◌, ◌≤◌, ◌⊎◌, inl, inr, ℕ, ◌+◌, Bool, true, false, refl, sym, ◌∙◌, arith}
 use Rattle.std.specs.Prelude.{◌↔◌, nat_le, IsTrue}
 use Rattle.std.proofs.lemmas.Bool.Decides.{nat_tests}
 use Rattle.cob_data.specs.declared.layout.Item.{Item}
@@ -16,27 +16,28 @@ later_start a b = go (nat_le a b) refl
     go true e = (b, grind (arith, nat_tests, e), omega arith, inr refl)
     go false e = (a, omega arith, grind (arith, nat_tests, e), inl refl)
 
-pub met_by : (a b : Item) → share_extents (extent_of a) (extent_of b) ≡ true → Meet a b
-met_by a b e = outer (some_below a.times (λ m. meets_range (extent_of b) (start_of (extent_of a) m) a.length) e)
-  where
-    shared : (m n : ℕ) → m < a.times → n < b.times
-        → (start_of (extent_of a) m < start_of (extent_of b) n + b.length) × (start_of (extent_of b) n < start_of (extent_of a) m + a.length)
-        → Meet a b
-    shared m n f g (h, i) = at (later_start (start_of (extent_of a) m) (start_of (extent_of b) n))
-      where
-        at : (k : ℕ) × (start_of (extent_of a) m ≤ k) × (start_of (extent_of b) n ≤ k)
-            × ((k ≡ start_of (extent_of a) m) ⊎ (k ≡ start_of (extent_of b) n)) → Meet a b
-        at (k, u, v, inl same) =
-            (m, n, k, record { there = f; from = u; to = omega (arith, same, h, i) }, record { there = g; from = v; to = omega (arith, same, h, i) })
-        at (k, u, v, inr same) =
-            (m, n, k, record { there = f; from = u; to = omega (arith, same, h, i) }, record { there = g; from = v; to = omega (arith, same, h, i) })
+module _ (a b : Item) (some : 0 < a.length) (more : 0 < b.length) where
+  shared : (m n : ℕ) → m < a.times → n < b.times →
+      (start_of (extent_of a) m < start_of (extent_of b) n + b.length) × (start_of (extent_of b) n < start_of (extent_of a) m + a.length) →
+      Meet a b
+  shared m n f g (h, i) = at (later_start (start_of (extent_of a) m) (start_of (extent_of b) n))
+    where
+      at : (k : ℕ) × (start_of (extent_of a) m ≤ k) × (start_of (extent_of b) n ≤ k)
+          × ((k ≡ start_of (extent_of a) m) ⊎ (k ≡ start_of (extent_of b) n)) → Meet a b
+      at (k, u, v, inl same) =
+          (m, n, k, record { there = f; from = u; to = omega (arith, same, some) }, record { there = g; from = v; to = omega (arith, same, h) })
+      at (k, u, v, inr same) =
+          (m, n, k, record { there = f; from = u; to = omega (arith, same, i) }, record { there = g; from = v; to = omega (arith, same, more) })
 
-    inner : (m : ℕ) → m < a.times
-        → (n : ℕ) × (n < b.times) × (share_bytes (start_of (extent_of a) m) a.length (start_of (extent_of b) n) b.length ≡ true) → Meet a b
-    inner m f (n, g, h) = shared m n f g (share_is (start_of (extent_of a) m) a.length (start_of (extent_of b) n) b.length h)
+  inner : (m : ℕ) → m < a.times →
+      (n : ℕ) × (n < b.times) × (share_bytes (start_of (extent_of a) m) a.length (start_of (extent_of b) n) b.length ≡ true) → Meet a b
+  inner m f (n, g, h) = shared m n f g (share_is (start_of (extent_of a) m) a.length (start_of (extent_of b) n) b.length h)
 
-    outer : (m : ℕ) × (m < a.times) × (meets_range (extent_of b) (start_of (extent_of a) m) a.length ≡ true) → Meet a b
-    outer (m, f, g) = inner m f (some_below b.times (λ n. share_bytes (start_of (extent_of a) m) a.length (start_of (extent_of b) n) b.length) g)
+  outer : (m : ℕ) × (m < a.times) × (meets_range (extent_of b) (start_of (extent_of a) m) a.length ≡ true) → Meet a b
+  outer (m, f, g) = inner m f (some_below b.times (λ n. share_bytes (start_of (extent_of a) m) a.length (start_of (extent_of b) n) b.length) g)
+
+  pub met_by : share_extents (extent_of a) (extent_of b) ≡ true → Meet a b
+  met_by e = outer (some_below a.times (λ m. meets_range (extent_of b) (start_of (extent_of a) m) a.length) e)
 
 pub met_shares : (a b : Item) → Meet a b → share_extents (extent_of a) (extent_of b) ≡ true
 met_shares a b (m, n, k, x, y) =
@@ -45,9 +46,13 @@ met_shares a b (m, n, k, x, y) =
     (share_for (start_of (extent_of a) m) a.length (start_of (extent_of b) n) b.length
     (omega (arith, x.from, y.to)) (omega (arith, y.from, x.to))))
 
-pub meets_is : (a b : Item) (result : Bool) → result ≡ share_extents (extent_of a) (extent_of b) → IsTrue result ↔ Meet a b
-meets_is a b true e = (λ u. met_by a b (sym e), λ m. search)
-meets_is a b false e = (λ u. absurd u, λ m. absurd (no (met_shares a b m)))
+-- where both have bytes, that their extents share some is that some byte lies in both
+pub meets_is : (a b : Item) (shared result : Bool) → shared ≡ share_extents (extent_of a) (extent_of b) →
+    IsTrue result ↔ (IsTrue shared × (0 < a.length) × (0 < b.length)) → IsTrue result ↔ Meet a b
+meets_is a b shared result e (there, back) = (
+  λ u. let is = there u in met_by a b is.1 is.2 (sym e ∙ is.0),
+  λ met. back (e ∙ met_shares a b met, has_bytes met),
+)
   where
-    no : share_extents (extent_of a) (extent_of b) ≡ true → ⊥
-    no f = cc
+    has_bytes : Meet a b → (0 < a.length) × (0 < b.length)
+    has_bytes (m, n, k, x, y) = (omega (arith, x.from, x.to), omega (arith, y.from, y.to))

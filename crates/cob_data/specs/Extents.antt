@@ -14,7 +14,7 @@ any_below (suc n) test = any_below n test || test n
 
 -- ---- bytes in common
 
--- two ranges of bytes, each an offset and a length, have a byte in common
+-- two ranges of bytes, each an offset and a length, have a byte in common; an empty one has, with what it lies within
 abbrev pub share_bytes : ℕ → ℕ → ℕ → ℕ → Bool
 share_bytes offset count from many = not (nat_le (from + many) offset || nat_le (offset + count) from)
 
@@ -45,6 +45,17 @@ pub record IsExtent (e : Extent) : Type 0 where
 abbrev pub LiesWithin : Extent → ℕ → Type 0
 LiesWithin e bytes = (n : ℕ) → n < e.times → start_of e n + e.length ≤ bytes
 
+-- each occurrence lies between two places
+abbrev pub LiesBetween : ℕ → ℕ → Extent → Type 0
+LiesBetween from to e = (n : ℕ) → n < e.times → (from ≤ start_of e n) × (start_of e n + e.length ≤ to)
+
+-- an item below a table: as many occurrences, as far apart, the first of them between two places
+pub record IsColumn (times stride from to : ℕ) (e : Extent) : Type 0 where
+  pub as_many : e.times ≡ times
+  pub as_far : e.stride ≡ stride
+  pub low : from ≤ e.offset
+  pub high : e.offset + e.length ≤ to
+
 -- ---- laws
 
 -- Occurrences no longer than their stride lie apart.
@@ -54,4 +65,21 @@ StridesSetApart = (e : Extent) → 1 ≤ e.times → (1 < e.times → e.length �
 -- A table's occurrences lie within what it takes.
 abbrev pub TablesLieWithin : Type 0
 TablesLieWithin =
-    (e : Extent) (taken bytes : ℕ) → e.offset + taken ≤ bytes → e.times * e.stride ≤ taken → e.length ≤ e.stride → LiesWithin e bytes
+    (e : Extent) (taken bytes : ℕ) → e.offset + taken ≤ bytes → e.times * e.stride ≤ taken → e.length ≤ e.stride →
+    LiesWithin e bytes
+
+-- Items below a table, one before the other within a stride, lie apart in all their occurrences.
+abbrev pub ColumnsLieApart : Type 0
+ColumnsLieApart =
+    (times stride base middle to : ℕ) (e d : Extent) → to ≤ base + stride → IsColumn times stride base middle e →
+    IsColumn times stride middle to d → LieApart e d
+
+-- They lie in the block that the table takes,
+abbrev pub ColumnsLieInBlocks : Type 0
+ColumnsLieInBlocks =
+    (times stride from : ℕ) (e : Extent) → IsColumn times stride from (from + stride) e →
+    LiesBetween from (from + times * stride) e
+
+-- and what lies in blocks behind each other lies apart.
+abbrev pub BlocksLieApart : Type 0
+BlocksLieApart = (from middle to : ℕ) (e d : Extent) → LiesBetween from middle e → LiesBetween middle to d → LieApart e d

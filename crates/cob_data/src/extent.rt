@@ -2,8 +2,8 @@
 ghost use Rattle.std.specs.Prelude.{◌≡◌, ◌<◌, ◌≤◌, ◌+◌, ◌⊎◌, ℕ};
 ghost use Rattle.cob_data.specs.Extents.{start_of, share_bytes, meets_range, share_extents};
 
-/// An item's bytes (ISO 1989:1985, "OCCURS clause"): where its first occurrence starts, how long each is, how many there
-/// are, and how far each starts behind the one before. What is no table's has one, and a stride of 0.
+/// An item's bytes (ISO 1989:1985, "OCCURS clause"): where its first occurrence starts, how long each is, how many
+/// there are, and how far each starts behind the one before. What is no table's has one, and a stride of 0.
 #[derive(Clone, Copy, PartialEq, Eq)]
 pub struct Extent {
     pub offset: u32,
@@ -39,7 +39,8 @@ fn share_bytes(offset: u64, count: u32, from: u64, many: u32) -> bool
 fn first_behind(extent: &Extent, offset: u64) -> u64
     requires { offset + 1 < 18446744073709551616 }
     ensures before { (n : ℕ) → n < result → start_of extent.now n + extent.now.length ≤ offset }
-    ensures there { (offset < start_of extent.now result + extent.now.length) ⊎ ((extent.now.stride ≡ 0) × (result ≡ 0)) }
+    ensures there { (offset < start_of extent.now result + extent.now.length)
+        ⊎ ((extent.now.stride ≡ 0) × (result ≡ 0)) }
 {
     let end = u64::from(extent.offset) + u64::from(extent.length);
     if end > offset || extent.stride == 0 {

@@ -1,5 +1,5 @@
 //! Laws on where items lie.
-ghost use Rattle.cob_data.specs.Extents.{StridesSetApart, TablesLieWithin};
+ghost use Rattle.cob_data.specs.Extents.{StridesSetApart, TablesLieWithin, ColumnsLieApart, ColumnsLieInBlocks, BlocksLieApart};
 ghost use Rattle.std.specs.Prelude.{◌≡◌, List, []};
 ghost use Rattle.cob_data.specs.declared.description.Description.{Description};
 ghost use Rattle.cob_data.specs.Spots.{all_spots};
@@ -20,4 +20,11 @@ pub fn parts_follow_each_other()
 pub fn occurrences_lie_apart()
     ensures apart { StridesSetApart }
     ensures within { TablesLieWithin }
+{}
+
+/// Items below a table, one before the other, lie apart in all their occurrences, and in the block that the table takes.
+pub fn columns_lie_apart()
+    ensures apart { ColumnsLieApart }
+    ensures within { ColumnsLieInBlocks }
+    ensures blocks { BlocksLieApart }
 {}

@@ -19,8 +19,8 @@ pub enum Sender {
 
 /// An item of the DATA DIVISION (ISO 1989:1985, "Data division"): a record, a group or an elementary item, FILLER
 /// among them. `offset` and `length` count bytes, from the beginning of all storage. An item of a table has `times`
-/// occurrences, of which each starts `stride` bytes behind the one before; any other has one, and a stride of 0. `parent`
-/// is the group directly above it, by its place; `line` is its entry's; `value` is the constant of its VALUE.
+/// occurrences, of which each starts `stride` bytes behind the one before; any other has one, and a stride of 0.
+/// `parent` is the group directly above it, by its place; `line` is its entry's; `value` is the constant of its VALUE.
 #[derive(Drop)]
 pub struct Item {
     pub name: Option<Name>,

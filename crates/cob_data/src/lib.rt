@@ -23,6 +23,9 @@ mod values;
 
 pub use end::{DataEnd, Rule, Which};
 pub use extent::{Extent, share_extents};
-pub use laws::{groups_are_as_long_as_their_parts, occurrences_lie_apart, parts_follow_each_other};
+pub use laws::{
+    columns_lie_apart, groups_are_as_long_as_their_parts, occurrences_lie_apart,
+    parts_follow_each_other,
+};
 pub use layout::{FileDecl, Flag, Item, Layout, Pair, Sender};
 pub use top::{layout_of, overlaps};

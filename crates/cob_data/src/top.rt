@@ -1,5 +1,5 @@
 //! The layout of a program, or why it has none.
-ghost use Rattle.std.specs.Prelude.{◌≡◌, ℕ, ◌≤◌, length, ◌+◌, ◌↔◌, IsTrue, IfSome};
+ghost use Rattle.std.specs.Prelude.{◌≡◌, ℕ, ◌<◌, ◌≤◌, length, ◌+◌, ◌↔◌, IsTrue, IfSome};
 ghost use Rattle.rule_order.specs.Order.{IsFirstBroken, AreKept};
 ghost use Rattle.cob_tree.specs.StmtView.{plain_tree};
 ghost use Rattle.cob_tree.specs.PrintStmt.{print_tree};
@@ -78,10 +78,18 @@ pub fn layout_of(alloc: Global, tree: &Tree) -> Result<Layout, DataEnd>
     laid_out(alloc, tree)
 }
 
+// Whether ranges that share bytes have some.
+fn have_some(shared: bool, count: u32, many: u32) -> bool
+    ensures { IsTrue result ↔ (IsTrue shared × (0 < count) × (0 < many)) }
+{
+    shared && count > 0 && many > 0
+}
+
 /// Whether some byte lies in both items, in whichever of their occurrences.
 #[tactic(auto, using(crate::proofs::Overlapping::meets_is))]
 pub fn overlaps(a: &Item, b: &Item) -> bool
     ensures { IsTrue result ↔ Meet a.now b.now }
 {
-    share_extents(&a.extent(), &b.extent())
+    let shared = share_extents(&a.extent(), &b.extent());
+    have_some(shared, a.length, b.length)
 }

@@ -18,11 +18,13 @@ abbrev pub RangesChangeAlone : Type 0
 RangesChangeAlone = (change : Option (List ℕ)) (offset count : ℕ) (storage : List ℕ) → offset + count ≤ length storage →
     ChangesWithin offset count storage (changed_in change offset count storage)
 
--- an occurrence that gets as many bytes as it has: the others stay, and those of each item with which none shares a byte
+-- an occurrence that gets as many bytes as it has: the others stay, and those of each item that shares no byte
 pub record GetsItsBytes (e : Extent) (n : ℕ) (bytes before behind : List ℕ) : Type 0 where
   pub changes : ChangesWithin (start_of e n) e.length before behind
-  pub siblings : (m : ℕ) → m < e.times → ¬ m ≡ n → area behind (start_of e m) e.length ≡ area before (start_of e m) e.length
-  pub others : (d : Extent) → share_extents e d ≡ false → (m : ℕ) → m < d.times → area behind (start_of d m) d.length ≡ area before (start_of d m) d.length
+  pub siblings : (m : ℕ) → m < e.times → ¬ m ≡ n →
+      area behind (start_of e m) e.length ≡ area before (start_of e m) e.length
+  pub others : (d : Extent) → share_extents e d ≡ false → (m : ℕ) → m < d.times →
+      area behind (start_of d m) d.length ≡ area before (start_of d m) d.length
   pub held : area behind (start_of e n) e.length ≡ bytes
 
 abbrev pub OccurrencesChangeAlone : Type 0

@@ -57,7 +57,8 @@ homes_of p = item_homes 0 p.layout.items ++ count_homes (program_statements p)
 -- ---- cells
 
 abbrev pub cell : Option ℕ → ℕ → ℕ → Bool → ℕ → Cell
-cell item digits scale signed times = record { item = item; digits = digits; scale = scale; signed = signed; times = times }
+cell item digits scale signed times =
+    record { item = item; digits = digits; scale = scale; signed = signed; times = times }
 
 -- the digits of what an item is read as: a text is read as a number without sign
 abbrev pub digits_read : Form → ℕ

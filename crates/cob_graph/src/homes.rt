@@ -188,7 +188,8 @@ fn cell_of_item(layout: &Layout, place: u32) -> Cell
     }
 }
 
-/// The cell of a home: the digits, decimals and sign of the numbers that it holds, and for how many occurrences it stands.
+/// The cell of a home: the digits, decimals and sign of the numbers that it holds, and for how many occurrences it
+/// stands.
 pub fn cell_of_home(layout: &Layout, home: Home) -> Cell
     ensures { result ≡ cell_of_home layout.now home }
 {

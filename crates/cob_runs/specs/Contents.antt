@@ -44,11 +44,13 @@ module _ (l : Layout) where
   times_at place = option_map_or (λ i. i.times) (item_at place) 1
 
   abbrev pub occurrence_bytes : List ℕ → ℕ → ℕ → List ℕ
-  occurrence_bytes storage place n = option_map_or (λ i. area storage (start_of (extent_of i) n) i.length) (item_at place) []
+  occurrence_bytes storage place n =
+      option_map_or (λ i. area storage (start_of (extent_of i) n) i.length) (item_at place) []
 
   -- storage in which an occurrence of the item holds these bytes
   abbrev pub occurrence_filled : List ℕ → ℕ → ℕ → List ℕ → List ℕ
-  occurrence_filled storage place n bytes = option_map_or (λ i. written storage (start_of (extent_of i) n) bytes) (item_at place) storage
+  occurrence_filled storage place n bytes =
+      option_map_or (λ i. written storage (start_of (extent_of i) n) bytes) (item_at place) storage
 
   -- of an item that is no table's
   abbrev pub bytes_at : List ℕ → ℕ → List ℕ
