@@ -17,10 +17,10 @@ later_start a b = go (nat_le a b) refl
     go false e = (a, omega arith, grind (arith, nat_tests, e), inl refl)
 
 module _ (a b : Item) (some : 0 < a.length) (more : 0 < b.length) where
-  shared : (m n : ℕ) → m < a.times → n < b.times →
+  both_have : (m n : ℕ) → m < a.times → n < b.times →
       (start_of (extent_of a) m < start_of (extent_of b) n + b.length) × (start_of (extent_of b) n < start_of (extent_of a) m + a.length) →
       Meet a b
-  shared m n f g (h, i) = at (later_start (start_of (extent_of a) m) (start_of (extent_of b) n))
+  both_have m n f g (h, i) = at (later_start (start_of (extent_of a) m) (start_of (extent_of b) n))
     where
       at : (k : ℕ) × (start_of (extent_of a) m ≤ k) × (start_of (extent_of b) n ≤ k)
           × ((k ≡ start_of (extent_of a) m) ⊎ (k ≡ start_of (extent_of b) n)) → Meet a b
@@ -31,7 +31,7 @@ module _ (a b : Item) (some : 0 < a.length) (more : 0 < b.length) where
 
   inner : (m : ℕ) → m < a.times →
       (n : ℕ) × (n < b.times) × (share_bytes (start_of (extent_of a) m) a.length (start_of (extent_of b) n) b.length ≡ true) → Meet a b
-  inner m f (n, g, h) = shared m n f g (share_is (start_of (extent_of a) m) a.length (start_of (extent_of b) n) b.length h)
+  inner m f (n, g, h) = both_have m n f g (share_is (start_of (extent_of a) m) a.length (start_of (extent_of b) n) b.length h)
 
   outer : (m : ℕ) × (m < a.times) × (meets_range (extent_of b) (start_of (extent_of a) m) a.length ≡ true) → Meet a b
   outer (m, f, g) = inner m f (some_below b.times (λ n. share_bytes (start_of (extent_of a) m) a.length (start_of (extent_of b) n) b.length) g)
@@ -51,7 +51,7 @@ pub meets_is : (a b : Item) (shared result : Bool) → shared ≡ share_extents 
     IsTrue result ↔ (IsTrue shared × (0 < a.length) × (0 < b.length)) → IsTrue result ↔ Meet a b
 meets_is a b shared result e (there, back) = (
   λ u. let is = there u in met_by a b is.1 is.2 (sym e ∙ is.0),
-  λ met. back (e ∙ met_shares a b met, has_bytes met),
+  λ met. let has = has_bytes met in back (e ∙ met_shares a b met, has.0, has.1),
 )
   where
     has_bytes : Meet a b → (0 < a.length) × (0 < b.length)
