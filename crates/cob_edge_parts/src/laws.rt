@@ -11,8 +11,8 @@ pub fn parts_do_what_edges_do()
     ensures met { FaultsAreMet }
 {}
 
-/// An area that changes, and an item's occurrence that gets as many bytes as it has, leave storage apart from them as it
-/// is, and so each other occurrence.
+/// An area that changes, and an item's occurrence that gets as many bytes as it has, leave storage apart from them as
+/// it is, and so each other occurrence.
 pub fn parts_change_their_bytes_alone()
     ensures ranges { RangesChangeAlone }
     ensures occurrences { OccurrencesChangeAlone }
