@@ -8,7 +8,7 @@ ghost use Rattle.cob_program.specs.Statements.{plain_references};
 ghost use Rattle.cob_graph.specs.Graphs.{cells_of};
 ghost use Rattle.cob_graph.specs.declared.homes.Home.TheVariants.{Item as of_item};
 ghost use Rattle.cob_graph.specs.Limits.{most_cells};
-ghost use Rattle.edge_amounts.specs.Numbers.{number_of};
+ghost use Rattle.edge_parts.specs.Numbers.{number_of};
 ghost use Rattle.graph_runs.specs.Sources.{IsSourceGraph};
 ghost use Rattle.cert_text.specs.Allowed.{packs_fit};
 ghost use Rattle.analyse_core.specs.Mentions.{lists_of};
@@ -40,7 +40,7 @@ use cob_program::{Act, Para, Program, Stmt, Turns};
 use cob_runs::Cell;
 use cob_tree::Form;
 use diff_bounds::Pack;
-use edge_amounts::cell_of;
+use edge_parts::cell_of;
 use std::alloc::{AllocError, Global};
 
 /// A pack has at most so many cells.

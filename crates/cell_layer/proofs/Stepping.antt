@@ -18,7 +18,7 @@ use Rattle.cob_runs.specs.declared.action.Action.{Action}
 use Rattle.cob_runs.specs.Contents.{form_at}
 use Rattle.cob_calc.specs.Contents.{bound_at}
 use Rattle.cob_edge_parts.specs.Parts.{Amount, Part, read, unread, divide, store, bytes_in, guard, read_count, set_count, count_down, guard_count}
-use Rattle.edge_amounts.specs.PartView.{edge_parts}
+use Rattle.edge_parts.specs.PartView.{edge_parts}
 use Rattle.sum_ranges.specs.SumRanges.{atom_range}
 use Rattle.sum_ranges.specs.Vanishing.{may_be_zero}
 use Rattle.sum_ranges.specs.Working.{AreBounded}
@@ -27,7 +27,7 @@ use Rattle.transfer_ranges.specs.declared.amounts.AmountRange.{AmountRange}
 use Rattle.transfer_ranges.specs.Receivers.{receiver_of}
 use Rattle.transfer_ranges.specs.ResultRanges.{result_range, count_range, lowered}
 use Rattle.transfer_ranges.specs.Sizes.{IsSmallAmount}
-use Rattle.edge_amounts.specs.Working.{CanSettleFor, CanWork, amount_from, units_from}
+use Rattle.edge_parts.specs.Working.{CanSettleFor, CanWork, amount_from, units_from}
 use Rattle.interval_domain.specs.Known.{Known, IsOrdered, KnownFits}
 use Rattle.interval_domain.specs.Elements.{Element, CellsFit, ElementFits}
 use Rattle.cob_graph.specs.declared.homes.Home.{Home}

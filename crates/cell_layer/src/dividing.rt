@@ -6,7 +6,7 @@ ghost use Rattle.cob_calc.specs.Contents.{bound_at};
 ghost use Rattle.cob_edge_parts.specs.Parts.{has_phrase};
 ghost use Rattle.sum_ranges.specs.SumRanges.{atom_range};
 ghost use Rattle.sum_ranges.specs.Vanishing.{holds_zero, may_be_zero};
-ghost use Rattle.edge_amounts.specs.PartView.{plain_divisor};
+ghost use Rattle.edge_parts.specs.PartView.{plain_divisor};
 ghost use Rattle.interval_domain.specs.Elements.{CellsFit};
 ghost use Rattle.interval_domain.specs.Rows.{cells_of};
 ghost use Rattle.cell_steps.specs.OwnRanges.{owns};
@@ -19,7 +19,7 @@ use crate::row_walk::Walk;
 use crate::sums::{divisor_range, holds_zero, may_be_zero};
 use cob_program::{Act, Program};
 use cob_runs::Cell;
-use edge_amounts::{Divisor, has_phrase, is_handled};
+use edge_parts::{Divisor, has_phrase, is_handled};
 use sum_ranges::Ranged;
 
 // Whether a divisor has numbers other than 0.

@@ -2,7 +2,7 @@
 ghost use Rattle.std.specs.Prelude.{◌≡◌, ◌<◌, ◌-◌, ◌^◌, min, true, false, length, Some, None};
 ghost use Rattle.std.specs.List.{AllByRecursion};
 ghost use Rattle.cob_program.specs.ActView.{plain_stmt, plain_program};
-ghost use Rattle.edge_amounts.specs.PartView.{plain_part, edge_parts};
+ghost use Rattle.edge_parts.specs.PartView.{plain_part, edge_parts};
 ghost use Rattle.cell_laws.specs.Sizes.{IsSmallPart};
 ghost use Rattle.cell_layer.specs.SmallCells.{has_small_cells};
 ghost use Rattle.cell_layer.specs.ProgramRows.{IsRowOf};
@@ -16,7 +16,7 @@ use crate::kept::Kept;
 use crate::row_walk::Walk;
 use cob_program::{Program, Stmt};
 use cob_runs::{Action, Cell};
-use edge_amounts::{EdgePart, EdgeWork, part_at, part_count};
+use edge_parts::{EdgePart, EdgeWork, part_at, part_count};
 
 /// How many parts an edge of a statement has; `u32::MAX` stands for more, too.
 pub fn parts(program: &Program, statement: &Stmt, action: Action) -> u32

@@ -24,7 +24,7 @@ use crate::works::EdgeWorks;
 use cob_program::Act;
 use cob_runs::{Action, Cell};
 use cob_tree::Kinds;
-use edge_amounts::EdgeWork;
+use edge_parts::EdgeWork;
 use interval_domain::set_unreached;
 
 // whether the statement has ON SIZE ERROR

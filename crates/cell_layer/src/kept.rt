@@ -3,7 +3,7 @@ ghost use Rattle.std.specs.Prelude.{◌≡◌, ◌&&◌, true, List, ℤ};
 ghost use Rattle.cob_program.specs.ActView.{plain_act, plain_program};
 ghost use Rattle.cob_calc.specs.Contents.{bound_at};
 ghost use Rattle.cob_edge_parts.specs.Parts.{is_handled};
-ghost use Rattle.edge_amounts.specs.Small.{has_small_sum};
+ghost use Rattle.edge_parts.specs.Small.{has_small_sum};
 ghost use Rattle.interval_domain.specs.Elements.{CellsFit};
 ghost use Rattle.interval_domain.specs.Rows.{cells_of};
 ghost use Rattle.cell_steps.specs.OwnRanges.{owns};
@@ -18,7 +18,7 @@ ghost use Rattle.cell_layer.specs.Walks.{if_sent_small, with_taken_small, CanSte
 use crate::sums::{operands, operands_vanish, sends_small};
 use cob_program::{Act, Program};
 use cob_runs::{Action, Cell};
-use edge_amounts::is_handled;
+use edge_parts::is_handled;
 use transfer_ranges::Taken;
 
 /// What happened on the parts of an edge so far.

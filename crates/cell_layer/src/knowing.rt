@@ -11,7 +11,7 @@ ghost use Rattle.cell_layer.specs.ProgramRows.{known_in, set_in, IsCellNumber, I
 
 use cob_program::Program;
 use cob_runs::Cell;
-use edge_amounts::{cell_of, cell_of_count};
+use edge_parts::{cell_of, cell_of_count};
 use interval_domain::{Interval, known_at, set_known};
 
 // ---- by a number

@@ -14,7 +14,7 @@ use crate::statements::{left_number, number_of, statement_with, tests_of};
 use cob_graph::{Edge, Graph};
 use cob_program::Program;
 use cob_runs::Action;
-use edge_amounts::{EdgeWork, StatementTests};
+use edge_parts::{EdgeWork, StatementTests};
 use std::alloc::{AllocError, Global};
 
 // whether a work is that of the statement with the number, by the action

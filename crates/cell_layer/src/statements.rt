@@ -9,7 +9,7 @@ ghost use Rattle.cell_layer.specs.Statements.{IsNumbered, stated, stated_in};
 
 use cob_graph::{Edge, Graph};
 use cob_program::Stmt;
-use edge_amounts::StatementTests;
+use edge_parts::StatementTests;
 use std::alloc::{AllocError, Global};
 
 /// A statement's number.

@@ -6,10 +6,10 @@ ghost use Rattle.cob_program.specs.Bounds.{is_small};
 ghost use Rattle.cob_runs.specs.Contents.{form_at};
 ghost use Rattle.cob_calc.specs.Contents.{bound_at};
 ghost use Rattle.cob_edge_parts.specs.Parts.{is_handled};
-ghost use Rattle.edge_amounts.specs.PartView.{plain_amount};
+ghost use Rattle.edge_parts.specs.PartView.{plain_amount};
 ghost use Rattle.transfer_ranges.specs.Receivers.{receiver_of};
 ghost use Rattle.transfer_ranges.specs.Sizes.{IsReceiver, IsSmallAmount};
-ghost use Rattle.edge_amounts.specs.Working.{CanSettleFor, CanWork, amount_from, units_from, exceeds_from};
+ghost use Rattle.edge_parts.specs.Working.{CanSettleFor, CanWork, amount_from, units_from, exceeds_from};
 ghost use Rattle.interval_domain.specs.Elements.{CellsFit};
 ghost use Rattle.interval_domain.specs.Known.{IsOrdered, joined_known};
 ghost use Rattle.interval_domain.specs.Rows.{cells_of};
@@ -36,7 +36,7 @@ use cob_program::{Act, Program};
 use cob_runs::{Action, Cell};
 use cob_tree::Form;
 use dec_num::Mode;
-use edge_amounts::{
+use edge_parts::{
     Amount, amount_from, is_handled, keeps_receiver, may_keep, receiver_at, store_range,
 };
 use interval_domain::{Interval, hull};

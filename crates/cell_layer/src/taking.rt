@@ -16,7 +16,7 @@ use crate::items::KnownItems;
 use crate::scales::{Taken, with_scales};
 use cob_program::{How, Program, Sum};
 use cob_runs::Cell;
-use edge_amounts::{Amount, operands};
+use edge_parts::{Amount, operands};
 use transfer_ranges::Taken as Ranges;
 
 fn how_of(root: bool) -> How

@@ -8,7 +8,7 @@ ghost use Rattle.cell_layer.specs.Works.{IsWorkOf, ArePlaces};
 use crate::sharing::Sharing;
 use cob_graph::Graph;
 use cob_program::Program;
-use edge_amounts::EdgeWork;
+use edge_parts::EdgeWork;
 use std::alloc::{AllocError, Global};
 
 /// What each edge of a program's graph does. Edges of copies of a statement that do the same share a work.

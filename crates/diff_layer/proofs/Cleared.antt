@@ -34,7 +34,7 @@ use Rattle.transfer_ranges.specs.Operands.{alone, taken_from, whole_range}
 use Rattle.transfer_ranges.specs.Stores.{operands, amount_range}
 use Rattle.transfer_ranges.specs.Receivers.{receiver_of, counter}
 use Rattle.transfer_ranges.specs.ResultRanges.{most, exceeds, amount_units, may_fail, near_range, lowered, count_may_fail}
-use Rattle.edge_amounts.specs.Working.{amount_from}
+use Rattle.edge_parts.specs.Working.{amount_from}
 use Rattle.interval_domain.specs.Known.{Known}
 use Rattle.cob_graph.specs.declared.homes.Home.TheVariants.{Count as of_count}
 use Rattle.cob_graph.specs.Homes.{homes_of}

@@ -8,8 +8,8 @@ use Rattle.cob_calc.specs.Contents.{bound_at}
 use Rattle.cob_edge_parts.specs.Parts.{Amount, Part, store, guard, set_count, moved}
 use Rattle.transfer_ranges.specs.Small.{is_small_test}
 use Rattle.transfer_ranges.specs.declared.amounts.Taken.{Taken}
-use Rattle.edge_amounts.specs.Small.{is_small_amount}
-use Rattle.edge_amounts.specs.Working.{CanWork}
+use Rattle.edge_parts.specs.Small.{is_small_amount}
+use Rattle.edge_parts.specs.Working.{CanWork}
 use Rattle.interval_domain.specs.Known.{Known}
 use Rattle.cell_steps.specs.Agreeing.{of_operands}
 use Rattle.cell_steps.specs.Operands.{edge_amount}

@@ -11,7 +11,7 @@ ghost use Rattle.sum_forms.specs.Values.{IsForm};
 ghost use Rattle.interval_domain.specs.Elements.{CellsFit};
 ghost use Rattle.cell_steps.specs.OwnRanges.{owns};
 ghost use Rattle.cell_steps.specs.Stores.{range_at};
-ghost use Rattle.edge_amounts.specs.PartView.{plain_divisor};
+ghost use Rattle.edge_parts.specs.PartView.{plain_divisor};
 ghost use Rattle.diff_layer.specs.Views.{item_cell, program_of, known_in};
 ghost use Rattle.diff_layer.specs.Working.{read_by};
 
@@ -19,7 +19,7 @@ use crate::forms::view::PackView;
 use cell_layer::KnownItems;
 use cob_program::{Atom, Factor, Part, Sum};
 use diff_bounds::Lin;
-use edge_amounts::Divisor;
+use edge_parts::Divisor;
 use sum_forms::{atom_form, sum_form};
 
 /// The form of a sum.

@@ -1,7 +1,7 @@
 use Rattle.std.proofs.Common.{sym, ap, ◌∙◌}
 use Rattle.std.specs.Option.{option_map}
 use Rattle.cob_program.specs.ActView.{plain_program}
-use Rattle.edge_amounts.specs.PartView.{plain_part}
+use Rattle.edge_parts.specs.PartView.{plain_part}
 use Rattle.cell_layer.proofs.Stepping.{small_part}
 use Rattle.cell_layer.proofs.edge_walk.walk.Goals as goal
 

@@ -1,8 +1,8 @@
 use Rattle.std.proofs.Common.{◌≡◌, ◌<◌, ◌+◌, List, length, get_or, ap, subst, ◌∙◌}
 use Rattle.cob_tree.specs.declared.kinds.Kinds.{Kinds}
 use Rattle.cob_tree.specs.Kinds.{kinds_of, both}
-use Rattle.edge_amounts.specs.declared.part.EdgePart.{EdgePart}
-use Rattle.edge_amounts.specs.PartView.{plain_part}
+use Rattle.edge_parts.specs.declared.part.EdgePart.{EdgePart}
+use Rattle.edge_parts.specs.PartView.{plain_part}
 use Rattle.cell_laws.specs.Sizes.{IsSmallPart}
 use Rattle.cell_layer.specs.Walks.{clears_all_small}
 use Rattle.cell_layer.specs.Kept.{seen}

@@ -5,7 +5,7 @@ use Rattle.cob_program.specs.Sum.{group}
 use Rattle.cob_program.specs.SumView.{plain_sum, plain_atom}
 use Rattle.cob_calc.specs.Contents.{bound_at}
 use Rattle.sum_ranges.specs.Vanishing.{may_be_zero}
-use Rattle.edge_amounts.specs.PartView.{plain_divisor}
+use Rattle.edge_parts.specs.PartView.{plain_divisor}
 use Rattle.interval_domain.specs.Rows.{cells_of}
 use Rattle.cell_steps.specs.Stores.{range_at}
 use Rattle.cell_layer.proofs.ShortBounds.{bounded}

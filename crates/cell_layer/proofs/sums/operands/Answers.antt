@@ -2,7 +2,7 @@ use Rattle.std.proofs.Common.{◌≡◌, Some, sym, ap, ◌∙◌}
 use Rattle.std.specs.Option.{option_map}
 use Rattle.cob_program.specs.ActView.{plain_act, plain_program}
 use Rattle.cob_program.specs.Values.{◌>>=◌}
-use Rattle.edge_amounts.specs.PartView.{plain_amount}
+use Rattle.edge_parts.specs.PartView.{plain_amount}
 use Rattle.transfer_ranges.specs.Stores.{operands}
 use Rattle.interval_domain.specs.Rows.{cells_of}
 use Rattle.cell_steps.specs.Operands.{edge_amount}

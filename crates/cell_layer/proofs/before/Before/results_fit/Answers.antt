@@ -3,7 +3,7 @@ use Rattle.std.specs.Prelude.{not}
 use Rattle.std.specs.Option.{option_map_or}
 use Rattle.cob_program.specs.ActView.{plain_program}
 use Rattle.cob_runs.specs.Contents.{form_at}
-use Rattle.edge_amounts.specs.PartView.{plain_amount}
+use Rattle.edge_parts.specs.PartView.{plain_amount}
 use Rattle.sum_ranges.specs.declared.ranged.Ranged.{Ranged}
 use Rattle.transfer_ranges.specs.declared.amounts.Receiver.{Receiver}
 use Rattle.transfer_ranges.specs.Receivers.{receiver_of}

@@ -1,6 +1,6 @@
 use Rattle.std.proofs.Common.{Option, subst}
 use Rattle.std.specs.Prelude.{IfSome}
-use Rattle.edge_amounts.specs.PartView.{plain_part}
+use Rattle.edge_parts.specs.PartView.{plain_part}
 use Rattle.cell_steps.specs.Seen.{Seen}
 use Rattle.cell_layer.specs.RowWalks.{program_in, act_done, moment}
 use Rattle.cell_layer.specs.Walks.{CanStep}

@@ -2,7 +2,7 @@ use Rattle.std.proofs.Common.{◌≡◌, List, [], ◌∷◌, ◌++◌, refl, ap
 use Rattle.std.specs.List.{All}
 use Rattle.std.specs.Prelude.{slice_get}
 use Rattle.cob_program.specs.ActView.{plain_program}
-use Rattle.edge_amounts.specs.declared.work.EdgeWork.{EdgeWork}
+use Rattle.edge_parts.specs.declared.work.EdgeWork.{EdgeWork}
 use Rattle.cell_layer.specs.Works.{IsOfProgram}
 use Rattle.cell_layer.proofs.WorkPlaces.{found_if, at_end}
 use Rattle.cell_layer.proofs.sharing.Sharing.add.Goals as goal

@@ -3,7 +3,7 @@ use Rattle.std.specs.List.{All}
 use Rattle.std.specs.Prelude.{Contains}
 use Rattle.cob_program.specs.ActView.{plain_program, plain_stmt}
 use Rattle.cob_runs.specs.declared.action.Action.{Action}
-use Rattle.edge_amounts.specs.declared.statement_tests.StatementTests.{StatementTests}
+use Rattle.edge_parts.specs.declared.statement_tests.StatementTests.{StatementTests}
 use Rattle.cell_laws.specs.Layer.{left}
 use Rattle.cell_layer.specs.NumberedStatements.{number_in}
 use Rattle.cell_layer.specs.Statements.{stated}

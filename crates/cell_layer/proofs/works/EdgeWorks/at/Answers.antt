@@ -2,7 +2,7 @@ use Rattle.std.proofs.Common.{◌≡◌, List, Option, Some, None, refl, sym, ap
 use Rattle.std.specs.Prelude.{slice_get, slice_index_or, option_copied}
 use Rattle.cob_program.specs.ActView.{plain_program}
 use Rattle.cob_program.specs.Values.{◌>>=◌}
-use Rattle.edge_amounts.specs.declared.work.EdgeWork.{EdgeWork}
+use Rattle.edge_parts.specs.declared.work.EdgeWork.{EdgeWork}
 use Rattle.graph_runs.specs.Places.{no_edge}
 use Rattle.cell_layer.specs.Works.{IsWorkOf}
 use Rattle.cell_layer.proofs.WorkPlaces.{got, work_at}
