@@ -3,9 +3,10 @@ ghost use Rattle.std.specs.Prelude.{◌≡◌, true, false, Some, None};
 ghost use Rattle.cob_program.specs.LogicView.{plain_test};
 ghost use Rattle.cob_calc.specs.Contents.{bound_at};
 ghost use Rattle.cob_edge_parts.specs.Parts as part;
-ghost use Rattle.edge_parts.specs.PartView.{plain_amount, plain_part};
+ghost use Rattle.edge_parts.specs.PartView.{plain_part};
+ghost use Rattle.transfer_ranges.specs.AmountView.{plain_amount};
 ghost use Rattle.transfer_ranges.specs.Small.{is_small_test};
-ghost use Rattle.edge_parts.specs.Small.{has_small_sum};
+ghost use Rattle.transfer_ranges.specs.SmallAmounts.{has_small_sum};
 ghost use Rattle.interval_domain.specs.Rows.{cells_of};
 ghost use Rattle.cob_graph.specs.declared.homes.Home.TheVariants.{Count as of_count};
 ghost use Rattle.cell_steps.specs.Seen.{with_cells};
@@ -25,7 +26,8 @@ use crate::row_walk::Walk;
 use crate::tests_of::guard_row;
 use cob_program::Test;
 use dec_num::Mode;
-use edge_parts::{Amount, EdgePart};
+use edge_parts::EdgePart;
+use transfer_ranges::Amount;
 
 impl<'a> Walk<'a> {
     // what is kept once operands are taken, before the first part that writes

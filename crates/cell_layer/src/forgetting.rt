@@ -2,7 +2,7 @@
 ghost use Rattle.std.specs.Prelude.{◌≡◌, ◌<◌, length, IfSome};
 ghost use Rattle.std.specs.List.{All};
 ghost use Rattle.cob_program.specs.ActView.{plain_program};
-ghost use Rattle.edge_parts.specs.Numbers.{items_of};
+ghost use Rattle.cob_graph.specs.Numbers.{items_of};
 ghost use Rattle.cob_graph.specs.Homes.{homes_of};
 ghost use Rattle.interval_domain.specs.Rows.{IsReached, cells_of};
 ghost use Rattle.cell_steps.specs.Cells.{share_bytes, forgotten, is_in_bytes, is_beside};

@@ -9,9 +9,9 @@ ghost use Rattle.interval_domain.specs.Rows.{IsReached, cells_of};
 ghost use Rattle.cell_steps.specs.Cells.{with_known};
 ghost use Rattle.cell_layer.specs.ProgramRows.{known_in, set_in, IsCellNumber, IsRowOf};
 
+use cob_graph::{cell_of, cell_of_count};
 use cob_program::Program;
 use cob_runs::Cell;
-use edge_parts::{cell_of, cell_of_count};
 use interval_domain::{Interval, known_at, set_known};
 
 // ---- by a number

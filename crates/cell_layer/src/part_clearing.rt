@@ -10,17 +10,18 @@ ghost use Rattle.cob_program.specs.Values.{root_of, root_in};
 ghost use Rattle.cob_runs.specs.Contents.{form_at};
 ghost use Rattle.cob_calc.specs.Contents.{bound_at};
 ghost use Rattle.cob_edge_parts.specs.Parts as part;
-ghost use Rattle.edge_parts.specs.PartView.{plain_amount, plain_part};
+ghost use Rattle.edge_parts.specs.PartView.{plain_part};
+ghost use Rattle.transfer_ranges.specs.AmountView.{plain_amount};
 ghost use Rattle.transfer_ranges.specs.Receivers.{receiver_of};
 ghost use Rattle.transfer_ranges.specs.ResultRanges.{may_fail};
 ghost use Rattle.transfer_ranges.specs.Sizes.{IsReceiver, IsSmallAmount};
-ghost use Rattle.edge_parts.specs.Small.{has_small_sum};
-ghost use Rattle.edge_parts.specs.Working.{CanWork, amount_from};
+ghost use Rattle.transfer_ranges.specs.SmallAmounts.{has_small_sum};
+ghost use Rattle.transfer_ranges.specs.Working.{CanWork, amount_from};
 ghost use Rattle.interval_domain.specs.Elements.{CellsFit};
 ghost use Rattle.interval_domain.specs.Rows.{cells_of};
 ghost use Rattle.cell_steps.specs.OwnRanges.{owns};
 ghost use Rattle.cell_steps.specs.Clearing.{is_misfit, has_quotient, all_fit};
-ghost use Rattle.cell_steps.specs.Operands.{amount_of};
+ghost use Rattle.transfer_ranges.specs.EdgeOperands.{amount_of};
 ghost use Rattle.cell_steps.specs.Stores.{range_at};
 ghost use Rattle.cell_laws.specs.Sizes.{IsSmallPart, IsSmallStore};
 ghost use Rattle.cell_layer.specs.ProgramRows.{IsRowOf};
@@ -38,9 +39,9 @@ use cob_program::{Factor, Part, Sum};
 use cob_runs::Cell;
 use cob_tree::{Kind, Kinds};
 use dec_num::Mode;
-use edge_parts::{Amount, EdgePart, EdgeWork, amount_of, has_phrase, receiver_at};
+use edge_parts::{EdgePart, EdgeWork, has_phrase};
 use sum_ranges::Ranged;
-use transfer_ranges::{AmountRange, Receiver, Taken, result_range};
+use transfer_ranges::{Amount, AmountRange, Receiver, Taken, amount_of, receiver_at, result_range};
 
 // ---- quotients
 

@@ -6,10 +6,10 @@ ghost use Rattle.cob_program.specs.Bounds.{is_small};
 ghost use Rattle.cob_runs.specs.Contents.{form_at};
 ghost use Rattle.cob_calc.specs.Contents.{bound_at};
 ghost use Rattle.cob_edge_parts.specs.Parts.{is_handled};
-ghost use Rattle.edge_parts.specs.PartView.{plain_amount};
+ghost use Rattle.transfer_ranges.specs.AmountView.{plain_amount};
 ghost use Rattle.transfer_ranges.specs.Receivers.{receiver_of};
 ghost use Rattle.transfer_ranges.specs.Sizes.{IsReceiver, IsSmallAmount};
-ghost use Rattle.edge_parts.specs.Working.{CanSettleFor, CanWork, amount_from, units_from, exceeds_from};
+ghost use Rattle.transfer_ranges.specs.Working.{CanSettleFor, CanWork, amount_from, units_from, exceeds_from, may_vanish};
 ghost use Rattle.interval_domain.specs.Elements.{CellsFit};
 ghost use Rattle.interval_domain.specs.Known.{IsOrdered, joined_known};
 ghost use Rattle.interval_domain.specs.Rows.{cells_of};
@@ -17,8 +17,8 @@ ghost use Rattle.cell_steps.specs.OwnRanges.{owns};
 ghost use Rattle.cob_graph.specs.Homes.{homes_of};
 ghost use Rattle.cob_graph.specs.declared.homes.Home.TheVariants.{Item as of_item};
 ghost use Rattle.cell_steps.specs.Storages.{known_of};
-ghost use Rattle.cell_steps.specs.Operands.{is_remainder};
-ghost use Rattle.cell_steps.specs.Stores.{range_at, keeps_receiver, may_vanish, stored, stored_known, stored_cells, stored_element};
+ghost use Rattle.transfer_ranges.specs.EdgeOperands.{is_remainder};
+ghost use Rattle.cell_steps.specs.Stores.{range_at, keeps_receiver, stored, stored_known, stored_cells, stored_element};
 ghost use Rattle.cell_laws.specs.Sizes.{IsSmallStore};
 ghost use Rattle.cell_layer.specs.ProgramRows.{IsRowOf};
 ghost use Rattle.cell_layer.specs.Kept.{kept_or_new};
@@ -36,11 +36,11 @@ use cob_program::{Act, Program};
 use cob_runs::{Action, Cell};
 use cob_tree::Form;
 use dec_num::Mode;
-use edge_parts::{
-    Amount, amount_from, is_handled, keeps_receiver, may_keep, receiver_at, store_range,
-};
+use edge_parts::{is_handled, keeps_receiver};
 use interval_domain::{Interval, hull};
-use transfer_ranges::{AmountRange, Stored, Taken};
+use transfer_ranges::{
+    Amount, AmountRange, Stored, Taken, amount_from, may_keep, receiver_at, store_range,
+};
 
 // ---- the receiver's cell
 

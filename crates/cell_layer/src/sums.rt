@@ -12,10 +12,11 @@ ghost use Rattle.sum_ranges.specs.Working.{AreBounded};
 ghost use Rattle.interval_domain.specs.Elements.{CellsFit};
 ghost use Rattle.interval_domain.specs.Rows.{cells_of};
 ghost use Rattle.cell_steps.specs.OwnRanges.{owns};
-ghost use Rattle.cell_steps.specs.Operands.{edge_operands, operands_vanish};
+ghost use Rattle.transfer_ranges.specs.EdgeOperands.{edge_operands, operands_vanish};
 ghost use Rattle.cell_steps.specs.Stores.{range_at};
-ghost use Rattle.edge_parts.specs.PartView.{plain_amount, plain_divisor};
-ghost use Rattle.edge_parts.specs.Small.{is_small_sender, has_small_sum};
+ghost use Rattle.edge_parts.specs.PartView.{plain_divisor};
+ghost use Rattle.transfer_ranges.specs.AmountView.{plain_amount};
+ghost use Rattle.transfer_ranges.specs.SmallAmounts.{is_small_sender, has_small_sum};
 ghost use Rattle.cell_laws.specs.Sizes.{is_small_sent, sends_small};
 ghost use Rattle.cell_layer.specs.ProgramRows.{IsRowOf};
 
@@ -24,9 +25,9 @@ use crate::pictures::{is_small_item, is_small_literal};
 use cob_data::{Layout, Sender};
 use cob_program::{Act, Program, Sum};
 use cob_runs::{Action, Cell};
-use edge_parts::{Amount, Divisor, edge_amount};
+use edge_parts::Divisor;
 use sum_ranges::{Ranged, Ranges, atom_range, may_vanish, sum_range};
-use transfer_ranges::Taken;
+use transfer_ranges::{Amount, Taken, edge_amount};
 
 // ---- divisors
 
@@ -112,7 +113,7 @@ pub(crate) fn operands(
     };
     match edge_amount(act, action) {
         None => None,
-        Some(amount) => edge_parts::operands(&items, amount),
+        Some(amount) => transfer_ranges::operands(&items, amount),
     }
 }
 
@@ -128,7 +129,7 @@ pub(crate) fn operands_vanish(program: &Program, cells: &[Cell], row: &[i128], a
         cells,
         row,
     };
-    edge_parts::operands_vanish(&items, act)
+    transfer_ranges::operands_vanish(&items, act)
 }
 
 // ---- senders

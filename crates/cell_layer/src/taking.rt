@@ -16,8 +16,7 @@ use crate::items::KnownItems;
 use crate::scales::{Taken, with_scales};
 use cob_program::{How, Program, Sum};
 use cob_runs::Cell;
-use edge_parts::{Amount, operands};
-use transfer_ranges::Taken as Ranges;
+use transfer_ranges::{Amount, Taken as Ranges, operands};
 
 fn how_of(root: bool) -> How
     ensures { is_whole result ≡ root }

@@ -34,13 +34,13 @@ use Rattle.transfer_ranges.specs.Operands.{alone, taken_from, whole_range}
 use Rattle.transfer_ranges.specs.Stores.{operands, amount_range}
 use Rattle.transfer_ranges.specs.Receivers.{receiver_of, counter}
 use Rattle.transfer_ranges.specs.ResultRanges.{most, exceeds, amount_units, may_fail, near_range, lowered, count_may_fail}
-use Rattle.edge_parts.specs.Working.{amount_from}
+use Rattle.transfer_ranges.specs.Working.{amount_from}
 use Rattle.interval_domain.specs.Known.{Known}
 use Rattle.cob_graph.specs.declared.homes.Home.TheVariants.{Count as of_count}
 use Rattle.cob_graph.specs.Homes.{homes_of}
 use Rattle.cell_steps.specs.Cells.{units_of}
 use Rattle.cell_steps.specs.Agreeing.{of_operands}
-use Rattle.cell_steps.specs.Operands.{edge_amount, edge_operands, settled, amount_of}
+use Rattle.transfer_ranges.specs.EdgeOperands.{edge_amount, edge_operands, settled, amount_of}
 use Rattle.cell_steps.specs.Seen.{Seen}
 use Rattle.cell_steps.specs.Stores.{range_at, with_taken}
 use Rattle.cell_steps.specs.Clearing.{is_misfit, has_quotient, all_fit_of, all_fit, all_count, clears_part}

@@ -14,7 +14,7 @@ use Rattle.sum_ranges.specs.SumRanges.{product_range}
 use Rattle.sum_forms.specs.Constants.{range_form, cell_form, item_form}
 use Rattle.sum_forms.specs.SumForms.{scaled_form, sum_form}
 use Rattle.transfer_ranges.specs.declared.amounts.Taken.{Taken}
-use Rattle.cell_steps.specs.Operands.{settled}
+use Rattle.transfer_ranges.specs.EdgeOperands.{settled}
 use Rattle.diff_steps.specs.Forms.{whole_sum, added_forms, turned_if}
 
 -- operands whose last quotient is cut

@@ -10,23 +10,16 @@ use Rattle.cob_program.specs.Act.{Act, Stmt, MkStmt, Program}
 use Rattle.cob_runs.specs.declared.action.Action.{Action}
 use Rattle.cob_runs.specs.declared.action.Action.TheVariants as action
 use Rattle.cob_runs.specs.Effects.{tests_in_act}
-use Rattle.cob_edge_parts.specs.Parts.{Amount, moved, computed, remaining, augmented, Part, read, unread, divide, store, bytes_in, guard, read_count, set_count, count_down, guard_count, parts_of}
+use Rattle.cob_edge_parts.specs.Parts.{Part, read, unread, divide, store, bytes_in, guard, read_count, set_count, count_down, guard_count, parts_of}
 use Rattle.edge_parts.specs.declared.part.Divisor as declared_divisor
 use Rattle.edge_parts.specs.declared.part.Divisor.TheVariants as divisor
-use Rattle.edge_parts.specs.declared.part.Amount as declared_amount
-use Rattle.edge_parts.specs.declared.part.Amount.TheVariants as amount
+use Rattle.transfer_ranges.specs.AmountView.{plain_amount}
 use Rattle.edge_parts.specs.declared.part.EdgePart.{EdgePart}
 use Rattle.edge_parts.specs.declared.part.EdgePart.TheVariants as part
 
 abbrev pub plain_divisor : declared_divisor.Divisor → Atom
 plain_divisor (divisor.Inner a) = plain_atom a.now
 plain_divisor (divisor.Whole s) = group (plain_sum s.now)
-
-abbrev pub plain_amount : declared_amount.Amount → Amount
-plain_amount (amount.Moved x) = moved x.now
-plain_amount (amount.Computed s how) = computed (plain_sum s.now) how
-plain_amount (amount.Remaining s scale) = remaining (plain_sum s.now) scale
-plain_amount (amount.Augmented x) = augmented x.now
 
 abbrev pub plain_part : EdgePart → Part
 plain_part (part.Read place) = read place

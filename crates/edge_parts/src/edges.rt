@@ -1,16 +1,12 @@
-//! What an edge is, and whether a divisor of its operands may be 0.
-ghost use Rattle.std.specs.Prelude.{◌≡◌, true};
+//! What an edge is: one of size errors, and of a single receiver.
+ghost use Rattle.std.specs.Prelude.{◌≡◌};
 ghost use Rattle.cob_program.specs.ActView.{plain_act, plain_phrase};
 ghost use Rattle.cob_runs.specs.Steps.{is_given};
 ghost use Rattle.cob_edge_parts.specs.Parts.{has_phrase, is_handled};
-ghost use Rattle.sum_ranges.specs.Working.{AreBounded};
-ghost use Rattle.cell_steps.specs.Operands.{operands_vanish};
 ghost use Rattle.cell_steps.specs.Stores.{is_one_receiver, has_one_receiver, keeps_receiver};
-ghost use Rattle.edge_parts.specs.Small.{has_small_sum};
 
 use cob_program::{Act, Stmt, Target};
 use cob_runs::Action;
-use sum_ranges::{Ranges, may_vanish_stored};
 
 fn is_given(phrase: &Option<Vec<Stmt>>) -> bool
     ensures { result ≡ is_given (plain_phrase phrase.now) }
@@ -70,16 +66,4 @@ pub fn keeps_receiver(act: &Act, action: Action) -> bool
     ensures { result ≡ keeps_receiver (plain_act act.now) action }
 {
     is_handled(act, action) && has_one_receiver(act)
-}
-
-/// Whether some divisor of the statement's sum may be 0.
-pub fn operands_vanish<R: Ranges>(ranges: &R, act: &Act) -> bool
-    requires bounded { AreBounded (R.range_at ranges.now) (R.bound_at ranges.now) }
-    requires small { has_small_sum (R.bound_at ranges.now) (plain_act act.now) ≡ true }
-    ensures { result ≡ operands_vanish (R.range_at ranges.now) (plain_act act.now) }
-{
-    match act {
-        Act::Arith { common, .. } => may_vanish_stored(ranges, common),
-        _ => false,
-    }
 }

@@ -1,26 +1,14 @@
 //! Parts of what an edge of the control graph does, borrowed from its statement.
 use cob_data::Sender;
-use cob_program::{Atom, How, Sum, Test};
+use cob_program::{Atom, Sum, Test};
 use dec_num::Mode;
+use transfer_ranges::Amount;
 
 /// A divisor: one that stands in a sum, or a whole sum by which receivers are divided.
 #[derive(Clone, Copy)]
 pub enum Divisor<'a> {
     Inner(&'a Atom),
     Whole(&'a Sum),
-}
-
-/// What a receiver gets.
-#[derive(Clone, Copy)]
-pub enum Amount<'a> {
-    /// The number of a sender.
-    Moved(&'a Sender),
-    /// The result of a sum, and of the receiver's own number where `How` says so.
-    Computed(&'a Sum, How),
-    /// The remainder of a division whose quotient's item has so many decimals.
-    Remaining(&'a Sum, u32),
-    /// The receiver's own number, and a sender's added.
-    Augmented(&'a Sender),
 }
 
 /// A part of what an edge does. Items are named by their places, counters by the numbers of their statements.

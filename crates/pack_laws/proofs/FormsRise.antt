@@ -35,7 +35,7 @@ use Rattle.transfer_ranges.proofs.Narrower.{computed_narrower}
 use Rattle.cob_graph.specs.declared.homes.Home.TheVariants.{Item as of_item, Count as of_count}
 use Rattle.cob_graph.specs.Homes.{homes_of}
 use Rattle.cell_steps.specs.Cells.{units_of}
-use Rattle.cell_steps.specs.Operands.{settled, stays_exact, taken_for, amount_of}
+use Rattle.transfer_ranges.specs.EdgeOperands.{settled, stays_exact, taken_for, amount_of}
 use Rattle.cell_steps.specs.Seen.{Seen}
 use Rattle.cell_steps.specs.Stores.{range_at, amount_at}
 use Rattle.cell_steps.specs.Order.{SeenBelow}

@@ -44,7 +44,7 @@ use Rattle.cob_edge_parts.specs.Counters.{PassesParts}
 use Rattle.cell_laws.specs.Places.{IsBehindOperands, EndsWithRead, IsStored}
 use Rattle.cob_graph.specs.declared.homes.Home.TheVariants.{Item as of_item}
 use Rattle.cell_steps.specs.Storages.{storage}
-use Rattle.cell_steps.specs.Operands.{edge_amount, settled, amount_of}
+use Rattle.transfer_ranges.specs.EdgeOperands.{edge_amount, settled, amount_of}
 use Rattle.cell_steps.specs.Seen.{Seen}
 use Rattle.cell_steps.specs.Stores.{range_at, handled}
 use Rattle.cell_laws.proofs.Agreement.{Agree, same_sum}

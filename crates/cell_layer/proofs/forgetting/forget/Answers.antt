@@ -1,6 +1,6 @@
 use Rattle.std.proofs.Common.{◌≡◌, ◌+◌, ◌∙◌, List, None, false, length, suc, ap, arith}
 use Rattle.cob_runs.specs.declared.action.Cell.{Cell}
-use Rattle.edge_parts.specs.Numbers.{items_of}
+use Rattle.cob_graph.specs.Numbers.{items_of}
 use Rattle.interval_domain.specs.Rows.{cells_of}
 use Rattle.cell_layer.specs.Forgetting.{has_bytes, forgotten_at}
 use Rattle.cell_layer.proofs.Forgotten.{through, through_length, through_next, through_all, item_got, items_length}

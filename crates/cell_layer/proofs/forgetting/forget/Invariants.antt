@@ -1,5 +1,5 @@
 use Rattle.std.proofs.Common.{◌≡◌}
-use Rattle.edge_parts.specs.Numbers.{items_of}
+use Rattle.cob_graph.specs.Numbers.{items_of}
 use Rattle.interval_domain.specs.Rows.{cells_of, IsReached}
 use Rattle.cell_layer.specs.Forgetting.{has_bytes}
 use Rattle.cell_layer.proofs.Forgotten.{through}

@@ -4,7 +4,7 @@ use Rattle.std.specs.List.{All}
 use Rattle.cob_data.specs.declared.layout.Item.{Item}
 use Rattle.cob_program.specs.ActView.{plain_program}
 use Rattle.cob_runs.specs.declared.action.Cell.{Cell}
-use Rattle.edge_parts.specs.Numbers.{items_of}
+use Rattle.cob_graph.specs.Numbers.{items_of}
 use Rattle.interval_domain.specs.Rows.{cells_of}
 use Rattle.cell_steps.specs.Cells.{is_in_bytes}
 use Rattle.cell_layer.specs.Forgetting.{has_bytes, forgotten_by}

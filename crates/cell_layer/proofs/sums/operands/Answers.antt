@@ -2,10 +2,10 @@ use Rattle.std.proofs.Common.{◌≡◌, Some, sym, ap, ◌∙◌}
 use Rattle.std.specs.Option.{option_map}
 use Rattle.cob_program.specs.ActView.{plain_act, plain_program}
 use Rattle.cob_program.specs.Values.{◌>>=◌}
-use Rattle.edge_parts.specs.PartView.{plain_amount}
+use Rattle.transfer_ranges.specs.AmountView.{plain_amount}
 use Rattle.transfer_ranges.specs.Stores.{operands}
 use Rattle.interval_domain.specs.Rows.{cells_of}
-use Rattle.cell_steps.specs.Operands.{edge_amount}
+use Rattle.transfer_ranges.specs.EdgeOperands.{edge_amount}
 use Rattle.cell_steps.specs.Stores.{range_at}
 use Rattle.cell_layer.proofs.ShortBounds.{bounded}
 use Rattle.cell_layer.proofs.ShortAnswers.{operands_are, edge_is_small}

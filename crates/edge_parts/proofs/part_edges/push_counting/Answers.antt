@@ -2,7 +2,7 @@ use Rattle.std.proofs.Common.{ap}
 use Rattle.cob_program.specs.ActView.{plain_body}
 use Rattle.cob_edge_parts.specs.Parts.{count_parts}
 use Rattle.edge_parts.specs.PartView.{plain_part}
-use Rattle.edge_parts.proofs.PartActs.{perform_is}
+use Rattle.cob_program.proofs.ActViews.{perform_is}
 use Rattle.edge_parts.proofs.HandingLaws.{takes_same}
 use Rattle.edge_parts.proofs.part_edges.push_counting.Goals as goal
 

@@ -1,5 +1,5 @@
 use Rattle.cob_program.specs.ActView.{plain_act, plain_program}
-use Rattle.edge_parts.specs.PartView.{plain_amount}
+use Rattle.transfer_ranges.specs.AmountView.{plain_amount}
 use Rattle.cell_layer.specs.Kept.{seen}
 use Rattle.cell_layer.proofs.Stepping.{can_work, small_amounts}
 use Rattle.cell_layer.proofs.before.Before.all_fit.Goals as goal

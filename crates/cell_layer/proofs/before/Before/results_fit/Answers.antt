@@ -3,12 +3,12 @@ use Rattle.std.specs.Prelude.{not}
 use Rattle.std.specs.Option.{option_map_or}
 use Rattle.cob_program.specs.ActView.{plain_program}
 use Rattle.cob_runs.specs.Contents.{form_at}
-use Rattle.edge_parts.specs.PartView.{plain_amount}
+use Rattle.transfer_ranges.specs.AmountView.{plain_amount}
 use Rattle.sum_ranges.specs.declared.ranged.Ranged.{Ranged}
 use Rattle.transfer_ranges.specs.declared.amounts.Receiver.{Receiver}
 use Rattle.transfer_ranges.specs.Receivers.{receiver_of}
 use Rattle.transfer_ranges.specs.ResultRanges.{may_fail}
-use Rattle.cell_steps.specs.Operands.{amount_of}
+use Rattle.transfer_ranges.specs.EdgeOperands.{amount_of}
 use Rattle.cell_layer.proofs.before.Before.results_fit.Goals as goal
 
 pub returns : goal.returns

@@ -1,5 +1,5 @@
 use Rattle.std.proofs.Common.{ap, ◌∙◌}
-use Rattle.edge_parts.specs.PartView.{plain_amount}
+use Rattle.transfer_ranges.specs.AmountView.{plain_amount}
 use Rattle.cell_steps.specs.Seen.{Seen}
 use Rattle.cell_layer.specs.Latest.{outcome}
 use Rattle.cell_layer.specs.RowWalks.{program_in, act_done, moment}
