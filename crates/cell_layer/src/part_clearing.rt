@@ -1,12 +1,9 @@
 //! The kinds of faults that what is known before a part shows not to be met there.
-ghost use Rattle.std.specs.Prelude.{◌≡◌, ◌||◌, not, true, is_some, map, IfSome};
+ghost use Rattle.std.specs.Prelude.{◌≡◌, ◌||◌, not, true, IfSome};
 ghost use Rattle.std.specs.Option.{option_map_or};
 ghost use Rattle.cob_tree.specs.Kinds.{kinds_of};
 ghost use Rattle.cob_program.specs.ActView.{plain_act, plain_program};
 ghost use Rattle.cob_program.specs.Bounds.{is_small};
-ghost use Rattle.cob_program.specs.Sum.{MkSum, parts_of, factors_of, more_parts, no_parts};
-ghost use Rattle.cob_program.specs.SumView.{plain_sum, plain_part as sum_part, plain_factor};
-ghost use Rattle.cob_program.specs.Values.{root_of, root_in};
 ghost use Rattle.cob_runs.specs.Contents.{form_at};
 ghost use Rattle.cob_calc.specs.Contents.{bound_at};
 ghost use Rattle.cob_edge_parts.specs.Parts as part;
@@ -35,7 +32,6 @@ use crate::counting::{count_down_fits, count_fits};
 use crate::dividing::divisor_clears;
 use crate::items::{item_is_numeric, item_range};
 use crate::kept::{Kept, taken};
-use cob_program::{Factor, Part, Sum};
 use cob_runs::Cell;
 use cob_tree::{Kind, Kinds};
 use dec_num::Mode;
@@ -45,47 +41,12 @@ use transfer_ranges::{Amount, AmountRange, Receiver, Taken, amount_of, receiver_
 
 // ---- quotients
 
-fn ends_by_division(factors: &[Factor]) -> bool
-    ensures { result ≡ is_some (root_in (factors_of (map plain_factor factors.now))) }
-{
-    match factors.split_last() {
-        None => false,
-        Some((last, _above)) => last.over,
-    }
-}
-
-fn is_quotient_part(part: &Part) -> bool
-    ensures { result ≡ is_some (root_of (MkSum (more_parts (sum_part part.now) no_parts))) }
-{
-    if part.minus {
-        false
-    } else {
-        ends_by_division(&part.factors)
-    }
-}
-
-fn is_quotient_of(parts: &[Part]) -> bool
-    ensures { result ≡ is_some (root_of (MkSum (parts_of (map sum_part parts.now)))) }
-{
-    if parts.len() == 1 {
-        is_quotient_part(&parts[0])
-    } else {
-        false
-    }
-}
-
-// Whether a division is the last operation of a sum.
-fn is_quotient(sum: &Sum) -> bool
-    ensures { result ≡ is_some (root_of (plain_sum sum.now)) }
-{
-    is_quotient_of(&sum.parts)
-}
-
+#[tactic(auto, using(cob_program::proofs::Roots::root_there))]
 fn has_quotient(amount: Amount) -> bool
     ensures { result ≡ has_quotient (plain_amount amount.entry) }
 {
     match amount {
-        Amount::Remaining(sum, _) => is_quotient(sum),
+        Amount::Remaining(sum, _) => sum.root().is_some(),
         Amount::Moved(_) | Amount::Computed(_, _) | Amount::Augmented(_) => true,
     }
 }

@@ -1,5 +1,6 @@
 -- The division that is the last operation of a sum.
-use Rattle.std.proofs.Common.{◌≡◌, subst, ℕ, Bool, true, false, List, [], ◌∷◌, ◌++◌, length, map, Option, Some, None, if◌then◌else◌, refl, sym, ap, ◌∙◌}
+use Rattle.std.proofs.Common.{◌≡◌, subst, ℕ, Bool, true, false, List, [], ◌∷◌, ◌++◌, length, map, Option, Some, None, is_some, if◌then◌else◌, refl, sym, ap, ◌∙◌}
+use Rattle.std.specs.Option.{option_map}
 use Rattle.std.proofs.lemmas.List.{map_push}
 use Rattle.cob_program.specs.declared.sum.Part as declared_part
 use Rattle.cob_program.specs.declared.sum.Factor as declared_factor
@@ -72,3 +73,12 @@ pub divisor_is_small : (bound : ℕ → Bound) (r : declared_root.Root) → is_s
 divisor_is_small bound r h =
     let above = factors_of (map plain_factor r.dividend.now) in
     (both (is_small_product bound (exactly 1) above) (is_small_atom bound (plain_atom (out-Factor r.divisor.now).atom)) (subst (λ f. is_small_quotient bound (root_with above f) ≡ true) (factor_is r.divisor.now) h)).1
+
+-- ---- whether there is one
+
+mapped_there : (o : Option declared_root.Root) → is_some o ≡ is_some (option_map plain_root o)
+mapped_there None = refl
+mapped_there (Some r) = refl
+
+pub root_there : (o : Option declared_root.Root) (r : Option Root) (there : Bool) → there ≡ is_some o → option_map plain_root o ≡ r → there ≡ is_some r
+root_there o r there e is = e ∙ mapped_there o ∙ ap (λ x. is_some x) is
