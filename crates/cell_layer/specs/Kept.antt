@@ -8,7 +8,7 @@ use Rattle.edge_parts.specs.PartView.{edge_parts}
 use Rattle.interval_domain.specs.Known.{Known, joined_known}
 use Rattle.interval_domain.specs.Rows.{cells_of}
 use Rattle.cell_steps.specs.Seen.{Seen}
-use Rattle.cell_layer.specs.declared.kept.Kept.{Kept}
+use Rattle.cell_layer.specs.declared.edge.kept.Kept.{Kept}
 use Rattle.cell_layer.specs.NumberedStatements.{act_in}
 use Rattle.cell_layer.specs.Walks.{step_small}
 use Rattle.cell_layer.specs.Latest.{Latest, latest_behind}

@@ -17,7 +17,7 @@ use Rattle.interval_domain.specs.Rows.{cells_of}
 use Rattle.interval_domain.specs.Elements.{CellsFit}
 use Rattle.cell_steps.specs.OwnRanges.{owns}
 use Rattle.cell_steps.specs.Seen.{Seen, beginning}
-use Rattle.cell_layer.specs.declared.kept.Kept.{Kept}
+use Rattle.cell_layer.specs.declared.edge.kept.Kept.{Kept}
 use Rattle.cell_layer.specs.Kept.{seen}
 use Rattle.cell_layer.specs.ProgramRows.{IsRowOf}
 use Rattle.cell_layer.specs.Walks.{CanStep}
