@@ -14,7 +14,7 @@ use Rattle.cob_program.specs.Act.{Act, Program}
 use Rattle.cob_runs.specs.declared.action.Action.{Action}
 use Rattle.cob_runs.specs.Contents.{form_at}
 use Rattle.cob_edge_parts.specs.Parts.{Amount, Part, divide, store, set_count, count_down, has_phrase, parts_of}
-use Rattle.diff_bounds.specs.declared.form.Lin.{Lin}
+use Rattle.diff_bounds.specs.declared.form.lin.Lin.{Lin}
 use Rattle.diff_bounds.specs.Upper.{upper_of}
 use Rattle.sum_ranges.specs.Ranged.{decimal}
 use Rattle.sum_forms.specs.SumForms.{atom_form}

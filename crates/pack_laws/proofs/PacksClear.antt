@@ -28,7 +28,7 @@ use Rattle.cob_runs.specs.Moves.{number_of}
 use Rattle.cob_edge_parts.specs.Parts.{Amount, Part, read, unread, divide, store, bytes_in, guard, read_count, set_count, count_down, guard_count, parts_of, has_phrase}
 use Rattle.cob_edge_parts.specs.Meaning.{Moment, divides_by, stored_bytes, amount, Faults}
 use Rattle.cob_edge_parts.specs.Edges.{fault_edge}
-use Rattle.diff_bounds.specs.declared.form.Lin.{Lin}
+use Rattle.diff_bounds.specs.declared.form.lin.Lin.{Lin}
 use Rattle.sum_forms.specs.SumForms.{atom_form}
 use Rattle.transfer_ranges.specs.declared.amounts.Taken.{Taken}
 use Rattle.transfer_ranges.specs.declared.amounts.AmountRange.{AmountRange}

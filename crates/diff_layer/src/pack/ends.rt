@@ -19,7 +19,7 @@ ghost use Rattle.std.specs.Prelude.{
 ghost use Rattle.std.specs.Option.{option_map_or};
 ghost use Rattle.edge_parts.specs.PartView.{plain_part};
 ghost use Rattle.diff_bounds.specs.Matrix.{IsMatrix};
-ghost use Rattle.diff_bounds.specs.declared.form.Lin.{Lin};
+ghost use Rattle.diff_bounds.specs.declared.form.lin.Lin.{Lin};
 ghost use Rattle.sum_ranges.specs.Sizes.{IsSmallRange};
 ghost use Rattle.transfer_ranges.specs.ResultRanges.{most, near_range};
 ghost use Rattle.transfer_ranges.specs.Sizes.{IsReceiver};
