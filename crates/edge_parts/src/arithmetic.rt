@@ -10,7 +10,7 @@ ghost use Rattle.edge_parts.specs.PartView.{plain_part};
 ghost use Rattle.edge_parts.specs.Pieces.{whole_divisors, right_side_parts, sides_divisors};
 ghost use Rattle.edge_parts.specs.Handing.{Takes, goes_on};
 
-use crate::part::{Amount, Divisor, EdgePart};
+use crate::part::{Divisor, EdgePart};
 use crate::part_items::scale_at;
 use crate::part_senders::push_number_read;
 use crate::sums::{push_divisors, push_reads};
@@ -19,6 +19,7 @@ use cob_data::{Layout, Sender};
 use cob_program::{How, Sum, Target};
 use dec_num::Mode;
 use std::ops::ControlFlow;
+use transfer_ranges::Amount;
 
 // ---- divisors
 

@@ -9,13 +9,14 @@ ghost use Rattle.edge_parts.specs.PartView.{plain_part};
 ghost use Rattle.edge_parts.specs.Pieces.{sender_reads};
 ghost use Rattle.edge_parts.specs.Handing.{Takes, goes_on};
 
-use crate::part::{Amount, EdgePart};
+use crate::part::EdgePart;
 use crate::part_items::{gets_value, is_read_for, item_at};
 use crate::part_senders::push_number_read;
 use crate::taker::{Going, PartTaker, no_parts, push_part};
 use cob_data::{Layout, Sender};
 use dec_num::Mode;
 use std::ops::ControlFlow;
+use transfer_ranges::Amount;
 
 // Whether the sender is read for one of the items.
 fn is_read(layout: &Layout, from: &Sender, to: &[u32]) -> bool
