@@ -11,7 +11,7 @@ ghost use Rattle.cob_graph.specs.declared.homes.Home.TheVariants.{Count as of_co
 ghost use Rattle.cell_steps.specs.Cells.{units_of};
 ghost use Rattle.cell_layer.specs.ProgramRows.{IsRowOf};
 
-use crate::counters;
+use crate::row::counters;
 use cob_program::Program;
 use cob_runs::Cell;
 use transfer_ranges::{Taken, counted, lowered};

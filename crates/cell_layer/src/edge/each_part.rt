@@ -18,9 +18,9 @@ ghost use Rattle.cell_layer.specs.Kept.{seen, latest_of};
 ghost use Rattle.cell_layer.specs.Walks.{with_taken_small, step_small, CanStep};
 ghost use Rattle.cell_layer.specs.RowWalks.{program_in, act_done, moment, latest_in, CanGoOn, GoesOn};
 
-use crate::counters;
 use crate::edge::kept::{Kept, taken};
 use crate::edge::row_walk::Walk;
+use crate::row::counters;
 use crate::row::forgetting::forget_bytes;
 use crate::row::reads::read_item;
 use crate::row::tests_of::guard_row;
