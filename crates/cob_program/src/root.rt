@@ -1,5 +1,5 @@
 //! The division that is a sum's last operation, which stays exact where the sum is stored.
-ghost use Rattle.std.specs.Prelude.{◌≡◌, map, option_map};
+ghost use Rattle.std.specs.Prelude.{◌≡◌, is_some, map, option_map};
 ghost use Rattle.cob_program.specs.Sum.{MkSum, no_parts, more_parts, parts_of, factors_of};
 ghost use Rattle.cob_program.specs.SumView.{plain_sum, plain_part, plain_factor};
 ghost use Rattle.cob_program.specs.RootView.{plain_root};
@@ -57,5 +57,13 @@ impl Sum {
         ensures { option_map plain_root result ≡ root_of (plain_sum self.now) }
     {
         root_of(&self.parts)
+    }
+
+    /// Whether a division is its last operation.
+    #[tactic(auto, using(crate::proofs::Roots::root_there))]
+    pub fn is_quotient(&self) -> bool
+        ensures { result ≡ is_some (root_of (plain_sum self.now)) }
+    {
+        self.root().is_some()
     }
 }

@@ -41,12 +41,11 @@ use transfer_ranges::{Amount, AmountRange, Receiver, Taken, amount_of, receiver_
 
 // ---- quotients
 
-#[tactic(auto, using(cob_program::proofs::Roots::root_there))]
 fn has_quotient(amount: Amount) -> bool
     ensures { result ≡ has_quotient (plain_amount amount.entry) }
 {
     match amount {
-        Amount::Remaining(sum, _) => sum.root().is_some(),
+        Amount::Remaining(sum, _) => sum.is_quotient(),
         Amount::Moved(_) | Amount::Computed(_, _) | Amount::Augmented(_) => true,
     }
 }

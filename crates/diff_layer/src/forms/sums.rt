@@ -57,7 +57,7 @@ pub(crate) fn form_of_divisor(items: &KnownItems, pack: &PackView, divisor: Divi
 
 /// The form of operands to whose bytes the edge hasn't written. `whole` says that the whole sum is stored: a quotient
 /// that is its last operation then has none.
-#[tactic(auto, using(crate::proofs::Reading::readable, cob_program::proofs::Roots::root_there))]
+#[tactic(auto, using(crate::proofs::Reading::readable))]
 pub(crate) fn form_read(items: &KnownItems, pack: &PackView, sum: &Sum, whole: bool) -> Option<Lin>
     requires fits { CellsFit (owns (program_of items.now)) (known_in items.now) }
     requires small { is_small_taken (bound_at (program_of items.now).layout) whole (plain_sum sum.now) ≡ true }
@@ -65,7 +65,7 @@ pub(crate) fn form_read(items: &KnownItems, pack: &PackView, sum: &Sum, whole: b
         (range_at (program_of items.now) (known_in items.now)) whole (plain_sum sum.now) }
     ensures good { IfSome result IsForm }
 {
-    if whole && sum.root().is_some() {
+    if whole && sum.is_quotient() {
         return None;
     }
     form_of_sum(items, pack, sum)
