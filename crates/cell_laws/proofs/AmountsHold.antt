@@ -32,7 +32,7 @@ use Rattle.transfer_ranges.specs.Stores.{sender_range, operands}
 use Rattle.interval_domain.specs.Known.{Known}
 use Rattle.cell_steps.specs.Storages.{storage, StandsIn}
 use Rattle.cell_steps.specs.Premises.{HasSoundItems}
-use Rattle.cell_steps.specs.Operands.{edge_amount, edge_operands, settled, amount_of}
+use Rattle.transfer_ranges.specs.EdgeOperands.{edge_amount, edge_operands, settled, amount_of}
 use Rattle.cell_steps.specs.Stores.{range_at}
 use Rattle.cell_steps.specs.Agreeing.{OperandsHold, of_operands}
 use Rattle.cell_laws.proofs.AmountLaws.{Given}

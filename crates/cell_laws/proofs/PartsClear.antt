@@ -41,7 +41,7 @@ use Rattle.cob_graph.specs.Homes.{homes_of}
 use Rattle.cell_steps.specs.OwnRanges.{picture_range}
 use Rattle.cell_steps.specs.Storages.{storage}
 use Rattle.cell_steps.specs.Cells.{known_or, units_of, is_numeric}
-use Rattle.cell_steps.specs.Operands.{amount_of}
+use Rattle.transfer_ranges.specs.EdgeOperands.{amount_of}
 use Rattle.cell_steps.specs.Seen.{Seen}
 use Rattle.cell_steps.specs.Stores.{range_at, handled, with_taken}
 use Rattle.cell_steps.specs.Clearing.{is_misfit, has_quotient, all_fit_of, all_fit, all_count, clears_part}

@@ -48,7 +48,7 @@ use Rattle.cob_graph.specs.Homes.{homes_of}
 use Rattle.cell_steps.specs.OwnRanges.{picture_range, form_range}
 use Rattle.cell_steps.specs.Storages.{storage, known_of, value_at, KnownStands, StandsIn}
 use Rattle.cell_steps.specs.Cells.{known_or, units_of, forgotten, is_in_bytes, is_beside}
-use Rattle.cell_steps.specs.Operands.{edge_amount, amount_of}
+use Rattle.transfer_ranges.specs.EdgeOperands.{edge_amount, amount_of}
 use Rattle.cell_steps.specs.Seen.{Seen, with_cells, with_zero}
 use Rattle.cell_steps.specs.Stores.{stored_cells, stored_element, behind_store, range_at, handled, keeps_receiver, with_taken, amount_at, result_at, may_fail, stored}
 use Rattle.cell_steps.specs.Steps.{is_zero_alone, can_divide, known_as, with_cells_if, after_bytes, after_count, after_down, after_divide, step}

@@ -39,9 +39,10 @@ use Rattle.cob_graph.specs.declared.homes.Home.TheVariants.{Item as of_item, Cou
 use Rattle.cob_graph.specs.Homes.{homes_of}
 use Rattle.cell_steps.specs.OwnRanges.{home_range, form_range, picture_range, owns}
 use Rattle.cell_steps.specs.Cells.{units_of, is_numeric, with_known, forgotten, is_in_bytes, is_beside}
-use Rattle.cell_steps.specs.Operands.{operands_vanish, amount_of, may_divide_by_zero, is_remainder}
+use Rattle.transfer_ranges.specs.EdgeOperands.{operands_vanish, amount_of, may_divide_by_zero, is_remainder}
 use Rattle.cell_steps.specs.Seen.{Seen, with_cells, with_zero}
-use Rattle.cell_steps.specs.Stores.{handled, keeps_receiver, range_at, taking, with_taken, amount_at, result_at, may_exceed, may_vanish, may_fail, may_fit, stored_known, stored_cells, stored_element, behind_store, stored}
+use Rattle.cell_steps.specs.Stores.{handled, keeps_receiver, range_at, taking, with_taken, amount_at, result_at, may_exceed, may_fail, may_fit, stored_known, stored_cells, stored_element, behind_store, stored}
+use Rattle.transfer_ranges.specs.Working.{may_vanish}
 use Rattle.cell_steps.specs.Steps.{is_zero_alone, can_divide, known_as, read_cells, cut_cells, all_cut, guarded_cells, counted_cells, with_cells_if, after_read, after_divide, after_count, after_down, step}
 use Rattle.cell_steps.specs.Order.{SeenBelow}
 use Rattle.cell_laws.proofs.ResultLaws.{Given}

@@ -17,9 +17,9 @@ use Rattle.cob_edge_parts.specs.Parts.{Amount, moved, computed, remaining, augme
 use Rattle.sum_ranges.specs.declared.ranged.Ranged.{Ranged}
 use Rattle.transfer_ranges.specs.Stores.{operands, sender_range}
 use Rattle.transfer_ranges.specs.Sizes.{IsSmallAmount}
-use Rattle.cell_steps.specs.Operands.{edge_amount}
-use Rattle.edge_amounts.specs.Small.{has_small_sum}
-use Rattle.edge_amounts.specs.Working.{CanWork, amount_from}
+use Rattle.transfer_ranges.specs.EdgeOperands.{edge_amount}
+use Rattle.transfer_ranges.specs.SmallAmounts.{has_small_sum}
+use Rattle.transfer_ranges.specs.Working.{CanWork, amount_from}
 use Rattle.cell_laws.proofs.Doing.{can_do_at}
 use Rattle.cell_laws.proofs.PremiseDivisors.{result_is_stored}
 use Rattle.cell_laws.proofs.PremiseParts.{is_arithmetic, IsSourceAmount, IsSourcePart, every, parts_are_kept}

@@ -44,7 +44,7 @@ use Rattle.cell_steps.specs.OwnRanges.{picture_range, form_range}
 use Rattle.cell_steps.specs.Premises.{HasSoundItems}
 use Rattle.cell_steps.specs.Storages.{storage, known_of, value_at, KnownStands, StandsIn}
 use Rattle.cell_steps.specs.Cells.{forgotten, is_beside}
-use Rattle.cell_steps.specs.Operands.{edge_amount, edge_operands, amount_of, operands_vanish}
+use Rattle.transfer_ranges.specs.EdgeOperands.{edge_amount, edge_operands, amount_of, operands_vanish}
 use Rattle.cell_steps.specs.Seen.{Seen}
 use Rattle.cell_steps.specs.Stores.{stored_known, stored_cells, range_at, handled, taking, with_taken, amount_at}
 use Rattle.cell_steps.specs.Agreeing.{IsSoundEdge, OperandsHold, of_operands, writes, is_store, Agrees}

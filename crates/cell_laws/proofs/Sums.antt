@@ -23,8 +23,8 @@ use Rattle.transfer_ranges.specs.Amounts.{taken as taken_of}
 use Rattle.transfer_ranges.specs.Operands.{alone, is_whole, taken_from, taken_sum, computed_range}
 use Rattle.transfer_ranges.specs.Sizes.{CanCompute, IsSmallAmount}
 use Rattle.transfer_ranges.proofs.Bounding.{small_sum, small_product, small_remainder}
-use Rattle.cell_steps.specs.Operands.{settled, amount_of}
-use Rattle.edge_amounts.specs.Working.{CanSettle, CanWork, amount_from}
+use Rattle.transfer_ranges.specs.EdgeOperands.{settled, amount_of}
+use Rattle.transfer_ranges.specs.Working.{CanSettle, CanWork, amount_from}
 use Rattle.cell_laws.proofs.Roots.{settled_is}
 use Rattle.cell_laws.proofs.PremiseDivisors.{sum_root}
 

@@ -15,9 +15,9 @@ use Rattle.sum_ranges.specs.Working.{AreBounded}
 use Rattle.transfer_ranges.specs.Receivers.{receiver_of}
 use Rattle.transfer_ranges.specs.Sizes.{IsReceiver, IsSmallAmount}
 use Rattle.transfer_ranges.specs.Small.{is_small_test}
-use Rattle.cell_steps.specs.Operands.{edge_amount, edge_operands}
-use Rattle.edge_amounts.specs.Small.{is_small_sender, has_small_sum}
-use Rattle.edge_amounts.specs.Working.{CanWork, amount_from}
+use Rattle.transfer_ranges.specs.EdgeOperands.{edge_amount, edge_operands}
+use Rattle.transfer_ranges.specs.SmallAmounts.{is_small_sender, has_small_sum}
+use Rattle.transfer_ranges.specs.Working.{CanWork, amount_from}
 
 -- the number that is sent is small; what is no sender's is asked elsewhere
 abbrev pub is_small_sent : (ℕ → Bound) → Option Amount → Bool

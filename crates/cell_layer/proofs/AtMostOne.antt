@@ -18,7 +18,7 @@ use Rattle.transfer_ranges.specs.declared.amounts.AmountRange.{AmountRange}
 use Rattle.transfer_ranges.specs.declared.amounts.AmountRange.TheVariants as range
 use Rattle.transfer_ranges.specs.declared.amounts.Taken.{Taken}
 use Rattle.transfer_ranges.specs.Sizes.{IsSmallAmount}
-use Rattle.edge_amounts.specs.Working.{CanGive, CanWork}
+use Rattle.transfer_ranges.specs.Working.{CanGive, CanWork}
 use Rattle.cell_laws.specs.Sizes.{IsSmallStore, IsSmallPart}
 
 -- ---- items

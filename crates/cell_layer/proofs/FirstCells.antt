@@ -22,8 +22,8 @@ use Rattle.cob_graph.specs.Graphs.{cells_of}
 use Rattle.cob_graph.specs.declared.homes.Home.{Home}
 use Rattle.cob_graph.specs.declared.homes.Home.TheVariants.{Item as of_item, Count as of_count}
 use Rattle.cob_graph.specs.Homes.{home_of, if_named, item_homes, turns_homes, act_homes, count_homes, homes_of}
-use Rattle.edge_amounts.specs.Numbers.{item_of, items_of}
-use Rattle.edge_amounts.proofs.Parallel.{cells_same}
+use Rattle.cob_graph.specs.Numbers.{item_of, items_of}
+use Rattle.cob_graph.proofs.Parallel.{cells_same}
 use Rattle.interval_domain.specs.Known.{Known, IsOrdered}
 use Rattle.interval_domain.specs.Rows as rows
 use Rattle.interval_domain.specs.Rows.{IsReached, words_in, cells_in, row_of, row_from}

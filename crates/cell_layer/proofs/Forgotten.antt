@@ -20,8 +20,8 @@ use Rattle.cob_graph.specs.Homes.{home_of, if_named, item_homes, turns_homes, ac
 use Rattle.interval_domain.specs.Known.{Known}
 use Rattle.interval_domain.specs.Rows as rows
 use Rattle.interval_domain.specs.Rows.{IsReached}
-use Rattle.edge_amounts.specs.Numbers.{item_of, items_of}
-use Rattle.edge_amounts.proofs.Parallel.{cells_same}
+use Rattle.cob_graph.specs.Numbers.{item_of, items_of}
+use Rattle.cob_graph.proofs.Parallel.{cells_same}
 use Rattle.cell_steps.specs.Cells.{forgotten, is_in_bytes, is_beside}
 use Rattle.cell_layer.specs.ProgramRows.{IsRowOf}
 use Rattle.cell_layer.specs.Forgetting.{has_bytes, forgotten_at, forgotten_by}

@@ -13,7 +13,6 @@ pub mod SmallEdges
 pub mod RangeBounds
 pub mod Stepping
 pub mod Storing
-pub mod Quotients
 pub mod FirstCells
 pub mod AtMostOne
 pub mod Marks

@@ -18,7 +18,7 @@ use Rattle.cob_runs.specs.declared.action.Action.{Action}
 use Rattle.cob_runs.specs.Contents.{form_at}
 use Rattle.cob_calc.specs.Contents.{bound_at}
 use Rattle.cob_edge_parts.specs.Parts.{Amount, Part, read, unread, divide, store, bytes_in, guard, read_count, set_count, count_down, guard_count}
-use Rattle.edge_amounts.specs.PartView.{edge_parts}
+use Rattle.edge_parts.specs.PartView.{edge_parts}
 use Rattle.sum_ranges.specs.SumRanges.{atom_range}
 use Rattle.sum_ranges.specs.Vanishing.{may_be_zero}
 use Rattle.sum_ranges.specs.Working.{AreBounded}
@@ -27,7 +27,7 @@ use Rattle.transfer_ranges.specs.declared.amounts.AmountRange.{AmountRange}
 use Rattle.transfer_ranges.specs.Receivers.{receiver_of}
 use Rattle.transfer_ranges.specs.ResultRanges.{result_range, count_range, lowered}
 use Rattle.transfer_ranges.specs.Sizes.{IsSmallAmount}
-use Rattle.edge_amounts.specs.Working.{CanSettleFor, CanWork, amount_from, units_from}
+use Rattle.transfer_ranges.specs.Working.{CanSettleFor, CanWork, amount_from, units_from}
 use Rattle.interval_domain.specs.Known.{Known, IsOrdered, KnownFits}
 use Rattle.interval_domain.specs.Elements.{Element, CellsFit, ElementFits}
 use Rattle.cob_graph.specs.declared.homes.Home.{Home}
@@ -35,7 +35,7 @@ use Rattle.cob_graph.specs.declared.homes.Home.TheVariants.{Item as of_item, Cou
 use Rattle.cob_graph.specs.Homes.{homes_of}
 use Rattle.cell_steps.specs.OwnRanges.{form_range, home_range, picture_range, owns}
 use Rattle.cell_steps.specs.Cells.{units_of, forgotten, is_in_bytes, is_beside}
-use Rattle.cell_steps.specs.Operands.{edge_operands}
+use Rattle.transfer_ranges.specs.EdgeOperands.{edge_operands}
 use Rattle.cell_steps.specs.Seen.{Seen, with_cells, with_zero}
 use Rattle.cell_steps.specs.Stores.{range_at, handled, keeps_receiver, taking, amount_at, result_at, may_fail, stored_known, stored_cells, stored_element, behind_store, stored}
 use Rattle.cell_steps.specs.Steps.{can_divide, known_as, read_cells, guarded_cells, counted_cells, with_cells_if, after_read, after_divide}

@@ -17,7 +17,7 @@ use Rattle.transfer_ranges.specs.ResultRanges.{may_fail, lowered, count_may_fail
 use Rattle.cob_graph.specs.declared.homes.Home.TheVariants.{Count as of_count}
 use Rattle.cob_graph.specs.Homes.{homes_of}
 use Rattle.cell_steps.specs.Cells.{is_known, units_of, is_numeric}
-use Rattle.cell_steps.specs.Operands.{amount_of}
+use Rattle.transfer_ranges.specs.EdgeOperands.{amount_of}
 use Rattle.cell_steps.specs.Seen.{Seen}
 use Rattle.cell_steps.specs.Stores.{range_at, with_taken}
 use Rattle.cell_steps.specs.Steps.{step}

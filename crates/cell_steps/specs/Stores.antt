@@ -12,7 +12,6 @@ use Rattle.cob_runs.specs.declared.action.Action.{Action}
 use Rattle.cob_runs.specs.Contents.{form_at}
 use Rattle.cob_edge_parts.specs.Parts.{Amount, is_handled}
 use Rattle.sum_ranges.specs.declared.ranged.Ranged.{Ranged}
-use Rattle.transfer_ranges.specs.declared.amounts.Taken.{Taken}
 use Rattle.transfer_ranges.specs.declared.amounts.AmountRange.{AmountRange}
 use Rattle.transfer_ranges.specs.Receivers.{receiver_of}
 use Rattle.transfer_ranges.specs.ResultRanges as result
@@ -22,7 +21,8 @@ use Rattle.cob_graph.specs.declared.homes.Home.TheVariants.{Item as of_item}
 use Rattle.cob_graph.specs.Homes.{homes_of}
 use Rattle.cell_steps.specs.Cells as cells
 use Rattle.cell_steps.specs.Cells.{with_known, forgotten, is_beside}
-use Rattle.cell_steps.specs.Operands.{edge_operands, operands_vanish, amount_of, may_divide_by_zero, is_remainder}
+use Rattle.transfer_ranges.specs.EdgeOperands.{edge_operands, operands_vanish, amount_of, is_remainder}
+use Rattle.transfer_ranges.specs.Working.{may_vanish}
 use Rattle.cell_steps.specs.Seen.{Seen}
 
 -- ---- what is known behind a store
@@ -68,10 +68,6 @@ has_one_receiver _ = false
 -- An edge to the list of ON SIZE ERROR, where a statement has one receiver: what failed is that one, and it keeps its value.
 abbrev pub keeps_receiver : Act → Action → Bool
 keeps_receiver a x = is_handled a x && has_one_receiver a
-
--- what divides may be 0
-abbrev pub may_vanish : Option Taken → Amount → Bool
-may_vanish common amount = option_map_or (may_divide_by_zero amount) common true
 
 -- An edge of a program's graph: what its node's statement does, and which of the statement's edges it is.
 module _ (p : Program) (a : Act) (x : Action) where

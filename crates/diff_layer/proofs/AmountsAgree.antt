@@ -8,7 +8,7 @@ use Rattle.cob_program.specs.Sum.{Sum}
 use Rattle.cob_program.specs.Act.{Program}
 use Rattle.cob_runs.specs.Computing.{items_in}
 use Rattle.cob_edge_parts.specs.Parts.{Amount, moved, computed, remaining, augmented}
-use Rattle.diff_bounds.specs.declared.form.Lin.{Lin}
+use Rattle.diff_bounds.specs.declared.form.lin.Lin.{Lin}
 use Rattle.sum_ranges.specs.declared.ranged.Ranged.{Ranged}
 use Rattle.sum_ranges.specs.SumRanges.{sum_range}
 use Rattle.sum_forms.specs.Constants.{item_form}

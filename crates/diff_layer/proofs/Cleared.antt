@@ -20,7 +20,7 @@ use Rattle.cob_runs.specs.declared.action.Action.{Action}
 use Rattle.cob_runs.specs.Contents.{form_at}
 use Rattle.cob_runs.specs.Computing.{items_in}
 use Rattle.cob_edge_parts.specs.Parts.{Amount, moved, computed, remaining, augmented, Part, read, unread, divide, store, bytes_in, guard, read_count, set_count, count_down, guard_count, has_phrase}
-use Rattle.diff_bounds.specs.declared.form.Lin.{Lin}
+use Rattle.diff_bounds.specs.declared.form.lin.Lin.{Lin}
 use Rattle.diff_bounds.specs.Upper.{upper_of}
 use Rattle.sum_forms.specs.Constants.{range_form}
 use Rattle.sum_forms.specs.SumForms.{sum_form}
@@ -34,13 +34,13 @@ use Rattle.transfer_ranges.specs.Operands.{alone, taken_from, whole_range}
 use Rattle.transfer_ranges.specs.Stores.{operands, amount_range}
 use Rattle.transfer_ranges.specs.Receivers.{receiver_of, counter}
 use Rattle.transfer_ranges.specs.ResultRanges.{most, exceeds, amount_units, may_fail, near_range, lowered, count_may_fail}
-use Rattle.edge_amounts.specs.Working.{amount_from}
+use Rattle.transfer_ranges.specs.Working.{amount_from}
 use Rattle.interval_domain.specs.Known.{Known}
 use Rattle.cob_graph.specs.declared.homes.Home.TheVariants.{Count as of_count}
 use Rattle.cob_graph.specs.Homes.{homes_of}
 use Rattle.cell_steps.specs.Cells.{units_of}
 use Rattle.cell_steps.specs.Agreeing.{of_operands}
-use Rattle.cell_steps.specs.Operands.{edge_amount, edge_operands, settled, amount_of}
+use Rattle.transfer_ranges.specs.EdgeOperands.{edge_amount, edge_operands, settled, amount_of}
 use Rattle.cell_steps.specs.Seen.{Seen}
 use Rattle.cell_steps.specs.Stores.{range_at, with_taken}
 use Rattle.cell_steps.specs.Clearing.{is_misfit, has_quotient, all_fit_of, all_fit, all_count, clears_part}

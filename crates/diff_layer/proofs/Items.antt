@@ -14,7 +14,7 @@ use Rattle.cob_program.specs.SumView.{plain_part, plain_factor, plain_atom}
 use Rattle.cob_program.proofs.Loops.{item_step}
 use Rattle.cob_runs.specs.Contents.{item_at}
 use Rattle.cob_runs.specs.Computing.{items_in_parts, items_in_factors, items_in_atom}
-use Rattle.edge_amounts.proofs.SumLoops.{factors_from, products_from}
+use Rattle.edge_parts.proofs.SumLoops.{factors_from, products_from}
 use Rattle.cell_steps.specs.Cells.{share_bytes}
 use Rattle.diff_steps.specs.Moments.{Bytes, is_written, item_bytes}
 use Rattle.diff_layer.specs.PackWriting.{are_written}

@@ -10,7 +10,7 @@ use Rattle.cob_program.specs.Sum.{Sum}
 use Rattle.cob_program.specs.Values.{◌>>=◌}
 use Rattle.cob_edge_parts.specs.Parts.{Amount, moved, computed, remaining, augmented}
 use Rattle.interval_domain.specs.declared.bounds.Interval.{Interval}
-use Rattle.diff_bounds.specs.declared.form.Lin.{Lin}
+use Rattle.diff_bounds.specs.declared.form.lin.Lin.{Lin}
 use Rattle.diff_bounds.specs.Forms.{if_small}
 use Rattle.diff_bounds.specs.Results.{sum_of}
 use Rattle.sum_ranges.specs.declared.ranged.Ranged.{Ranged}

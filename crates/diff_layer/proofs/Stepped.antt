@@ -8,7 +8,7 @@ use Rattle.cob_program.specs.Act.{Act, Program}
 use Rattle.cob_runs.specs.declared.action.Action.{Action}
 use Rattle.cob_edge_parts.specs.Parts.{Amount, moved, computed, remaining, augmented, Part, read, unread, divide, store, bytes_in, guard, read_count, set_count, count_down, guard_count}
 use Rattle.transfer_ranges.specs.declared.amounts.Taken.{Taken}
-use Rattle.edge_amounts.specs.Working.{CanWork}
+use Rattle.transfer_ranges.specs.Working.{CanWork}
 use Rattle.interval_domain.specs.Known.{Known}
 use Rattle.cell_steps.specs.Agreeing.{of_operands}
 use Rattle.cell_steps.specs.Seen.{Seen}

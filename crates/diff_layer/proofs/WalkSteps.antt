@@ -9,15 +9,15 @@ use Rattle.cob_program.specs.Act.{Act, Program}
 use Rattle.cob_runs.specs.declared.action.Action.{Action}
 use Rattle.cob_runs.specs.declared.action.Cell.{Cell}
 use Rattle.cob_edge_parts.specs.Parts.{Part, is_handled}
-use Rattle.edge_amounts.specs.PartView.{plain_part}
-use Rattle.edge_amounts.specs.declared.part.EdgePart.{EdgePart}
-use Rattle.edge_amounts.specs.declared.work.EdgeWork.{EdgeWork}
+use Rattle.edge_parts.specs.PartView.{plain_part}
+use Rattle.edge_parts.specs.declared.part.EdgePart.{EdgePart}
+use Rattle.edge_parts.specs.declared.work.EdgeWork.{EdgeWork}
 use Rattle.interval_domain.specs.Known.{Known}
 use Rattle.interval_domain.specs.Rows.{cells_of}
 use Rattle.interval_domain.specs.Elements.{CellsFit}
 use Rattle.cell_steps.specs.OwnRanges.{owns}
 use Rattle.cell_steps.specs.Seen.{Seen, beginning}
-use Rattle.cell_layer.specs.declared.kept.Kept.{Kept}
+use Rattle.cell_layer.specs.declared.edge.kept.Kept.{Kept}
 use Rattle.cell_layer.specs.Kept.{seen}
 use Rattle.cell_layer.specs.ProgramRows.{IsRowOf}
 use Rattle.cell_layer.specs.Walks.{CanStep}

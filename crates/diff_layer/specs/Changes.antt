@@ -6,7 +6,7 @@ use Rattle.cob_program.specs.Act.{Program}
 use Rattle.cob_program.specs.Logic.{Test, numbers}
 use Rattle.cob_runs.specs.Contents.{form_at}
 use Rattle.cob_edge_parts.specs.Parts.{Amount, Part, store, bytes_in, guard, set_count, count_down}
-use Rattle.diff_bounds.specs.declared.form.Lin.{Lin}
+use Rattle.diff_bounds.specs.declared.form.lin.Lin.{Lin}
 use Rattle.transfer_ranges.specs.declared.amounts.Taken.{Taken}
 use Rattle.transfer_ranges.specs.declared.amounts.Receiver.{Receiver}
 use Rattle.transfer_ranges.specs.declared.amounts.AmountRange.{AmountRange}

@@ -3,7 +3,7 @@ use Rattle.std.specs.Prelude.{ℕ, Bool, true, false, List, ℤ, Option, None}
 use Rattle.dec_num.specs.declared.types.Mode.{Mode}
 use Rattle.cob_program.specs.Act.{Program}
 use Rattle.cob_edge_parts.specs.Parts.{Part, store, set_count, count_down}
-use Rattle.diff_bounds.specs.declared.form.Lin.{Lin}
+use Rattle.diff_bounds.specs.declared.form.lin.Lin.{Lin}
 use Rattle.transfer_ranges.specs.declared.amounts.Taken.{Taken}
 use Rattle.transfer_ranges.specs.declared.amounts.Receiver.{Receiver}
 use Rattle.interval_domain.specs.Known.{Known}

@@ -17,7 +17,7 @@ use Rattle.interval_domain.specs.Elements.{Element, ElementFits}
 use Rattle.interval_domain.specs.Rows.{IsRow}
 use Rattle.cob_graph.specs.Homes.{homes_of}
 use Rattle.cell_layer.proofs.FirstCells.{homes_many}
-use Rattle.cell_layer.specs.declared.works.EdgeWorks.{EdgeWorks}
+use Rattle.cell_layer.specs.declared.layer.works.EdgeWorks.{EdgeWorks}
 use Rattle.cell_layer.specs.Held.{IsHeld}
 use Rattle.diff_bounds.specs.declared.Pack as declared
 use Rattle.diff_bounds.specs.Widening.{AreThresholds}

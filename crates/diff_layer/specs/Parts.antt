@@ -8,11 +8,11 @@ use Rattle.cob_calc.specs.Contents.{bound_at}
 use Rattle.cob_edge_parts.specs.Parts.{Amount, Part, store, guard, set_count, moved}
 use Rattle.transfer_ranges.specs.Small.{is_small_test}
 use Rattle.transfer_ranges.specs.declared.amounts.Taken.{Taken}
-use Rattle.edge_amounts.specs.Small.{is_small_amount}
-use Rattle.edge_amounts.specs.Working.{CanWork}
+use Rattle.transfer_ranges.specs.SmallAmounts.{is_small_amount}
+use Rattle.transfer_ranges.specs.Working.{CanWork}
 use Rattle.interval_domain.specs.Known.{Known}
 use Rattle.cell_steps.specs.Agreeing.{of_operands}
-use Rattle.cell_steps.specs.Operands.{edge_amount}
+use Rattle.transfer_ranges.specs.EdgeOperands.{edge_amount}
 use Rattle.cell_steps.specs.Stores.{range_at}
 use Rattle.cell_layer.specs.Latest.{Latest}
 use Rattle.diff_steps.specs.Packs.{Pack, size_of, pack_decimals}

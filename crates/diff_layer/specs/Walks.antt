@@ -6,7 +6,7 @@ use Rattle.cob_program.specs.Values.{◌>>=◌}
 use Rattle.cob_program.specs.Act.{Stmt, Act, Program}
 use Rattle.cob_runs.specs.declared.action.Action.{Action}
 use Rattle.cob_edge_parts.specs.Parts.{Part}
-use Rattle.edge_amounts.specs.PartView.{edge_parts}
+use Rattle.edge_parts.specs.PartView.{edge_parts}
 use Rattle.interval_domain.specs.Known.{Known}
 use Rattle.cell_steps.specs.Seen.{Seen, beginning}
 use Rattle.cell_layer.specs.NumberedStatements.{act_in}

@@ -2,8 +2,8 @@
 use Rattle.std.specs.Prelude.{List}
 use Rattle.cob_edge_parts.specs.Parts.{Part}
 use Rattle.cell_steps.specs.Stores.{keeps_receiver}
-use Rattle.edge_amounts.specs.PartView.{edge_parts}
-use Rattle.edge_amounts.specs.declared.work.EdgeWork.{EdgeWork}
+use Rattle.edge_parts.specs.PartView.{edge_parts}
+use Rattle.edge_parts.specs.declared.work.EdgeWork.{EdgeWork}
 use Rattle.cell_layer.specs.Works.{program_of, statement_of, act_of}
 use Rattle.diff_steps.specs.Moments.{Bytes}
 use Rattle.diff_layer.specs.Writing.{part_bytes}

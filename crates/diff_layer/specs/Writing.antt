@@ -6,7 +6,7 @@ use Rattle.cob_program.specs.Act.{Act}
 use Rattle.cob_runs.specs.declared.action.Action.{Action}
 use Rattle.cob_runs.specs.Computing.{items_in_factors}
 use Rattle.cob_edge_parts.specs.Parts.{Amount, Part, store, bytes_in}
-use Rattle.cell_steps.specs.Operands.{edge_amount}
+use Rattle.transfer_ranges.specs.EdgeOperands.{edge_amount}
 use Rattle.diff_steps.specs.Moments.{Bytes, item_bytes}
 use Rattle.diff_layer.specs.PackWriting.{amount_items}
 

@@ -14,7 +14,7 @@ use Rattle.cob_program.specs.Act.{Program}
 use Rattle.cob_runs.specs.Contents.{form_at, scale_of}
 use Rattle.cob_runs.specs.Computing.{items_in}
 use Rattle.cob_edge_parts.specs.Parts.{Amount, moved, computed, remaining, augmented}
-use Rattle.diff_bounds.specs.declared.form.Lin.{Lin}
+use Rattle.diff_bounds.specs.declared.form.lin.Lin.{Lin}
 use Rattle.diff_bounds.specs.Forms.{if_small}
 use Rattle.diff_bounds.specs.Results.{sum_of}
 use Rattle.sum_ranges.specs.Ranged.{ranged}
@@ -26,7 +26,7 @@ use Rattle.transfer_ranges.specs.declared.amounts.Taken.{Taken}
 use Rattle.cob_graph.specs.declared.homes.Home.TheVariants.{Item as of_item, Count as of_count}
 use Rattle.cob_graph.specs.Homes.{homes_of}
 use Rattle.cell_steps.specs.Cells.{units_of}
-use Rattle.cell_steps.specs.Operands.{settled}
+use Rattle.transfer_ranges.specs.EdgeOperands.{settled}
 use Rattle.cell_steps.specs.Seen.{Seen}
 use Rattle.cell_steps.specs.Stores.{range_at}
 use Rattle.diff_steps.specs.Packs.{Pack, cell_of, pack_decimals}

@@ -3,8 +3,9 @@ use case_words::{how_word, mode_word, relation_word, write_atom, write_literal, 
 use cob_data::{Pair, Sender};
 use cob_program::{Sum, Test};
 use cob_tree::Rel;
-use edge_amounts::{Amount, Divisor, EdgePart};
+use edge_parts::{Divisor, EdgePart};
 use std::alloc::AllocError;
+use transfer_ranges::Amount;
 
 // ---- senders
 

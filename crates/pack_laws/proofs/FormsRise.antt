@@ -15,7 +15,7 @@ use Rattle.cob_program.proofs.Steps.{some_bound}
 use Rattle.cob_runs.specs.declared.action.Action.{Action}
 use Rattle.cob_runs.specs.Computing.{items_in}
 use Rattle.cob_edge_parts.specs.Parts.{Amount, moved, computed, remaining, augmented}
-use Rattle.diff_bounds.specs.declared.form.Lin.{Lin}
+use Rattle.diff_bounds.specs.declared.form.lin.Lin.{Lin}
 use Rattle.diff_bounds.specs.Forms.{if_small}
 use Rattle.diff_bounds.specs.Results.{sum_of}
 use Rattle.sum_ranges.specs.declared.ranged.Ranged.{Ranged}
@@ -35,7 +35,7 @@ use Rattle.transfer_ranges.proofs.Narrower.{computed_narrower}
 use Rattle.cob_graph.specs.declared.homes.Home.TheVariants.{Item as of_item, Count as of_count}
 use Rattle.cob_graph.specs.Homes.{homes_of}
 use Rattle.cell_steps.specs.Cells.{units_of}
-use Rattle.cell_steps.specs.Operands.{settled, stays_exact, taken_for, amount_of}
+use Rattle.transfer_ranges.specs.EdgeOperands.{settled, stays_exact, taken_for, amount_of}
 use Rattle.cell_steps.specs.Seen.{Seen}
 use Rattle.cell_steps.specs.Stores.{range_at, amount_at}
 use Rattle.cell_steps.specs.Order.{SeenBelow}

@@ -26,7 +26,7 @@ use Rattle.cob_edge_parts.specs.Parts.{Amount, moved, computed, remaining, augme
 use Rattle.cob_edge_parts.specs.Meaning as run
 use Rattle.cob_edge_parts.specs.Meaning.{Moment, with_own, amount, ReadsAt}
 use Rattle.cob_edge_parts.proofs.Divisors.{sum_counts, result_counts}
-use Rattle.diff_bounds.specs.declared.form.Lin.{Lin}
+use Rattle.diff_bounds.specs.declared.form.lin.Lin.{Lin}
 use Rattle.sum_ranges.specs.declared.ranged.Ranged.{Ranged}
 use Rattle.sum_ranges.specs.Ranged.{decimal, point, IsIn}
 use Rattle.sum_ranges.specs.SumRanges.{product_range, sum_range}
@@ -44,7 +44,7 @@ use Rattle.cob_edge_parts.specs.Counters.{PassesParts}
 use Rattle.cell_laws.specs.Places.{IsBehindOperands, EndsWithRead, IsStored}
 use Rattle.cob_graph.specs.declared.homes.Home.TheVariants.{Item as of_item}
 use Rattle.cell_steps.specs.Storages.{storage}
-use Rattle.cell_steps.specs.Operands.{edge_amount, settled, amount_of}
+use Rattle.transfer_ranges.specs.EdgeOperands.{edge_amount, settled, amount_of}
 use Rattle.cell_steps.specs.Seen.{Seen}
 use Rattle.cell_steps.specs.Stores.{range_at, handled}
 use Rattle.cell_laws.proofs.Agreement.{Agree, same_sum}

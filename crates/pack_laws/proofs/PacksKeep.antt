@@ -24,7 +24,7 @@ use Rattle.cob_edge_parts.specs.Ranges.{ChangesWithin}
 use Rattle.cob_program.specs.Sum.{Atom}
 use Rattle.dom_laws.specs.Meaning.{Storage}
 use Rattle.dom_laws.specs.Walking.{IsSeen, PassesAll}
-use Rattle.diff_bounds.specs.declared.form.Lin.{Lin}
+use Rattle.diff_bounds.specs.declared.form.lin.Lin.{Lin}
 use Rattle.diff_bounds.specs.Matrix.{word}
 use Rattle.cob_edge_parts.specs.Counters.{PassesPart}
 use Rattle.diff_bounds.specs.Closed.{closed}

@@ -16,7 +16,7 @@ use Rattle.cob_runs.specs.Contents.{form_at, bytes_of, digits_of, scale_of, scal
 use Rattle.cob_runs.specs.Moves.{takes_number}
 use Rattle.cob_edge_parts.specs.Parts.{Amount, Part, store}
 use Rattle.cob_edge_parts.specs.Meaning.{Moment, with_storage, is_left_alone, stored_bytes, stored_or_kept, amount, Stores}
-use Rattle.diff_bounds.specs.declared.form.Lin.{Lin}
+use Rattle.diff_bounds.specs.declared.form.lin.Lin.{Lin}
 use Rattle.diff_bounds.specs.Forms.{coef, dot}
 use Rattle.diff_bounds.specs.Matrix.{word}
 use Rattle.diff_bounds.specs.Storages.{StandsIn}

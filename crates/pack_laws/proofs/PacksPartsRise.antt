@@ -12,7 +12,7 @@ use Rattle.cob_program.specs.Act.{Act, Program}
 use Rattle.cob_runs.specs.declared.action.Action.{Action}
 use Rattle.cob_runs.specs.Deciding.{below, equal, above, holds}
 use Rattle.cob_edge_parts.specs.Parts.{Part, read, unread, divide, store, bytes_in, guard, read_count, set_count, count_down, guard_count}
-use Rattle.diff_bounds.specs.declared.form.Lin.{Lin}
+use Rattle.diff_bounds.specs.declared.form.lin.Lin.{Lin}
 use Rattle.diff_bounds.specs.Matrix.{word, IsMatrix}
 use Rattle.diff_bounds.specs.Values.{AreLower}
 use Rattle.sum_ranges.specs.declared.ranged.Ranged.{Ranged}

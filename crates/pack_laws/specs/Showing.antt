@@ -16,7 +16,7 @@ use Rattle.cob_runs.specs.Deciding.{test_holds}
 use Rattle.cob_runs.specs.Moves.{number_of}
 use Rattle.cob_edge_parts.specs.Parts.{Amount, Part, divide, store, guard, set_count, count_down, parts_of}
 use Rattle.cob_edge_parts.specs.Meaning.{Moment, amount}
-use Rattle.diff_bounds.specs.declared.form.Lin.{Lin}
+use Rattle.diff_bounds.specs.declared.form.lin.Lin.{Lin}
 use Rattle.cob_edge_parts.specs.Counters.{IsCount}
 use Rattle.sum_forms.specs.SumForms.{atom_form}
 use Rattle.cob_graph.specs.declared.homes.Home.TheVariants.{Count as of_count}

@@ -11,7 +11,7 @@ use Rattle.cob_program.specs.declared.sum.Factor as declared_factor
 use Rattle.cob_program.specs.declared.sum.Factor.{out-Factor}
 use Rattle.cob_program.specs.Sum.{more_factors}
 use Rattle.cob_program.specs.SumView.{plain_atom}
-use Rattle.diff_bounds.specs.declared.form.Lin.{Lin}
+use Rattle.diff_bounds.specs.declared.form.lin.Lin.{Lin}
 use Rattle.diff_bounds.specs.Forms.{coefs_of, coef, AreSmallCoefs, IsSmallConstant, IsSmallForm}
 use Rattle.diff_bounds.proofs.Coefs.{coef-coefs_of, length-coefs_of}
 use Rattle.diff_bounds.proofs.Computed.{computed}

@@ -27,3 +27,4 @@ pub mod Capping
 pub mod Working
 pub mod Bounding
 pub mod Examples
+pub mod TakenLemmas

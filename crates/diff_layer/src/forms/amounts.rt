@@ -4,7 +4,7 @@ ghost use Rattle.cob_program.specs.Bounds.{is_small};
 ghost use Rattle.cob_program.specs.SumView.{plain_sum};
 ghost use Rattle.cob_calc.specs.Contents.{bound_at};
 ghost use Rattle.cob_edge_parts.specs.Parts as part;
-ghost use Rattle.edge_amounts.specs.PartView.{plain_amount};
+ghost use Rattle.transfer_ranges.specs.AmountView.{plain_amount};
 ghost use Rattle.sum_ranges.specs.SumRanges.{product_range};
 ghost use Rattle.sum_ranges.specs.Sizes.{IsSmallRange};
 ghost use Rattle.sum_ranges.specs.Taking.{is_small_taken};
@@ -12,8 +12,8 @@ ghost use Rattle.sum_ranges.specs.Working.{CanMultiplyRanges};
 ghost use Rattle.sum_forms.specs.Constants as constants;
 ghost use Rattle.sum_forms.specs.Values.{IsForm};
 ghost use Rattle.transfer_ranges.specs.Operands.{is_whole};
-ghost use Rattle.edge_amounts.specs.Small.{is_small_amount};
-ghost use Rattle.edge_amounts.specs.Working.{CanSettle, CanWork};
+ghost use Rattle.transfer_ranges.specs.SmallAmounts.{is_small_amount};
+ghost use Rattle.transfer_ranges.specs.Working.{CanSettle, CanWork};
 ghost use Rattle.interval_domain.specs.Elements.{CellsFit};
 ghost use Rattle.cell_steps.specs.OwnRanges.{owns};
 ghost use Rattle.cell_steps.specs.Stores.{range_at};
@@ -35,10 +35,9 @@ use cell_layer::{KnownItems, item_range};
 use cob_graph::Home;
 use cob_program::{How, Sum};
 use diff_bounds::Lin;
-use edge_amounts::Amount;
 use sum_forms::{cell_form, range_form};
 use sum_ranges::{Ranged, factor_range};
-use transfer_ranges::Taken;
+use transfer_ranges::{Amount, Taken};
 
 // ---- the receiver's own number
 

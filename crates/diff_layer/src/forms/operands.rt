@@ -2,17 +2,17 @@
 ghost use Rattle.std.specs.Prelude.{◌≡◌, ◌||◌, ◌≤◌, true, false, is_some, Option, List, IfSome};
 ghost use Rattle.cob_program.specs.SumView.{plain_sum};
 ghost use Rattle.cob_calc.specs.Contents.{bound_at};
-ghost use Rattle.edge_amounts.specs.PartView.{plain_amount};
+ghost use Rattle.transfer_ranges.specs.AmountView.{plain_amount};
 ghost use Rattle.sum_ranges.specs.SumRanges.{quotient_range, sum_range};
 ghost use Rattle.sum_ranges.specs.Taking.{is_small_taken};
 ghost use Rattle.sum_forms.specs.Values.{IsForm};
 ghost use Rattle.transfer_ranges.specs.Operands.{is_whole};
 ghost use Rattle.transfer_ranges.specs.Stores as stores;
-ghost use Rattle.edge_amounts.specs.Small.{is_small_amount};
-ghost use Rattle.edge_amounts.specs.Working.{CanSettle};
+ghost use Rattle.transfer_ranges.specs.SmallAmounts.{is_small_amount};
+ghost use Rattle.transfer_ranges.specs.Working.{CanSettle};
 ghost use Rattle.interval_domain.specs.Elements.{CellsFit};
 ghost use Rattle.cell_steps.specs.OwnRanges.{owns};
-ghost use Rattle.cell_steps.specs.Operands.{settled};
+ghost use Rattle.transfer_ranges.specs.EdgeOperands.{settled};
 ghost use Rattle.cell_steps.specs.Stores.{range_at};
 ghost use Rattle.transfer_ranges.specs.declared.amounts.Taken as declared_taken;
 ghost use Rattle.diff_steps.specs.Forms as forms;
@@ -28,9 +28,8 @@ use crate::forms::view::PackView;
 use cell_layer::KnownItems;
 use cob_program::{How, Sum};
 use diff_bounds::Lin;
-use edge_amounts::{Amount, operands};
 use sum_ranges::Ranged;
-use transfer_ranges::Taken;
+use transfer_ranges::{Amount, Taken, operands};
 
 // what operands were; a quotient that isn't stored as it is has been cut
 fn form_taken(decimals: u32, common: Option<Taken>, whole: bool) -> Option<Lin>

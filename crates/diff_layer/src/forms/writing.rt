@@ -6,7 +6,8 @@ ghost use Rattle.cob_program.specs.ActView.{plain_act};
 ghost use Rattle.cob_program.specs.Sum.{parts_of, factors_of};
 ghost use Rattle.cob_program.specs.SumView.{plain_sum, plain_part as plain_product, plain_factor, plain_atom};
 ghost use Rattle.cob_runs.specs.Computing.{items_in, items_in_parts, items_in_factors, items_in_atom};
-ghost use Rattle.edge_amounts.specs.PartView.{plain_amount, plain_part};
+ghost use Rattle.edge_parts.specs.PartView.{plain_part};
+ghost use Rattle.transfer_ranges.specs.AmountView.{plain_amount};
 ghost use Rattle.cell_steps.specs.Stores.{keeps_receiver};
 ghost use Rattle.diff_steps.specs.Moments.{is_written, item_bytes};
 ghost use Rattle.diff_layer.specs.PackWriting.{sender_items, are_written};
@@ -17,7 +18,8 @@ use cell_layer::share_bytes;
 use cob_data::{Layout, Sender};
 use cob_program::{Act, Atom, Factor, Part, Program, Sum};
 use cob_runs::Action;
-use edge_amounts::{Amount, EdgePart, edge_amount, keeps_receiver};
+use edge_parts::{EdgePart, keeps_receiver};
+use transfer_ranges::{Amount, edge_amount};
 
 // whether bytes from an offset on, so many, are of the item at a place
 fn are_of(layout: &Layout, offset: u32, count: u32, place: u32) -> bool

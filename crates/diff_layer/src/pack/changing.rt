@@ -1,6 +1,6 @@
 //! What a part makes of the matrices of packs.
 ghost use Rattle.std.specs.Prelude.{◌≡◌, length, List};
-ghost use Rattle.edge_amounts.specs.PartView.{plain_part};
+ghost use Rattle.edge_parts.specs.PartView.{plain_part};
 ghost use Rattle.diff_bounds.specs.Matrix.{IsMatrix};
 ghost use Rattle.cell_layer.specs.Kept.{latest_of};
 ghost use Rattle.diff_steps.specs.Moments.{Bytes};
@@ -18,7 +18,7 @@ use crate::pack::guards::guard;
 use crate::pack::moment::Moment;
 use crate::pack::plans::{PackPlan, view_of};
 use crate::pack::stores::store;
-use edge_amounts::EdgePart;
+use edge_parts::EdgePart;
 
 // what a part makes of the matrix of a pack
 fn change(moment: &Moment, pack: &PackView, m: &mut [i128], part: EdgePart)

@@ -13,7 +13,7 @@ ghost use Rattle.diff_layer.specs.Works.{parts_of_edge};
 use crate::pack::plans::PackPlan;
 use cell_layer::Kept;
 use cob_runs::Cell;
-use edge_amounts::EdgeWork;
+use edge_parts::EdgeWork;
 
 /// What an edge does, beside its program's cells and packs.
 #[derive(Drop)]

@@ -17,9 +17,9 @@ ghost use Rattle.std.specs.Prelude.{
   IfSome,
 };
 ghost use Rattle.std.specs.Option.{option_map_or};
-ghost use Rattle.edge_amounts.specs.PartView.{plain_part};
+ghost use Rattle.edge_parts.specs.PartView.{plain_part};
 ghost use Rattle.diff_bounds.specs.Matrix.{IsMatrix};
-ghost use Rattle.diff_bounds.specs.declared.form.Lin.{Lin};
+ghost use Rattle.diff_bounds.specs.declared.form.lin.Lin.{Lin};
 ghost use Rattle.sum_ranges.specs.Sizes.{IsSmallRange};
 ghost use Rattle.transfer_ranges.specs.ResultRanges.{most, near_range};
 ghost use Rattle.transfer_ranges.specs.Sizes.{IsReceiver};
@@ -43,7 +43,7 @@ use crate::pack::moment::{Moment, Slot};
 use crate::pack::plans::{PackPlan, view_of, words_for};
 use dec_num::{Fit, Mode, Scaled, fit};
 use diff_bounds::Lin;
-use edge_amounts::EdgePart;
+use edge_parts::EdgePart;
 use sum_ranges::Ranged;
 use transfer_ranges::Receiver;
 

@@ -4,15 +4,16 @@ ghost use Rattle.dec_num.specs.declared.types.Mode.TheVariants.{Trunc};
 ghost use Rattle.cob_tree.specs.Kinds.{kinds_of};
 ghost use Rattle.cob_program.specs.Bounds.{is_small, is_small_atom};
 ghost use Rattle.cob_calc.specs.Contents.{bound_at};
-ghost use Rattle.edge_amounts.specs.PartView.{plain_part, plain_amount, plain_divisor};
+ghost use Rattle.edge_parts.specs.PartView.{plain_part, plain_divisor};
+ghost use Rattle.transfer_ranges.specs.AmountView.{plain_amount};
 ghost use Rattle.diff_bounds.specs.Matrix.{IsMatrix};
 ghost use Rattle.cell_laws.specs.Sizes.{IsSmallPart, IsSmallStore};
 ghost use Rattle.sum_ranges.specs.Sizes.{IsSmallRange};
 ghost use Rattle.transfer_ranges.specs.Receivers.{counter};
 ghost use Rattle.transfer_ranges.specs.ResultRanges.{near_range, most};
 ghost use Rattle.transfer_ranges.specs.Sizes.{IsReceiver, IsSmallAmount};
-ghost use Rattle.edge_amounts.specs.Small.{has_small_sum};
-ghost use Rattle.edge_amounts.specs.Working.{CanWork, amount_from as found_amount};
+ghost use Rattle.transfer_ranges.specs.SmallAmounts.{has_small_sum};
+ghost use Rattle.transfer_ranges.specs.Working.{CanWork, amount_from as found_amount};
 ghost use Rattle.interval_domain.specs.Elements.{CellsFit};
 ghost use Rattle.interval_domain.specs.Rows.{cells_of};
 ghost use Rattle.cell_steps.specs.OwnRanges.{owns};
@@ -67,10 +68,12 @@ use crate::pack::walking::step;
 use cell_layer::{Kept, KnownItems, cleared_by_part, count_units, item_range, with_operands};
 use cob_tree::{Kind, Kinds};
 use dec_num::Mode;
-use edge_amounts::{Amount, Divisor, EdgePart, amount_from, is_remainder, receiver_at};
+use edge_parts::{Divisor, EdgePart};
 use interval_domain::Interval;
 use sum_ranges::Ranged;
-use transfer_ranges::{AmountRange, Receiver, Taken, lowered};
+use transfer_ranges::{
+    Amount, AmountRange, Receiver, Taken, amount_from, is_remainder, lowered, receiver_at,
+};
 
 // the greatest number of a counter
 const LARGEST: i128 = 999_999_999_999_999_999;

@@ -3,11 +3,11 @@
 ghost use Rattle.std.specs.Prelude.{◌≡◌, length, List, IsTrue, Some, None, if◌then◌else◌};
 ghost use Rattle.std.specs.List.{AllByRecursion};
 ghost use Rattle.cob_program.specs.ActView.{plain_program};
-ghost use Rattle.edge_amounts.specs.PartView.{plain_part};
+ghost use Rattle.edge_parts.specs.PartView.{plain_part};
 ghost use Rattle.diff_bounds.specs.Matrix.{IsMatrix};
 ghost use Rattle.cob_graph.specs.Graphs.{cells_of as program_cells};
 ghost use Rattle.interval_domain.specs.Rows.{IsReached, cells_of};
-ghost use Rattle.edge_amounts.specs.Numbers.{number_of};
+ghost use Rattle.cob_graph.specs.Numbers.{number_of};
 ghost use Rattle.cob_graph.specs.Homes.{homes_of};
 ghost use Rattle.cell_layer.specs.Kept.{latest_of};
 ghost use Rattle.cell_layer.specs.ProgramRows.{known_in, IsCellNumber};
@@ -24,10 +24,10 @@ use crate::pack::changing::change_plan;
 use crate::pack::closing::close_again;
 use crate::pack::passed::Passed;
 use crate::pack::plans::{PackPlan, words_for};
-use cob_graph::Home;
+use cob_graph::{Home, cell_of, cell_of_count};
 use cob_program::Program;
 use cob_runs::Cell;
-use edge_amounts::{EdgePart, cell_of, cell_of_count};
+use edge_parts::EdgePart;
 use interval_domain::{Interval, known_at};
 
 // whether two lists of words are one

@@ -3,11 +3,11 @@ ghost use Rattle.std.specs.Prelude.{◌≡◌, ◌+◌, ◌-◌, ◌^◌, ◌≤
 ghost use Rattle.cob_program.specs.Bounds.{is_small};
 ghost use Rattle.cob_runs.specs.Contents.{form_at};
 ghost use Rattle.cob_calc.specs.Contents.{bound_at};
-ghost use Rattle.edge_amounts.specs.PartView.{plain_amount};
+ghost use Rattle.transfer_ranges.specs.AmountView.{plain_amount};
 ghost use Rattle.diff_bounds.specs.Matrix.{IsMatrix};
 ghost use Rattle.transfer_ranges.specs.Receivers.{receiver_of};
-ghost use Rattle.edge_amounts.specs.Small.{is_small_amount};
-ghost use Rattle.edge_amounts.specs.Working.{CanWork};
+ghost use Rattle.transfer_ranges.specs.SmallAmounts.{is_small_amount};
+ghost use Rattle.transfer_ranges.specs.Working.{CanWork};
 ghost use Rattle.cob_graph.specs.declared.homes.Home.TheVariants.{Item as of_item};
 ghost use Rattle.cell_steps.specs.Stores.{range_at};
 ghost use Rattle.cell_layer.specs.Kept.{latest_of};
@@ -30,8 +30,7 @@ use crate::pack::moment::{Moment, Slot};
 use cob_graph::Home;
 use dec_num::Mode;
 use diff_bounds::set_least_matrix;
-use edge_amounts::{Amount, receiver_at};
-use transfer_ranges::{AmountRange, Taken};
+use transfer_ranges::{Amount, AmountRange, Taken, receiver_at};
 
 // the range of an amount that is a decimal, by what it is worked out of
 fn decimal_in(worked: Option<Taken>) -> Option<AmountRange>

@@ -1,7 +1,7 @@
 //! The walk over the parts of an edge.
 ghost use Rattle.std.specs.Prelude.{◌≡◌, ◌&&◌, ◌||◌, ◌++◌, not, length, List, Some, None, IsTrue, if◌then◌else◌};
 ghost use Rattle.cob_edge_parts.specs.Parts.{is_handled};
-ghost use Rattle.edge_amounts.specs.PartView.{plain_part};
+ghost use Rattle.edge_parts.specs.PartView.{plain_part};
 ghost use Rattle.cell_laws.specs.Sizes.{IsSmallPart};
 ghost use Rattle.interval_domain.specs.Elements.{CellsFit};
 ghost use Rattle.interval_domain.specs.Rows.{cells_of};
@@ -39,7 +39,7 @@ use crate::pack::passing::pass;
 use cell_layer::{Kept, KnownItems, walk_part};
 use cob_program::Act;
 use cob_runs::Action;
-use edge_amounts::{EdgePart, EdgeWork};
+use edge_parts::{EdgePart, EdgeWork};
 
 // whether a part writes to bytes of the items of the operands
 fn writes(work: &EdgeWork, part: EdgePart) -> bool

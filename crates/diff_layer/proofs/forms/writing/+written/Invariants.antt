@@ -1,6 +1,6 @@
 use Rattle.std.proofs.Common.{◌≡◌, ◌∷◌, []}
 use Rattle.cob_runs.specs.Computing.{items_in_parts, items_in_factors}
-use Rattle.edge_amounts.proofs.SumLoops.{factors_from, products_from}
+use Rattle.edge_parts.proofs.SumLoops.{factors_from, products_from}
 use Rattle.diff_layer.specs.PackWriting.{are_written}
 use Rattle.diff_layer.specs.Writing.{bytes}
 use Rattle.diff_layer.proofs.forms.writing.+written.Given as goal
