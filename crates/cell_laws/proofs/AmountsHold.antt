@@ -36,7 +36,8 @@ use Rattle.transfer_ranges.specs.EdgeOperands.{edge_amount, edge_operands, settl
 use Rattle.cell_steps.specs.Stores.{range_at}
 use Rattle.cell_steps.specs.Agreeing.{OperandsHold, of_operands}
 use Rattle.cell_laws.proofs.AmountLaws.{Given}
-use Rattle.cell_laws.proofs.Agreement.{numeric_agree, same_result, same_remainder}
+use Rattle.transfer_ranges.proofs.Agreement.{numeric_agree}
+use Rattle.cell_laws.proofs.Agreement.{same_result, same_remainder}
 use Rattle.cell_laws.proofs.Roots.{settled_is}
 use Rattle.cell_laws.proofs.HomesHold.{number_holds, range_is_ordered}
 

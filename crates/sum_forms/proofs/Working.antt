@@ -18,7 +18,7 @@ use Rattle.diff_bounds.proofs.Computed.{computed}
 use Rattle.sum_ranges.specs.declared.ranged.Ranged.{Ranged}
 use Rattle.sum_ranges.specs.Ranged.{decimal}
 use Rattle.sum_ranges.specs.Sizes.{IsSmallRange}
-use Rattle.sum_ranges.proofs.Loops.{factors_from, factor_is, factors_step}
+use Rattle.cob_program.proofs.SumLoops.{factors_from, factor_is, factors_step}
 use Rattle.sum_forms.specs.Constants.{floor_at, outward, constant_form, range_form, cell_form}
 use Rattle.sum_forms.specs.Literals.{whole_part, whole_of, literal_in, are_literals}
 use Rattle.sum_forms.specs.Values.{IsForm}

@@ -15,7 +15,6 @@ pub mod SideLists
 pub mod GuardExamples
 pub mod CountLaws
 pub mod Keeping
-pub mod Shifting
 pub mod Leftovers
 pub mod Rounding
 pub mod Rests
