@@ -27,7 +27,7 @@ use Rattle.cell_steps.specs.Edges.{post_cells, clears_edge}
 
 abbrev item_of : ℕ → ℕ → Form → Item
 item_of offset length f =
-    record { name = Some (65 ∷ []); offset = offset; length = length; form = f; parent = None; line = 5; value = None }
+    record { name = Some (65 ∷ []); offset = offset; length = length; times = 1; stride = 0; form = f; parent = None; line = 5; value = None }
 
 abbrev loop : Act
 loop = perform (range 0 0) (times (sender.Item 0))

@@ -1,3 +1,8 @@
+pub mod Blocks
+pub mod OneOccurrence
+pub mod Overlapping
+pub mod ExtentStarts
+pub mod Meeting
 pub mod LengthLemmas
 pub mod SpotLemmas
 pub mod ReadLemmas

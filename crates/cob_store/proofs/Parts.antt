@@ -9,13 +9,16 @@ use Rattle.std.specs.Option.{option_map_or}
 use Rattle.cob_data.specs.declared.layout.Item.{Item}
 use Rattle.cob_data.specs.declared.layout.Layout.{Layout}
 use Rattle.cob_runs.specs.Contents.{written, digits_of, item_at, form_at, filled_at}
-use Rattle.cob_store.specs.WellFormed.{IsWellFormedForm}
+use Rattle.cob_store.specs.WellFormed.{IsWellFormedForm, IsWellFormedItem}
 
 pub put_mid-written : (xs ys : List ℕ) (a k : ℕ) → length ys ≡ k → put_mid a k xs ys ≡ written xs a ys
 put_mid-written xs ys a k whole =
     put_mid-paste a k xs ys ys k refl refl (sym whole)
     ∙ (ap (λ zs. take a xs ++ zs ++ drop (a + k) xs) (take_all k ys (omega arith))
     ∙ ap (λ n. take a xs ++ ys ++ drop (a + n) xs) (sym whole))
+
+pub first_within : (l : Layout) (i : Item) → IsWellFormedItem l i → i.offset + i.length ≤ l.storage
+first_within l i sound = sound.within 0 (omega (arith, sound.extent.some))
 
 pub few_digits : (f : Form) (bytes : ℕ) → IsWellFormedForm f bytes → digits_of f ≤ 18
 few_digits Group bytes sound = omega arith

@@ -23,7 +23,9 @@ use Rattle.cob_graph.specs.Laid.{MkLaid, no_laid, more_laid, a_phrase, skipping,
 use Rattle.cob_graph.specs.Graphs.{IsMainCopy}
 use Rattle.cob_graph.specs.WellFormed.{IsWellFormed}
 use Rattle.cob_store.specs.WellFormed.{IsWellFormedItem}
-use Rattle.cob_edge_parts.specs.Ranges.{AreApart}
+use Rattle.cob_data.specs.Extents.{LieApart}
+use Rattle.cob_data.specs.Occurrences.{extent_of}
+use Rattle.cob_data.proofs.OneOccurrence.{one_within, one_extent}
 use Rattle.cob_graph.specs.Lookup.{edge, node_at}
 use Rattle.cob_graph.proofs.Examples.{item_of, numeral, atom_sum, stmt1, say, para, unnamed, of_paras, the_file, twice, laid_twice, with_copies, is_graph}
 use Rattle.cob_edge_parts.specs.Parts.{bytes_in, parts_of}
@@ -135,9 +137,14 @@ number_in_order n a false false e f its = absurd (none-some a (sym none ∙ its)
         None) e
         ∙ ap (λ b. or_else (or_else (or_else (if b then Some nothing else None) None) None) None) f
 
-its_item : IsWellFormedItem adding.layout (slice_index_or adding.layout.items 0 (item_of 0 0 form.Group None))
+abbrev its_only : Item
+its_only = slice_index_or adding.layout.items 0 (item_of 0 0 form.Group None)
+
+its_item : IsWellFormedItem adding.layout its_only
 its_item = record {
-  within = omega plain;
+  within = one_within (extent_of its_only) 3 refl (omega plain);
+  extent = one_extent (extent_of its_only) refl;
+  one = λ flat. refl;
   form = record {
     number = record { some_digits = omega plain; at_most_18 = omega plain; whole = refl };
     decimals = omega plain;
@@ -146,7 +153,7 @@ its_item = record {
 }
 
 alone : (a b : ℕ) (i j : Item) → HasValue adding.layout a i → HasValue adding.layout b j → ¬ a ≡ b →
-    AreApart i.offset i.length j.offset j.length
+    LieApart (extent_of i) (extent_of j)
 alone zero zero i j h k apart = absurd (apart refl)
 alone (suc a) b i j h k apart = absurd (none-some i h.at)
 alone zero (suc b) i j h k apart = absurd (none-some j k.at)
