@@ -15,7 +15,7 @@ use cob_runs::Outcome;
 use std::alloc::{AllocError, Global};
 
 // Puts the bytes into an occurrence.
-#[tactic(auto, using(crate::proofs::Parts::put_mid-written))]
+#[tactic(auto, using(crate::proofs::Parts::put_mid_written))]
 fn fill_occurrence(extent: &Extent, number: u32, bytes: &[u8], storage: &mut [u8])
     requires within { start_of extent.now number + extent.now.length ≤ length storage.old }
     requires whole { length bytes.now ≡ extent.now.length }
