@@ -81,8 +81,8 @@ fn put_value(
     }
 }
 
-// Puts each VALUE, in the order of the items.
-fn put_values(alloc: Global, layout: &Layout, storage: &mut [u8]) -> Result<(), AllocError>
+/// Puts each VALUE, in the order of the items, over what stood in storage.
+pub fn put_values(alloc: Global, layout: &Layout, storage: &mut [u8]) -> Result<(), AllocError>
     requires sound { HasWellFormedItems layout.now }
     requires whole { length storage.old ≡ layout.now.storage }
     ensures { OnOk result (storage.new ≡ with_values layout.now layout.now.items storage.old) }
