@@ -3,6 +3,7 @@ use Rattle.std.proofs.Common.{◌≡◌, ℕ, ◌+◌, ◌<◌, Bool, true, fals
 use Rattle.std.specs.List.{list_any}
 use Rattle.std.specs.Option.{option_map_or}
 use Rattle.std.proofs.lemmas.List.Folds.{list_any-append}
+use Rattle.cob_data.specs.declared.extent.Extent.{Extent}
 use Rattle.cob_data.specs.declared.layout.Item.{Item}
 use Rattle.cob_data.specs.declared.layout.Layout.{Layout}
 use Rattle.cob_program.specs.declared.sum.Part as declared_part
@@ -16,7 +17,7 @@ use Rattle.cob_runs.specs.Contents.{item_at}
 use Rattle.cob_runs.specs.Computing.{items_in_parts, items_in_factors, items_in_atom}
 use Rattle.edge_parts.proofs.SumLoops.{factors_from, products_from}
 use Rattle.cell_steps.specs.Cells.{share_bytes}
-use Rattle.diff_steps.specs.Moments.{Bytes, is_written, item_bytes}
+use Rattle.diff_steps.specs.Moments.{is_written, item_bytes}
 use Rattle.diff_layer.specs.PackWriting.{are_written}
 use Rattle.diff_layer.specs.Writing.{bytes, product_items}
 
@@ -39,7 +40,7 @@ product_items_first xs i x within is =
 
 -- ---- what was written to
 
-module _ (l : Layout) (wrote : List Bytes) where
+module _ (l : Layout) (wrote : List Extent) where
   pub met_first : (all here rest : List ℕ) (first : Bool) → all ≡ here ++ rest → first ≡ are_written l wrote here → first ≡ true → are_written l wrote all ≡ true
   met_first all here rest first cut is e =
       ap (are_written l wrote) cut ∙ (list_any-append (is_written l wrote) here rest ∙ ap (λ b. b || are_written l wrote rest) (sym is ∙ e))
@@ -75,7 +76,7 @@ or_parted false true true d = refl
 or_parted false true false d = refl
 or_parted false false c d = refl
 
-module _ (l : Layout) (bs wrote : List Bytes) where
+module _ (l : Layout) (bs wrote : List Extent) where
   item_more : (place : ℕ) → is_written l (bs ++ wrote) place ≡ (is_written l wrote place || is_written l bs place)
   item_more place = at (item_at l place)
     where

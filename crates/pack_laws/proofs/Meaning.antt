@@ -81,7 +81,8 @@ packs_mean p g packs lists facts is_packs are = record {
   stands_above = λ a b s is other below stands. all_stand_above packs lists is_packs a b s is other below stands;
   begins = λ s begins granted.
       in_row p packs (entry_packs p packs (entry_cells p)) s (entry_fits p packs is_packs.few (entry_cells p))
-      (entry_stands p packs is_packs.few (entry_cells p) s (first_cells.entry_stands p g s begins));
+      (entry_stands p packs is_packs.few (entry_cells p) (sound_items p g ∣ begins.of_source ∣₁) s
+      (first_cells.entry_stands p g s begins));
   kept = λ e row s t is el granted stands acts.
       let x = edge_at g e in
       let ms = matrices_in (sizes_of packs) row in

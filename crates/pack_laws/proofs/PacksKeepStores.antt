@@ -9,6 +9,7 @@ use Rattle.dec_num.specs.Exact.{Fraction, near}
 use Rattle.dec_num.specs.Scaled.{value_of}
 use Rattle.cob_tree.specs.declared.form.Form.{Form}
 use Rattle.cob_tree.specs.declared.form.Form.TheVariants as form
+use Rattle.cob_data.specs.declared.extent.Extent.{Extent}
 use Rattle.interval_domain.specs.Bounds.{Holds}
 use Rattle.cob_program.specs.Act.{Act, Program}
 use Rattle.cob_runs.specs.declared.action.Action.{Action}
@@ -42,7 +43,6 @@ use Rattle.cell_laws.proofs.StoreOutcomes.{result_meant, each_outcome}
 use Rattle.cell_laws.proofs.StoresKeep.{IsItemFilled, item_is_filled, then_is, TakenAt, amount_meant}
 use Rattle.diff_steps.specs.Packs.{Pack, size_of, cell_of, pack_decimals, unit_of, cells_in, PackStands}
 use Rattle.diff_steps.specs.Matrices.{bottom}
-use Rattle.diff_steps.specs.Moments.{Bytes}
 use Rattle.diff_steps.specs.Forms.{amount_form, has_operands}
 use Rattle.diff_steps.specs.Stores.{known_of_amount, forgotten_cells}
 use Rattle.diff_steps.specs.Steps.{by_outcome, is_other, form_at_cell, stored_cell, stored_pack, is_lost, lost_pack, pack_behind_store}
@@ -119,7 +119,7 @@ module _ (p : Program) (statement : ℕ) (a : Act) (x : Action) (done : List Par
   receiver_scale (form.Edited picture digits scale) = refl
   receiver_scale (form.Number digits scale signed kept) = refl
 
-  module _ (pack : Pack) (of : IsPackOf p pack) (few : size_of pack ≤ 8) (wrote : List Bytes) (w : List ℤ) (stands : PackStands p.layout pack w (storage m.storage m.counts)) where
+  module _ (pack : Pack) (of : IsPackOf p pack) (few : size_of pack ≤ 8) (wrote : List Extent) (w : List ℤ) (stands : PackStands p.layout pack w (storage m.storage m.counts)) where
     abbrev values_before : ℕ → Option ℤ
     values_before = cells_in p.layout pack (storage m.storage m.counts)
 
@@ -211,7 +211,7 @@ module _ (p : Program) (statement : ℕ) (a : Act) (x : Action) (done : List Par
 
   -- ---- the matrix behind the store
 
-  module _ (pack : Pack) (of : IsPackOf p pack) (few : size_of pack ≤ 8) (wrote : List Bytes) (w : List ℤ) (stands : PackStands p.layout pack w (storage m.storage m.counts))
+  module _ (pack : Pack) (of : IsPackOf p pack) (few : size_of pack ≤ 8) (wrote : List Extent) (w : List ℤ) (stands : PackStands p.layout pack w (storage m.storage m.counts))
       (there : m.by_zero ≡ false → (v : Fraction) → amount p.layout m y ≡ Some v → has_operands p t wrote y ≡ true)
       (shown : m.by_zero ≡ false → (v : Fraction) → amount p.layout m y ≡ Some v → IfSome (amount_form p pack t wrote place y) (ShowsValueAt p.layout pack m v)) where
     abbrev Behind : Moment → Type 0

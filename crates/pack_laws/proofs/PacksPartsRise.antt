@@ -3,6 +3,7 @@ use Rattle.std.proofs.Common.{◌≡◌, ℕ, ◌+◌, Bool, true, false, List, 
 use Rattle.std.specs.Prelude.{◌&&◌, nat_le, is_some}
 use Rattle.std.specs.Option.{option_map}
 use Rattle.std.proofs.lemmas.Bool.{false≢true}
+use Rattle.cob_data.specs.declared.extent.Extent.{Extent}
 use Rattle.interval_domain.specs.declared.bounds.Interval.{Interval}
 use Rattle.cob_tree.specs.declared.token.Rel.{Rel}
 use Rattle.cob_program.specs.Sum.{Sum}
@@ -36,7 +37,6 @@ use Rattle.cell_laws.proofs.ItemRanges.{range_below}
 use Rattle.cell_laws.proofs.PartsRise.{taken_rises}
 use Rattle.cell_laws.proofs.ResultLawsHold.{rising}
 use Rattle.diff_steps.specs.Packs.{Pack, size_of, pack_decimals}
-use Rattle.diff_steps.specs.Moments.{Bytes}
 use Rattle.diff_steps.specs.Forms.{cell_at, set_form, lowered_form}
 use Rattle.diff_steps.specs.Guards.{difference_form, has_decimals, are_fine, ordered}
 use Rattle.diff_steps.specs.Steps.{guarded_pack, changed_pack}
@@ -82,7 +82,7 @@ decimals_same f cell more narrow wide (Some v) None r e h = absurd h
 decimals_same f cell more narrow wide (Some v) (Some w) r e h = ap (λ (k : ℕ). nat_le k f) h.scale
 
 -- ---- one pack
-module _ (p : Program) (a : Act) (x : Action) (s t : Seen) (under : SeenBelow p a x s t) (wrote : List Bytes) (pack : Pack) (m n : List ℤ) (is : IsMatrix (size_of pack) m) (are : IsMatrix (size_of pack) n) (lower : AreLowerOff (size_of pack) m n) where
+module _ (p : Program) (a : Act) (x : Action) (s t : Seen) (under : SeenBelow p a x s t) (wrote : List Extent) (pack : Pack) (m n : List ℤ) (is : IsMatrix (size_of pack) m) (are : IsMatrix (size_of pack) n) (lower : AreLowerOff (size_of pack) m n) where
   all_lower : AreLower (size_of pack + 1) (word (size_of pack + 1) m) (word (size_of pack + 1) n)
   all_lower = lower_of (size_of pack) m n (matrix_is_flat (size_of pack) m is) (matrix_is_flat (size_of pack) n are) lower
 
