@@ -16,6 +16,7 @@ use Rattle.transfer_ranges.specs.Receivers.{receiver_of}
 use Rattle.sum_ranges.specs.declared.ranged.Ranged.{Ranged}
 use Rattle.interval_domain.specs.Known.{Known}
 use Rattle.cob_graph.specs.declared.homes.Home.TheVariants.{Item as of_item, Count as of_count}
+use Rattle.cell_steps.specs.Cells.{bytes_from}
 use Rattle.cell_steps.specs.Stores.{range_at}
 use Rattle.cell_layer.specs.Latest.{Latest}
 use Rattle.diff_steps.specs.Packs.{Pack, cell_of, decimals_of}
@@ -73,7 +74,8 @@ module _ (p : Program) (known : List Known) (common : Option Taken) where
   -- the matrix behind a part, in units of so many decimals
   abbrev pub part_changed : Latest → List Extent → Pack → ℕ → ℕ → Part → List ℤ → List ℤ
   part_changed latest wrote pack size decimals (store place mode y) m = store_changed latest wrote pack size decimals place mode y m
-  part_changed latest wrote pack size decimals (bytes_in offset count) m = forgotten_cells size (is_gone p.layout (gone.Bytes offset count)) 1 pack m
+  part_changed latest wrote pack size decimals (bytes_in offset count) m =
+      forgotten_cells size (is_gone p.layout (gone.Bytes (bytes_from offset count))) 1 pack m
   part_changed latest wrote pack size decimals (guard t wanted) m = guard_changed pack size decimals t wanted m
   part_changed latest wrote pack size decimals (set_count statement y) m =
       cell_assigned size (set_form p pack (taken_at known common) wrote y) (cell_of pack (of_count statement)) m

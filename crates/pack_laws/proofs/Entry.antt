@@ -15,6 +15,7 @@ use Rattle.cell_steps.specs.Storages.{StandsIn}
 use Rattle.diff_steps.specs.Packs.{Pack, size_of, PackStands, PacksStand}
 use Rattle.diff_steps.specs.Edges.{or_bottoms, no_bounds, entry_packs}
 use Rattle.diff_steps.specs.Steps.{all_closed}
+use Rattle.pack_laws.proofs.Occurrences.{first_home}
 use Rattle.pack_laws.proofs.Words.{word_at}
 use Rattle.pack_laws.specs.Agreeing.{AreMatrices}
 use Rattle.pack_laws.proofs.PacksClosingRise.{words_are_matrix}

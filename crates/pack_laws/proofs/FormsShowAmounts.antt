@@ -44,12 +44,13 @@ use Rattle.transfer_ranges.specs.Stores.{amount_range}
 use Rattle.cob_edge_parts.specs.Counters.{PassesParts}
 use Rattle.cell_laws.specs.Places.{IsBehindOperands, EndsWithRead, IsStored}
 use Rattle.cob_graph.specs.declared.homes.Home.TheVariants.{Item as of_item}
+use Rattle.cell_steps.specs.Premises.{HasSoundItems}
 use Rattle.cell_steps.specs.Storages.{storage}
 use Rattle.transfer_ranges.specs.EdgeOperands.{edge_amount, settled, amount_of}
 use Rattle.cell_steps.specs.Seen.{Seen}
 use Rattle.cell_steps.specs.Stores.{range_at, handled}
 use Rattle.cell_laws.proofs.Agreement.{Agree, same_sum}
-use Rattle.cell_laws.proofs.HomesHold.{number_holds}
+use Rattle.cell_laws.proofs.HomesHold.{some_times, number_holds}
 use Rattle.cell_laws.proofs.PartsDone.{both_true, and_true, read_first}
 use Rattle.cell_laws.proofs.StoresKeep.{is_there, TakenAt, its_amount}
 use Rattle.diff_steps.specs.Packs.{Pack, size_of, cell_of, pack_decimals, cells_in}
@@ -127,7 +128,7 @@ module _ (cells : ℕ → Option ℤ) (f : ℕ) where
 
 module _ (l : Layout) (sound : HasSoundItems l) (wrote : List Extent) (m : Moment) (tracked : IsTracked l wrote m) where
   same_number : (place : ℕ) → is_written l wrote place ≡ false → number_at l m.storage place ≡ number_at l m.first place
-  same_number place e = tracked.same place 0 (first_item l sound place) e
+  same_number place e = tracked.same place 0 (some_times l sound place) e
 
   same_worths : (places : List ℕ) → list_any (is_written l wrote) places ≡ false → Agree (worth l m.storage) (worth l m.first) places
   same_worths [] e = tt

@@ -52,6 +52,7 @@ use Rattle.diff_steps.specs.Moments.{Seen2, with_packs, item_bytes, is_written}
 use Rattle.diff_steps.specs.Forms.{is_whole_sender, sender_form, set_form, lowered_form}
 use Rattle.diff_steps.specs.Steps.{each_pack, all_closed, guarded_pack, changed_pack, written_by, changed, step2}
 use Rattle.diff_steps.specs.Edges.{steps2}
+use Rattle.pack_laws.proofs.Occurrences.{first_home}
 use Rattle.pack_laws.proofs.Words.{word_at}
 use Rattle.pack_laws.proofs.Known.{known_stands}
 use Rattle.pack_laws.specs.Agreeing.{IsTracked, AreMatrices, IsPackOf, ArePacksOf, Agrees2}
@@ -233,7 +234,7 @@ module _ (p : Program) (packs : List Pack) (statement : ℕ) (a : Act) (x : Acti
       let change = h.0.0 in
       subst (λ (j : Moment). PackStands p.layout pack (changed_pack p a x (bytes_in offset count) s r.wrote pack w) (storage j.storage j.counts)) (sym h.0.1)
       (homes_left p.layout pack (is_in_extent p.layout (bytes_from offset count)) (storage m.storage m.counts) (storage (changed_in change offset count m.storage) m.counts) w
-      (λ i h is apart. value_stays p.layout offset count m.storage (changed_in change offset count m.storage) m.counts (bytes_change done rest offset count s m e g.cells change) h 0 (first_home p.layout g.cells.sound.items h) apart) k)
+      (λ i h is apart. value_stays p.layout offset count m.storage (changed_in change offset count m.storage) m.counts (bytes_change done rest offset count s m e g.cells change) h apart 0 (first_home p.layout g.cells.sound.items h)) k)
   part_stands done rest (guard v wanted) s r m n e g h fails pack w of few k =
       subst (λ (j : Moment). PackStands p.layout pack (guarded_pack p a x s v wanted pack w) (storage j.storage j.counts)) (sym h.0.1)
       (all_guards_keep p statement a x pack few done rest v wanted e s m g.cells h.0.0 w k)
@@ -280,7 +281,7 @@ module _ (p : Program) (packs : List Pack) (statement : ℕ) (a : Act) (x : Acti
             let two = written_first p.layout (bytes_from offset count) r.wrote other k in
             ap (option_map (scaled_by (scale_of (form_at p.layout other))))
             (value_stays p.layout offset count m.storage (changed_in change offset count m.storage) m.counts
-            (bytes_change done rest offset count s m e g.cells change) (of_item other) j less two.0)
+            (bytes_change done rest offset count s m e g.cells change) (of_item other) two.0 j less)
             ∙ g.tracked.same other j less two.1;
       })
   part_tracked done rest (guard v wanted) s r m n e g h fails = let q = of_same m n (same_moment m n h.0.1) in quiet_tracked p.layout r.wrote m n q.storage_ q.first g.tracked

@@ -28,7 +28,7 @@ use Rattle.transfer_ranges.specs.Guards.{lone_item, sides_cut}
 use Rattle.interval_domain.specs.Known.{Known}
 use Rattle.cob_graph.specs.declared.homes.Home.TheVariants.{Count as of_count}
 use Rattle.cob_graph.specs.Homes.{homes_of}
-use Rattle.cell_steps.specs.Cells.{is_in_bytes}
+use Rattle.cell_steps.specs.Cells.{is_in_extent, bytes_from}
 use Rattle.cell_steps.specs.Seen.{Seen}
 use Rattle.cell_steps.specs.Stores.{range_at, with_taken, result_at, may_fail, stored_cells, stored_element, behind_store}
 use Rattle.cell_steps.specs.Steps.{known_as, all_cut, with_cells_if, step}
@@ -123,7 +123,7 @@ module _ (p : Program) (a : Act) (x : Action) (s t : Seen) (under : SeenBelow p 
       store_rises p a x (with_taken p a x s) (with_taken p a x t) (taken_rises rising p a x s t under) wrote place mode y pack m n is are all_lower
       (store_fits p (with_taken p a x s) after place (may_fail p a x (with_taken p a x s) place mode y) (result_at p a x (with_taken p a x s) place mode y) e)
   changed_rises (bytes_in offset count) after e =
-      cells_rise (size_of pack) (is_in_bytes p.layout offset count) (is_in_bytes p.layout offset count) 1 pack m n (λ h f. f) (matrix_has_top (size_of pack) m is) (λ i j l g ne u v. lower.words i j l g ne)
+      cells_rise (size_of pack) (is_in_extent p.layout (bytes_from offset count)) (is_in_extent p.layout (bytes_from offset count)) 1 pack m n (λ h f. f) (matrix_has_top (size_of pack) m is) (λ i j l g ne u v. lower.words i j l g ne)
   changed_rises (guard (numbers b r c) wanted) after e =
       test_rises b r c wanted
       (sides_there s after (all_cut p s.cells) (λ v w. sides_cut (lone_item b) v r (lone_item c) w wanted) (sum_range (range_at p s.cells) b) (sum_range (range_at p s.cells) c) e)

@@ -26,6 +26,7 @@ use Rattle.diff_steps.specs.Steps.{all_closed, changed, step2}
 use Rattle.diff_steps.specs.Edges.{beginning2, or_bottoms, steps2, finished2}
 use Rattle.pack_laws.specs.Agreeing.{AreMatrices, ArePacksOf, Agrees2}
 use Rattle.pack_laws.specs.EdgeLaws.{PostsStand}
+use Rattle.pack_laws.proofs.Occurrences.{first_home}
 use Rattle.pack_laws.proofs.PacksPutRise.{all_are_flat, all_fit}
 use Rattle.pack_laws.proofs.PacksKeep.{all_closed_stand, parts_keep}
 

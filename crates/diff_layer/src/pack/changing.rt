@@ -13,7 +13,7 @@ ghost use Rattle.diff_layer.specs.Views.{plain_pack, HasUnit};
 
 use crate::forms::view::PackView;
 use crate::pack::counters::{count_down, set_count};
-use crate::pack::gone::{Gone, forget};
+use crate::pack::gone::{Gone, bytes_from, forget};
 use crate::pack::guards::guard;
 use crate::pack::moment::Moment;
 use crate::pack::plans::{PackPlan, view_of};
@@ -36,10 +36,7 @@ fn change(moment: &Moment, pack: &PackView, m: &mut [i128], part: EdgePart)
         EdgePart::Store { item, mode, amount } => store(moment, pack, m, item, mode, amount),
         EdgePart::Bytes { offset, length } => forget(
             &moment.items.program.layout,
-            Gone::Bytes {
-                offset,
-                count: length,
-            },
+            Gone::Bytes(bytes_from(offset, length)),
             pack.cells,
             m,
         ),
