@@ -65,7 +65,7 @@ missing_item l place places e =
 
 -- ---- what was written to by more parts
 
-or_swapped : (a b : Bool) → (a || b) ≡ (b || a)
+pub or_swapped : (a b : Bool) → (a || b) ≡ (b || a)
 or_swapped true true = refl
 or_swapped true false = refl
 or_swapped false true = refl

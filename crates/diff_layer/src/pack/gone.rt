@@ -1,6 +1,7 @@
 //! Cells that a part leaves nothing known of.
 ghost use Rattle.std.specs.Prelude.{◌≡◌, ◌≤◌, length, map};
 ghost use Rattle.std.specs.Option.{option_copied};
+ghost use Rattle.cob_data.specs.Extents.{share_extents};
 ghost use Rattle.cob_runs.specs.Contents.{item_at};
 ghost use Rattle.diff_bounds.specs.Matrix.{IsMatrix};
 ghost use Rattle.cob_graph.specs.declared.homes.Home.TheVariants.{Item as of_item};
@@ -43,12 +44,19 @@ pub(crate) fn bytes_from(offset: u32, length: u32) -> Extent
     }
 }
 
+// Whether two extents share bytes, by the occurrences of the first. A pack's cell has one.
+fn share_bytes(cell: &Extent, extent: &Extent) -> bool
+    ensures { result ≡ share_extents extent.now cell.now }
+{
+    share_extents(cell, extent)
+}
+
 fn has_bytes(layout: &Layout, extent: &Extent, place: u32) -> bool
     ensures { result ≡ is_in_extent layout.now extent.now (of_item place) }
 {
     match item_at(layout, place) {
         None => false,
-        Some(item) => share_extents(extent, &item.extent()),
+        Some(item) => share_bytes(&item.extent(), extent),
     }
 }
 
