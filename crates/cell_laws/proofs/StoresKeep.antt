@@ -452,9 +452,9 @@ module _ (p : Program) (items : HasSoundItems p.layout) (place n : ℕ) (less : 
     number_known false t own = by_number (Some i) own (λ m below differ. absurd (differ (let one = items.one place t in omega (arith, below, less, one))))
 
     new : (f : Form) → form_at p.layout place ≡ f → HomeStands p.layout behind (stored_known (is_table p.layout place) f old_known i) (of_item place)
-    new form.Group k m below = tt
-    new (form.Text w) k m below = tt
-    new (form.Edited picture digits scale) k m below = tt
+    new form.Group k = λ m below. tt
+    new (form.Text w) k = λ m below. tt
+    new (form.Edited picture digits scale) k = λ m below. tt
     new (form.Number digits scale signed kept) k =
         number_known (is_table p.layout place) refl
         (subst (λ (v : Option ℤ). KnownStands (Some i) v) (sym (fill.new digits scale signed kept k))
