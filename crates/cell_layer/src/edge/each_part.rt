@@ -96,7 +96,12 @@ impl<'a> Walk<'a> {
         ensures latest { latest_in self.new ≡ latest_in self.old }
     {
         self.kept = self.with_operands();
-        forget_bytes(self.program, self.cells, self.row, offset, length);
+        forget_extent(
+            self.program,
+            self.cells,
+            self.row,
+            &bytes_from(offset, length),
+        );
     }
 
     fn put(&mut self, place: u32, mode: Mode, amount: Amount) -> bool
