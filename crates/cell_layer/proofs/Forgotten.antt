@@ -28,36 +28,42 @@ use Rattle.cell_steps.specs.Cells.{forgotten, is_in_extent, is_beside}
 use Rattle.cell_layer.specs.ProgramRows.{IsRowOf}
 use Rattle.cell_layer.specs.Forgetting.{has_bytes, forgotten_at, forgotten_by}
 
--- so many cells are gone through
-abbrev pub through : (Option ℕ → Bool) → ℕ → List (Option ℕ) → List Known → List Known
-through is_gone zero os cs = cs
-through is_gone (suc k) (o ∷ os) (c ∷ cs) = (if is_gone o then None else c) ∷ through is_gone k os cs
-through is_gone (suc k) _ cs = cs
+module _ {A : Type 0} (is_gone : A → Bool) where
+  -- so many cells are gone through
+  abbrev pub through : ℕ → List A → List Known → List Known
+  through zero os cs = cs
+  through (suc k) (o ∷ os) (c ∷ cs) = (if is_gone o then None else c) ∷ through k os cs
+  through (suc k) _ cs = cs
 
-module _ (is_gone : Option ℕ → Bool) where
-  pub through_length : (k : ℕ) (os : List (Option ℕ)) (cs : List Known) → length (through is_gone k os cs) ≡ length cs
+  pub through_length : (k : ℕ) (os : List A) (cs : List Known) → length (through k os cs) ≡ length cs
   through_length zero os cs = refl
   through_length (suc k) [] cs = refl
   through_length (suc k) (o ∷ os) [] = refl
   through_length (suc k) (o ∷ os) (c ∷ cs) = ap suc (through_length k os cs)
 
-  pub through_all : (k : ℕ) (os : List (Option ℕ)) (cs : List Known) → k ≡ length os → through is_gone k os cs ≡ forgotten_by is_gone os cs
+  pub through_all : (k : ℕ) (os : List A) (cs : List Known) → k ≡ length os → through k os cs ≡ forgotten_by is_gone os cs
   through_all zero [] cs e = refl
   through_all zero (o ∷ os) cs e = absurd (omega (arith, e))
   through_all (suc k) [] cs e = absurd (omega (arith, e))
   through_all (suc k) (o ∷ os) [] e = refl
   through_all (suc k) (o ∷ os) (c ∷ cs) e = ap (λ ds. (if is_gone o then None else c) ∷ ds) (through_all k os cs (omega (arith, e)))
 
-  pub through_next : (k : ℕ) (os : List (Option ℕ)) (cs : List Known) (gone : Bool) → k < length os → k < length cs →
-      gone ≡ is_gone (get_or os k None) → forgotten_at (through is_gone k os cs) k gone ≡ through is_gone (suc k) os cs
-  through_next k [] cs gone h i e = absurd (omega arith)
-  through_next k (p ∷ os) [] gone h i e = absurd (omega arith)
-  through_next zero (p ∷ os) (c ∷ cs) true h i e = rw (← e) refl
-  through_next zero (p ∷ os) (c ∷ cs) false h i e = rw (← e) refl
-  through_next (suc k) (p ∷ os) (c ∷ cs) true h i e =
-      ap (λ ds. (if is_gone p then None else c) ∷ ds) (through_next k os cs true (omega arith) (omega arith) e)
-  through_next (suc k) (p ∷ os) (c ∷ cs) false h i e =
-      ap (λ ds. (if is_gone p then None else c) ∷ ds) (through_next k os cs false (omega arith) (omega arith) e)
+  pub through_next : (k : ℕ) (os : List A) (cs : List Known) (d : A) (gone : Bool) → k < length os → k < length cs →
+      gone ≡ is_gone (get_or os k d) → forgotten_at (through k os cs) k gone ≡ through (suc k) os cs
+  through_next k [] cs d gone h i e = absurd (omega arith)
+  through_next k (p ∷ os) [] d gone h i e = absurd (omega arith)
+  through_next zero (p ∷ os) (c ∷ cs) d true h i e = rw (← e) refl
+  through_next zero (p ∷ os) (c ∷ cs) d false h i e = rw (← e) refl
+  through_next (suc k) (p ∷ os) (c ∷ cs) d true h i e =
+      ap (λ ds. (if is_gone p then None else c) ∷ ds) (through_next k os cs d true (omega arith) (omega arith) e)
+  through_next (suc k) (p ∷ os) (c ∷ cs) d false h i e =
+      ap (λ ds. (if is_gone p then None else c) ∷ ds) (through_next k os cs d false (omega arith) (omega arith) e)
+
+  -- by marks
+  pub by_marks : (os : List A) (cs : List Known) → forgotten_by (λ gone. gone) (map is_gone os) cs ≡ forgotten_by is_gone os cs
+  by_marks [] cs = refl
+  by_marks (o ∷ os) [] = refl
+  by_marks (o ∷ os) (c ∷ cs) = ap (λ ds. (if is_gone o then None else c) ∷ ds) (by_marks os cs)
 
 -- ---- by homes
 

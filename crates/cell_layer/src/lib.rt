@@ -22,6 +22,7 @@ pub use layer::flowing::{edge_with, is_marked};
 pub use layer::heads::heads_of;
 pub use layer::nodes::{edge_at, edges_before, leaves};
 pub use layer::works::EdgeWorks;
+pub use row::beside::marks_of_cells;
 pub use row::counters::count_units;
 pub use row::forgetting::bytes_from;
 pub use row::items::{KnownItems, item_is_numeric, item_range};

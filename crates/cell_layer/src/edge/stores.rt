@@ -22,6 +22,7 @@ ghost use Rattle.cell_steps.specs.Cells.{is_table};
 ghost use Rattle.cell_steps.specs.Stores.{range_at, keeps_receiver, stored, stored_known, receiver_known, stored_cells, stored_element};
 ghost use Rattle.cell_laws.specs.Sizes.{IsSmallStore};
 ghost use Rattle.cell_layer.specs.ProgramRows.{IsRowOf};
+ghost use Rattle.cell_layer.specs.Forgetting.{AreMarks};
 ghost use Rattle.cell_layer.specs.Kept.{kept_or_new};
 ghost use Rattle.cell_layer.specs.Latest.{ranges_of, outcome};
 ghost use Rattle.cell_layer.specs.RowWalks.{program_in, act_done, moment, latest_in, CanGoOn, GoesOn};
@@ -133,31 +134,35 @@ fn receiver_known(
 fn put_units(
     program: &Program,
     cells: &[Cell],
+    marks: &[Vec<bool>],
     row: &mut [i128],
     place: u32,
     keeps: bool,
     units: Interval,
 )
     requires row { IsRowOf (plain_program program.now) cells.now row.old }
+    requires marks { AreMarks (plain_program program.now) cells.now marks.now }
     requires ordered { units.low ≤ℤ units.high }
     ensures cells { stored_element keeps (cells_of row.old) (Some (stored_cells (plain_program program.now) place (cells_of row.old) units))
         ≡ Some (cells_of row.new) }
     ensures row { IsRowOf (plain_program program.now) cells.now row.new }
 {
     let known = receiver_known(program, cells, row, place, keeps, units);
-    forget_beside(program, cells, row, place);
+    forget_beside(program, cells, marks, row, place);
     set_item(program, cells, row, place, known);
 }
 
 fn put(
     program: &Program,
     cells: &[Cell],
+    marks: &[Vec<bool>],
     row: &mut [i128],
     place: u32,
     keeps: bool,
     units: Option<Interval>,
 ) -> bool
     requires row { IsRowOf (plain_program program.now) cells.now row.old }
+    requires marks { AreMarks (plain_program program.now) cells.now marks.now }
     requires ordered { IsOrdered units }
     ensures on { result ≡ true → stored_element keeps (cells_of row.old) (option_map (stored_cells (plain_program program.now) place (cells_of row.old)) units)
         ≡ Some (cells_of row.new) }
@@ -168,7 +173,7 @@ fn put(
     match units {
         None => keeps,
         Some(units) => {
-            put_units(program, cells, row, place, keeps, units);
+            put_units(program, cells, marks, row, place, keeps, units);
             true
         }
     }
@@ -270,6 +275,14 @@ impl<'a> Walk<'a> {
         self.kept.may_fail = keeps;
         self.kept.may_fit = units.is_some();
         self.kept.any_fail = kept.any_fail || keeps;
-        put(self.program, self.cells, self.row, place, keeps, units)
+        put(
+            self.program,
+            self.cells,
+            self.marks,
+            self.row,
+            place,
+            keeps,
+            units,
+        )
     }
 }

@@ -7,16 +7,17 @@ ghost use Rattle.cob_graph.specs.Homes.{homes_of};
 ghost use Rattle.interval_domain.specs.Rows.{IsReached, cells_of};
 ghost use Rattle.cell_steps.specs.Cells.{forgotten, bytes_from, is_in_extent, is_beside};
 ghost use Rattle.cell_layer.specs.ProgramRows.{IsRowOf};
-ghost use Rattle.cell_layer.specs.Forgetting.{has_bytes, forgotten_at, forgotten_by};
+ghost use Rattle.cell_layer.specs.Forgetting.{has_bytes, forgotten_at, forgotten_by, AreMarks};
 
+use crate::row::beside::item_marks;
 use crate::row::pictures::item_at;
 use cob_data::{Extent, Item, share_extents};
 use cob_program::Program;
 use cob_runs::Cell;
 use interval_domain::set_known;
 
-// Whether the item at a place has bytes of an extent.
-fn has_bytes(items: &[Item], extent: &Extent, item: Option<u32>) -> bool
+/// Whether the item at a place has bytes of an extent.
+pub(crate) fn has_bytes(items: &[Item], extent: &Extent, item: Option<u32>) -> bool
     requires { IfSome item (λ place. place < length items.now) }
     ensures { result ≡ has_bytes items.now extent.now item }
 {
@@ -71,14 +72,35 @@ pub fn bytes_from(offset: u32, count: u32) -> Extent
     }
 }
 
+fn forget_marked(marks: &[bool], row: &mut [i128])
+    requires reached { IsReached row.old }
+    requires whole { length (cells_of row.old) ≡ length marks.now }
+    ensures cells { cells_of row.new ≡ forgotten_by (λ gone. gone) marks.now (cells_of row.old) }
+    ensures reached { IsReached row.new }
+{
+    for k in 0..marks.len() {
+        forget_if(row, k, marks[k]);
+    }
+}
+
 /// Forgets what is known of each item that has bytes of another one, itself among them, in whichever of their occurrences.
-pub(crate) fn forget_beside(program: &Program, cells: &[Cell], row: &mut [i128], place: u32)
-    requires { IsRowOf (plain_program program.now) cells.now row.old }
+pub(crate) fn forget_beside(
+    program: &Program,
+    cells: &[Cell],
+    marks: &[Vec<bool>],
+    row: &mut [i128],
+    place: u32,
+)
+    requires row { IsRowOf (plain_program program.now) cells.now row.old }
+    requires marks { AreMarks (plain_program program.now) cells.now marks.now }
     ensures cells { cells_of row.new ≡ forgotten (is_beside program.now.layout place) (homes_of (plain_program program.now)) (cells_of row.old) }
     ensures row { IsRowOf (plain_program program.now) cells.now row.new }
 {
     match item_at(&program.layout, place) {
         None => {}
-        Some(item) => forget_extent(program, cells, row, &item.extent()),
+        Some(item) => match item_marks(program, cells, marks, place) {
+            None => forget_extent(program, cells, row, &item.extent()),
+            Some(marked) => forget_marked(marked, row),
+        },
     }
 }

@@ -28,7 +28,7 @@ loop-k-preserved c =
       cells =
           c.forget_if.ensures.cells
           ∙ (ap (λ (ds : List _). forgotten_at ds k c.has_bytes-gone.result) c.loop-k.invariant.cells
-          ∙ (through_next is_gone k os cs c.has_bytes-gone.result (omega (arith, many)) (omega (arith, c.requires.whole)) gone
+          ∙ (through_next is_gone k os cs None c.has_bytes-gone.result (omega (arith, many)) (omega (arith, c.requires.whole)) gone
           ∙ ap (λ n. through is_gone n os cs) (let e : suc k ≡ k + 1 = omega arith in e)));
     }
 
