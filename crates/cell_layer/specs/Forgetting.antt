@@ -8,7 +8,6 @@ use Rattle.cob_data.specs.Extents.{share_extents}
 use Rattle.cob_data.specs.Occurrences.{extent_of}
 use Rattle.cob_program.specs.Act.{Program}
 use Rattle.cob_runs.specs.declared.action.Cell.{Cell}
-use Rattle.cob_graph.specs.Numbers.{items_of}
 use Rattle.interval_domain.specs.Known.{Known}
 
 -- whether some occurrence of an item has bytes of an extent's; a counter has none
@@ -27,21 +26,21 @@ forgotten_at cells k gone = if gone then slice_set cells k None else cells
 -- ---- marks
 
 -- the cells that have bytes of an extent, as a row of marks
-abbrev pub marks_of : List Item → Extent → List (Option ℕ) → List Bool
-marks_of items e os = map (has_bytes items e) os
+abbrev pub marks_of : List Item → Extent → List Cell → List Bool
+marks_of items e cells = map (λ c. has_bytes items e c.item) cells
 
 -- those that have bytes of a cell's item; a counter has none
-abbrev pub cell_marks : List Item → List (Option ℕ) → Option ℕ → List Bool
-cell_marks items os None = []
-cell_marks items os (Some place) = option_map_or (λ i. marks_of items (extent_of i) os) (slice_get items place) []
+abbrev pub cell_marks : List Item → List Cell → Option ℕ → List Bool
+cell_marks items cells None = []
+cell_marks items cells (Some place) = option_map_or (λ i. marks_of items (extent_of i) cells) (slice_get items place) []
 
 -- a row for each cell
-abbrev pub all_marks : List Item → List (Option ℕ) → List (List Bool)
-all_marks items os = map (cell_marks items os) os
+abbrev pub all_marks : List Item → List Cell → List (List Bool)
+all_marks items cells = map (λ c. cell_marks items cells c.item) cells
 
 abbrev pub lists_in : List (Vec Bool Global) → List (List Bool)
 lists_in rows = map (λ row. row.items) rows
 
 -- these are the rows of a program's cells
 abbrev pub AreMarks : Program → List Cell → List (Vec Bool Global) → Type 0
-AreMarks p cells rows = lists_in rows ≡ all_marks p.layout.items (items_of cells)
+AreMarks p cells rows = lists_in rows ≡ all_marks p.layout.items cells

@@ -6,7 +6,6 @@ ghost use Rattle.cob_data.specs.Occurrences.{extent_of};
 ghost use Rattle.cob_program.specs.ActView.{plain_program};
 ghost use Rattle.cob_runs.specs.Contents.{item_at};
 ghost use Rattle.cob_graph.specs.Graphs.{cells_of as program_cells};
-ghost use Rattle.cob_graph.specs.Numbers.{items_of};
 ghost use Rattle.cell_layer.specs.Forgetting.{marks_of, cell_marks, all_marks, lists_in, AreMarks};
 
 use crate::row::forgetting::has_bytes;
@@ -25,7 +24,7 @@ fn marks_of(
     extent: &Extent,
 ) -> Result<Vec<bool>, AllocError>
     requires within { All (λ c. IfSome c.item (λ place. place < length items.now)) cells.now }
-    ensures { IfOk result (λ marks. marks.items ≡ marks_of items.now extent.now (items_of cells.now)) }
+    ensures { IfOk result (λ marks. marks.items ≡ marks_of items.now extent.now cells.now) }
 {
     let mut marks = Vec::with_capacity(alloc, cells.len())?;
     for cell in cells {
@@ -42,7 +41,7 @@ fn cell_marks(
 ) -> Result<Vec<bool>, AllocError>
     requires within { All (λ c. IfSome c.item (λ place. place < length items.now)) cells.now }
     requires item { IfSome item (λ place. place < length items.now) }
-    ensures { IfOk result (λ marks. marks.items ≡ cell_marks items.now (items_of cells.now) item) }
+    ensures { IfOk result (λ marks. marks.items ≡ cell_marks items.now cells.now item) }
 {
     match item {
         None => Ok(Vec::new(alloc)),
@@ -56,7 +55,7 @@ fn all_marks(
     cells: &[Cell],
 ) -> Result<Vec<Vec<bool>>, AllocError>
     requires within { All (λ c. IfSome c.item (λ place. place < length items.now)) cells.now }
-    ensures { IfOk result (λ rows. lists_in rows.items ≡ all_marks items.now (items_of cells.now)) }
+    ensures { IfOk result (λ rows. lists_in rows.items ≡ all_marks items.now cells.now) }
 {
     let mut rows = Vec::with_capacity(alloc, cells.len())?;
     for cell in cells {
@@ -97,7 +96,7 @@ pub(crate) fn item_marks<'a>(
     requires cells { cells.now ≡ program_cells (plain_program program.now) }
     requires marks { AreMarks (plain_program program.now) cells.now rows.now }
     ensures { IfSome result (λ marks. (i : declared_item.Item) → item_at program.now.layout place ≡ Some i
-        → marks.now ≡ marks_of program.now.layout.items (extent_of i) (items_of cells.now)) }
+        → marks.now ≡ marks_of program.now.layout.items (extent_of i) cells.now) }
 {
     match cell_of(cells, place) {
         None => None,
