@@ -27,6 +27,7 @@ pub mod ResultLaws
 pub mod ItemRanges
 pub mod OperandsRise
 pub mod ResultsFit
+pub mod Meetings
 pub mod PartsRise
 pub mod ClearsFall
 pub mod ResultLawsHold
@@ -41,6 +42,7 @@ pub mod AmountsHold
 pub mod WalkLaws
 pub mod PartsDone
 pub mod QuietParts
+pub mod Subscripts
 pub mod StoresKeep
 pub mod StoreOutcomes
 pub mod PartsKeep
