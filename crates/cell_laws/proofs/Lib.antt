@@ -1,4 +1,5 @@
 pub mod Entry
+pub mod FirstBytes
 pub mod Flow
 pub mod Clears
 pub mod Meaning

@@ -33,6 +33,7 @@ use Rattle.cob_runs.specs.Computing.{items_in}
 use Rattle.cob_runs.specs.Acts.{decl_at, file_from}
 use Rattle.cob_runs.specs.Effects.{tests_in_act}
 use Rattle.cob_store.specs.WellFormed.{IsWellFormedFile, HasWellFormedItems}
+use Rattle.cob_store.proofs.Parts.{first_within}
 use Rattle.data_laws.proofs.Items.{item_sound}
 use Rattle.cob_calc.specs.Contents.{bound_at}
 use Rattle.cob_calc.specs.Arithmetic.{is_small_result, are_small_results, is_small_rest, are_small_rests, take_numbers, is_sound_remainder, CanCompute}
@@ -230,7 +231,7 @@ module _ (l : Layout) (a : Act) (x : Action) where
 
     found_bytes : (place : ℕ) (o : Option Item) → item_at l place ≡ o → AreKept (option_map_or (λ i. bytes_in i.offset i.length ∷ []) o [])
     found_bytes place None at = tt
-    found_bytes place (Some i) at = (((item_sound l items place i at).within, plain), tt)
+    found_bytes place (Some i) at = ((first_within l i (item_sound l items place i at), plain), tt)
 
     bytes_put : (place : ℕ) → AreKept (item_bytes l place)
     bytes_put place = found_bytes place (item_at l place) refl
@@ -264,7 +265,7 @@ module _ (l : Layout) (a : Act) (x : Action) where
         AreKept (option_map_or (λ i. bytes_in i.offset 2 ∷ []) o [])
     two_bytes place None at two = tt
     two_bytes place (Some i) at two =
-        let whole = (item_sound l items place i at).within in
+        let whole = first_within l i (item_sound l items place i at) in
         let long : length_at l place ≡ i.length = ap (λ o. option_map_or (λ (j : Item). j.length) o 0) at in
         ((omega (arith, whole, long, two), plain), tt)
 

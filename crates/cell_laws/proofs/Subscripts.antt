@@ -25,14 +25,14 @@ use Rattle.transfer_ranges.proofs.Least.{met_holds}
 use Rattle.cob_graph.specs.declared.homes.Home.TheVariants.{Item as of_item}
 use Rattle.cob_graph.specs.Homes.{homes_of}
 use Rattle.cell_steps.specs.Storages.{storage}
-use Rattle.cell_steps.specs.Cells.{units_of}
+use Rattle.cell_steps.specs.Cells.{is_table, units_of}
 use Rattle.cell_steps.specs.Seen.{Seen, with_cells}
 use Rattle.cell_steps.specs.Stores.{handled}
-use Rattle.cell_steps.specs.Steps.{table, known_as, read_cells, indexed_cells, with_cells_if, may_not_come, after_subscript, after_index}
+use Rattle.cell_steps.specs.Steps.{table, known_as, read_cells, indexed_cells, with_cells_if, may_not_come, shows_nothing, after_subscript, after_index}
 use Rattle.cell_steps.specs.Clearing.{lies_in_table}
 use Rattle.cell_steps.specs.Agreeing.{Agrees, walking}
 use Rattle.cell_laws.proofs.CellLists.{chosen}
-use Rattle.cell_laws.proofs.HomesHold.{units_hold}
+use Rattle.cell_laws.proofs.HomesHold.{units_hold, some_times}
 use Rattle.cell_laws.proofs.PartsDone.{both_true}
 use Rattle.cell_laws.proofs.QuietParts.{same_moment, seen_on, cells_on, AllKnown, quiet, item_known, value_of_number, seen_cells}
 
@@ -86,51 +86,60 @@ not_skipped false true true true any f g e = absurd cc
 not_skipped false true true false true f g e = absurd cc
 not_skipped false true true false false f g e = absurd (let one = g refl refl in cc)
 
+or_false : (b c : Bool) → (b || c) ≡ false → (b ≡ false) × (c ≡ false)
+or_false true c f = absurd cc
+or_false false c f = (refl, f)
+
 module _ (p : Program) (statement : ℕ) (a : Act) (x : Action) where
-  comes : (done : List Part) (last : Bool) (s : Seen) (m : Moment) → Agrees p statement a x done s m → may_not_come last s ≡ false → skipped last m ≡ false
-  comes done last s m g e = not_skipped m.by_zero m.failed last s.may_zero s.any_fail g.zero g.fails e
+  -- a turn that shows something comes, to an item of one occurrence
+  comes : (done : List Part) (last : Bool) (k : ℕ) (s : Seen) (m : Moment) → Agrees p statement a x done s m → shows_nothing p last k s ≡ false → (skipped last m ≡ false) × (is_table p.layout k ≡ false)
+  comes done last k s m g e =
+      let neither = or_false (may_not_come last s) (is_table p.layout k) e in
+      (not_skipped m.by_zero m.failed last s.may_zero s.any_fail g.zero g.fails neither.0, neither.1)
 
   -- a subscript's number lies in what is known of its item
   subscript_holds : (done : List Part) (k : ℕ) (s : Seen) (m : Moment) (v : Scaled) → Agrees p statement a x done s m → subscript_in p.layout m k ≡ Some v → Holds (units_of p.layout (homes_of p) s.cells (of_item k)) v.units
   subscript_holds done k s m v g e =
-      units_hold p g.sound.items s.cells (storage m.storage m.counts) g.stands k v.units
+      units_hold p g.sound.items s.cells (storage m.storage m.counts) g.stands k 0 v.units (some_times p.layout g.sound.items k)
       (value_of_number (scale_of (form_at p.layout k)) (contents_value (form_at p.layout k) (bytes_at p.layout m.storage k)) v e)
 
-  read_known : (done : List Part) (k : ℕ) (s : Seen) (m n : Moment) → Agrees p statement a x done s m → ReadsSubscript p.layout false k m n → AllKnown p statement a x (read_cells p (of_item k) s.cells) m
-  read_known done k s m n g (v, e, same) =
-      item_known p statement a x s.cells m k v (units_of p.layout (homes_of p) s.cells (of_item k)) g.stands.known e (subscript_holds done k s m v g e)
+  read_known : (done : List Part) (k : ℕ) (s : Seen) (m n : Moment) → Agrees p statement a x done s m → is_table p.layout k ≡ false → ReadsSubscript p.layout false k m n → AllKnown p statement a x (read_cells p (of_item k) s.cells) m
+  read_known done k s m n g plain (v, e, same) =
+      item_known p statement a x g.sound.items s.cells m k v (units_of p.layout (homes_of p) s.cells (of_item k)) plain g.stands.known e (subscript_holds done k s m v g e)
 
   pub subscript_keeps : (done : List Part) (last : Bool) (k : ℕ) (s : Seen) (m n : Moment) → Agrees p statement a x done s m → PassesPart p.layout (handled p a x) (subscript last k) m n
       → Agrees p statement a x (done ++ subscript last k ∷ []) (after_subscript p last k s) n
   subscript_keeps done last k s m n g h =
       let same = same_moment m n (subscript_leaves p.layout (skipped last m) k m n h.0) in
-      chosen (λ (t : Seen). Agrees p statement a x (done ++ subscript last k ∷ []) t n) (may_not_come last s) s (with_cells s (read_cells p (of_item k) s.cells))
+      chosen (λ (t : Seen). Agrees p statement a x (done ++ subscript last k ∷ []) t n) (shows_nothing p last k s) s (with_cells s (read_cells p (of_item k) s.cells))
       (λ e. quiet p statement a x done (subscript last k) s s m n g h refl refl same (seen_on s) g.stands.known)
       (λ e. quiet p statement a x done (subscript last k) s (with_cells s (read_cells p (of_item k) s.cells)) m n g h refl refl same (cells_on s (read_cells p (of_item k) s.cells))
-      (read_known done k s m n g (subst (λ (b : Bool). ReadsSubscript p.layout b k m n) (comes done last s m g e) h.0)))
+      (let here = comes done last k s m g e in
+      read_known done k s m n g here.1 (subst (λ (b : Bool). ReadsSubscript p.layout b k m n) here.0 h.0)))
 
   -- the item's numbers that name an occurrence
-  cut_known : (done : List Part) (k count : ℕ) (s : Seen) (m n : Moment) → Agrees p statement a x done s m → Finds p.layout false k count m n
+  cut_known : (done : List Part) (k count : ℕ) (s : Seen) (m n : Moment) → Agrees p statement a x done s m → is_table p.layout k ≡ false → Finds p.layout false k count m n
       → IsSomeAnd (indexed_cells p k count s.cells) (λ cells. AllKnown p statement a x cells m)
-  cut_known done k count s m n g (v, e, at, found, same) =
+  cut_known done k count s m n g plain (v, e, at, found, same) =
       go (met (units_of p.layout (homes_of p) s.cells (of_item k)) (table count))
       (met_holds (units_of p.layout (homes_of p) s.cells (of_item k)) (table count) v.units (subscript_holds done k s m v g e) (found_in count v.units at found))
     where
       go : (o : Option Interval) → IsSomeAnd o (λ i. Holds i v.units) → IsSomeAnd (option_map (known_as p (of_item k) s.cells) o) (λ cells. AllKnown p statement a x cells m)
       go None f = absurd f
-      go (Some i) f = item_known p statement a x s.cells m k v i g.stands.known e f
+      go (Some i) f = item_known p statement a x g.sound.items s.cells m k v i plain g.stands.known e f
 
   pub index_keeps : (done : List Part) (last : Bool) (k count : ℕ) (s : Seen) (m n : Moment) → Agrees p statement a x done s m → PassesPart p.layout (handled p a x) (index last k count) m n
       → IsSeen (walking p statement a x) (after_index p last k count s) (λ t. Agrees p statement a x (done ++ index last k count ∷ []) t n)
-  index_keeps done last k count s m n g h = go (may_not_come last s) refl
+  index_keeps done last k count s m n g h = go (shows_nothing p last k s) refl
     where
-      go : (b : Bool) → may_not_come last s ≡ b
+      go : (b : Bool) → shows_nothing p last k s ≡ b
           → IsSeen (walking p statement a x) (if b then Some s else with_cells_if s (indexed_cells p k count s.cells)) (λ t. Agrees p statement a x (done ++ index last k count ∷ []) t n)
       go true e =
           quiet p statement a x done (index last k count) s s m n g h refl refl (same_moment m n (index_leaves p.layout (skipped last m) k count m n h.0)) (seen_on s) g.stands.known
       go false e =
           seen_cells p statement a x done (index last k count) s m n (indexed_cells p k count s.cells) g h refl refl (same_moment m n (index_leaves p.layout (skipped last m) k count m n h.0))
-          (cut_known done k count s m n g (subst (λ (b : Bool). Finds p.layout b k count m n) (comes done last s m g e) h.0))
+          (let here = comes done last k s m g e in
+          cut_known done k count s m n g here.1 (subst (λ (b : Bool). Finds p.layout b k count m n) here.0 h.0))
 
   -- ---- faults
 

@@ -22,7 +22,7 @@ use Rattle.interval_domain.specs.Known.{Known}
 use Rattle.cob_graph.specs.declared.homes.Home.{Home}
 use Rattle.cob_graph.specs.declared.homes.Home.TheVariants.{Item as of_item, Count as of_count}
 use Rattle.cob_graph.specs.Homes.{homes_of}
-use Rattle.cell_steps.specs.Cells.{units_of, is_numeric, with_known, forgotten, is_in_bytes}
+use Rattle.cell_steps.specs.Cells.{is_table, units_of, is_numeric, with_known, forgotten, is_in_extent, bytes_from}
 use Rattle.cell_steps.specs.Seen.{Seen, with_cells, with_zero}
 use Rattle.cell_steps.specs.Stores.{range_at, handled, with_taken, stored}
 
@@ -47,9 +47,10 @@ module _ (p : Program) where
   abbrev pub read_cells : Home → List Known → List Known
   read_cells h cells = known_as h cells (units_of p.layout (homes_of p) cells h)
 
+  -- A test tells of one occurrence of a table's item, so that nothing more is known of all of them.
   abbrev pub cut_cells : List Known → Option Cut → List Known
   cut_cells cells None = cells
-  cut_cells cells (Some c) = known_as (of_item c.item) cells c.units
+  cut_cells cells (Some c) = if is_table p.layout c.item then cells else known_as (of_item c.item) cells c.units
 
   abbrev pub all_cut : List Known → Cuts → List Known
   all_cut cells c = cut_cells (cut_cells cells c.left) c.right
@@ -80,19 +81,25 @@ abbrev pub may_not_come : Bool → Seen → Bool
 may_not_come last s = s.may_zero || (last && s.any_fail)
 
 module _ (p : Program) where
-  -- Behind a divisor that may have been 0 a receiver may not have been read.
+  -- Behind a divisor that may have been 0 a receiver may not have been read; of a table one occurrence alone is.
   abbrev pub after_read : ℕ → Seen → Seen
-  after_read place s = if s.may_zero then s else with_cells s (read_cells p (of_item place) s.cells)
+  after_read place s =
+      if s.may_zero || is_table p.layout place then s else with_cells s (read_cells p (of_item place) s.cells)
 
-  -- What a turn that may not come shows isn't known behind it.
+  -- A turn that may not come shows nothing, and neither would one occurrence of a table's item.
+  abbrev pub shows_nothing : Bool → ℕ → Seen → Bool
+  shows_nothing last k s = may_not_come last s || is_table p.layout k
+
   abbrev pub after_subscript : Bool → ℕ → Seen → Seen
-  after_subscript last k s = if may_not_come last s then s else with_cells s (read_cells p (of_item k) s.cells)
+  after_subscript last k s = if shows_nothing last k s then s else with_cells s (read_cells p (of_item k) s.cells)
 
   abbrev pub after_index : Bool → ℕ → ℕ → Seen → Option Seen
-  after_index last k count s = if may_not_come last s then Some s else with_cells_if s (indexed_cells p k count s.cells)
+  after_index last k count s =
+      if shows_nothing last k s then Some s else with_cells_if s (indexed_cells p k count s.cells)
 
   abbrev pub after_bytes : ℕ → ℕ → Seen → Seen
-  after_bytes offset count t = with_cells t (forgotten (is_in_bytes p.layout offset count) (homes_of p) t.cells)
+  after_bytes offset count t =
+      with_cells t (forgotten (is_in_extent p.layout (bytes_from offset count)) (homes_of p) t.cells)
 
   -- A counter gets the units of what is sent, as far as it holds them,
   abbrev pub after_count : ℕ → Seen → Option Seen

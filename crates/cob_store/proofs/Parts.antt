@@ -11,8 +11,8 @@ use Rattle.cob_data.specs.declared.layout.Layout.{Layout}
 use Rattle.cob_runs.specs.Contents.{written, digits_of, item_at, form_at, filled_at}
 use Rattle.cob_store.specs.WellFormed.{IsWellFormedForm, IsWellFormedItem}
 
-pub put_mid-written : (xs ys : List ℕ) (a k : ℕ) → length ys ≡ k → put_mid a k xs ys ≡ written xs a ys
-put_mid-written xs ys a k whole =
+pub put_mid_written : (xs ys : List ℕ) (a k : ℕ) → length ys ≡ k → put_mid a k xs ys ≡ written xs a ys
+put_mid_written xs ys a k whole =
     put_mid-paste a k xs ys ys k refl refl (sym whole)
     ∙ (ap (λ zs. take a xs ++ zs ++ drop (a + k) xs) (take_all k ys (omega arith))
     ∙ ap (λ n. take a xs ++ ys ++ drop (a + n) xs) (sym whole))
@@ -31,5 +31,5 @@ pub part-filled : (l : Layout) (xs : List ℕ) (place : ℕ) (i : Item) (bytes :
     length ys ≡ i.offset + i.length - i.offset → ys ≡ bytes i.form →
     put_mid i.offset (i.offset + i.length - i.offset) xs ys ≡ filled_at l xs place (bytes (form_at l place))
 part-filled l xs place i bytes ys found whole is =
-    put_mid-written xs ys i.offset (i.offset + i.length - i.offset) whole
+    put_mid_written xs ys i.offset (i.offset + i.length - i.offset) whole
     ∙ (ap (written xs i.offset) is ∙ sym (ap (λ o. option_map_or (λ (j : Item). written xs j.offset (bytes (option_map_or (λ (k : Item). k.form) o Group))) o xs) found))
