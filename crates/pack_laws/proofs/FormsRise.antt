@@ -4,6 +4,7 @@ use Rattle.std.specs.Prelude.{IsSomeAnd, if◌then◌else◌, neg_ℤ}
 use Rattle.std.specs.List.{list_any}
 use Rattle.std.proofs.lemmas.Int.{ints}
 use Rattle.interval_domain.specs.Corners.{interval}
+use Rattle.cob_data.specs.declared.extent.Extent.{Extent}
 use Rattle.cob_data.specs.declared.layout.Sender.{Sender}
 use Rattle.cob_data.specs.declared.layout.Sender.TheVariants as sender
 use Rattle.cob_program.specs.declared.act.How.{How}
@@ -42,7 +43,7 @@ use Rattle.cell_steps.specs.Order.{SeenBelow}
 use Rattle.cell_laws.proofs.ItemRanges.{units_below, range_below}
 use Rattle.cell_laws.proofs.OperandsRise.{SettledBelow, settled_below}
 use Rattle.diff_steps.specs.Packs.{Pack, cell_of, pack_decimals}
-use Rattle.diff_steps.specs.Moments.{Bytes, is_written}
+use Rattle.diff_steps.specs.Moments.{is_written}
 use Rattle.diff_steps.specs.Forms.{is_whole_sender, set_form, whole_sum, added_forms, turned_if, has_operands, own_form, counter_form, kept_form, taken_form, operands_form, item_sent, sender_form, multiplied_form, computed_form, amount_form, lowered_form}
 use Rattle.diff_steps.specs.Guards.{difference_form}
 
@@ -119,7 +120,7 @@ module _ (p : Program) (a : Act) (x : Action) (pack : Pack) (less more : Seen) (
       (λ c w m. narrower_then (turned_form true c) (turned_form true w) (λ d. if_small (sum_of b d)) (λ d. if_small (sum_of v d))
       (turns_narrower true (Some c) (Some w) m) (λ d u k. sum_there b d v u n k)))
 
-  module _ (wrote : List Bytes) where
+  module _ (wrote : List Extent) where
     -- ---- the receiver's own number
 
     own_narrower : (place : ℕ) → IsNarrowerIfAny (own_form p pack less wrote place) (own_form p pack more wrote place)

@@ -31,6 +31,7 @@ pub mod PacksStand
 pub mod PacksClearEnds
 pub mod PacksClear
 pub mod PacksClearAll
+pub mod Occurrences
 pub mod Words
 pub mod Kept
 pub mod Stored

@@ -9,6 +9,7 @@ use Rattle.dec_num.specs.declared.types.Mode.TheVariants.{Trunc}
 use Rattle.interval_domain.specs.declared.bounds.Interval.{Interval}
 use Rattle.cob_tree.specs.declared.fault.Kind.{Kind}
 use Rattle.cob_tree.specs.declared.fault.Kind.TheVariants as kind
+use Rattle.cob_data.specs.declared.extent.Extent.{Extent}
 use Rattle.cob_data.specs.declared.layout.Sender.{Sender}
 use Rattle.cob_program.specs.Sum.{Atom}
 use Rattle.cob_program.specs.Values.{◌>>=◌}
@@ -49,7 +50,7 @@ use Rattle.cell_laws.proofs.PartsRise.{taken_rises}
 use Rattle.cell_laws.proofs.ClearsFall.{clears_below}
 use Rattle.cell_laws.proofs.ResultLawsHold.{rising}
 use Rattle.diff_steps.specs.Packs.{Pack, size_of, pack_decimals}
-use Rattle.diff_steps.specs.Moments.{Bytes, Seen2}
+use Rattle.diff_steps.specs.Moments.{Seen2}
 use Rattle.diff_steps.specs.Forms.{cell_at, amount_form, set_form, lowered_form, has_operands}
 use Rattle.diff_steps.specs.Stores.{upper_negated}
 use Rattle.diff_steps.specs.Clearing.{some_pack, high_fits, low_fits, high_shown, low_shown, ends_fit, is_negative, is_apart_in, amounts_fit, store_fits, clears_part2}
@@ -144,8 +145,8 @@ module _ (p : Program) (packs : List Pack) (r q : Seen2) (under : PacksBelow pac
 
     module _ (s t : Seen) (below : SeenBelow p a x s t) where
       -- a form that may speak of what the edge has written to
-      along_wrote : (form : List Bytes → Option Lin) (o : Option Lin) → IsNarrowerIfAny o (form r.wrote) → IsNarrowerIfAny o (form q.wrote)
-      along_wrote form o n = subst (λ (wrote : List Bytes). IsNarrowerIfAny o (form wrote)) under.wrote n
+      along_wrote : (form : List Extent → Option Lin) (o : Option Lin) → IsNarrowerIfAny o (form r.wrote) → IsNarrowerIfAny o (form q.wrote)
+      along_wrote form o n = subst (λ (wrote : List Extent). IsNarrowerIfAny o (form wrote)) under.wrote n
 
       module _ (place : ℕ) (mode : Mode) (y : Amount) where
         abbrev its_receiver : Receiver
@@ -192,7 +193,7 @@ module _ (p : Program) (packs : List Pack) (r q : Seen2) (under : PacksBelow pac
             by_common has (Some c) (Some d) e n f = amounts_fall has c d e n f
 
             above : has_operands p s r.wrote y ≡ true → has_operands p t q.wrote y ≡ true
-            above has = subst (λ (wrote : List Bytes). has_operands p t wrote y ≡ true) under.wrote (operands_rise p a x s t below r.wrote y has)
+            above has = subst (λ (wrote : List Extent). has_operands p t wrote y ≡ true) under.wrote (operands_rise p a x s t below r.wrote y has)
 
             by_operands : (b : Bool) → has_operands p s r.wrote y ≡ b → (not (has_operands p t q.wrote y) || option_map_or (amounts_fit p packs a x t q place mode y) t.common true) ≡ true
                 → (not b || option_map_or (amounts_fit p packs a x s r place mode y) s.common true) ≡ true
