@@ -98,7 +98,7 @@ module _ (p : Program) (statement : ℕ) (a : Act) (x : Action) where
       (not_skipped m.by_zero m.failed last s.may_zero s.any_fail g.zero g.fails neither.0, neither.1)
 
   -- a subscript's number lies in what is known of its item
-  subscript_holds : (done : List Part) (k : ℕ) (s : Seen) (m : Moment) (v : Scaled) → Agrees p statement a x done s m → subscript_in p.layout m k ≡ Some v → Holds (units_of p.layout (homes_of p) s.cells (of_item k)) v.units
+  pub subscript_holds : (done : List Part) (k : ℕ) (s : Seen) (m : Moment) (v : Scaled) → Agrees p statement a x done s m → subscript_in p.layout m k ≡ Some v → Holds (units_of p.layout (homes_of p) s.cells (of_item k)) v.units
   subscript_holds done k s m v g e =
       units_hold p g.sound.items s.cells (storage m.storage m.counts) g.stands k 0 v.units (some_times p.layout g.sound.items k)
       (value_of_number (scale_of (form_at p.layout k)) (contents_value (form_at p.layout k) (bytes_at p.layout m.storage k)) v e)
