@@ -22,7 +22,7 @@ use Rattle.cob_program.specs.declared.act.How.TheVariants as how
 use Rattle.cob_program.specs.declared.act.Target.{Target}
 use Rattle.cob_program.specs.Sum.{Sum, Atom}
 use Rattle.cob_program.specs.Values.{root_of}
-use Rattle.cob_program.specs.Bounds.{is_small_sum, is_small_atom, is_small_stored}
+use Rattle.cob_program.specs.Bounds.{is_small, is_small_sum, is_small_atom, is_small_stored}
 use Rattle.cob_program.specs.Logic.{Logic, Test, numbers, texts, member, numeric, always}
 use Rattle.cob_program.specs.Act.{once, times, until, varying, Act, move, arith as arith_, perform, Body, open_files, close_files, read as read_, write, Program}
 use Rattle.cob_runs.specs.declared.action.Action.{Action}
