@@ -1,9 +1,10 @@
 -- What is known of cells where a run begins is true of first storage, and lies in the cells' own ranges.
-use Rattle.std.proofs.Common.{◌≡◌, ◌<◌, ◌⊎◌, inl, inr, ℕ, zero, suc, Bool, true, false, if◌then◌else◌, List, [], ◌∷◌, map, length, Option, Some, None, ℤ, bytes_eq, bytes_eq-Decides, refl, sym, ap, subst, ◌∙◌, arith}
+use Rattle.std.proofs.Common.{◌≡◌, ◌<◌, ◌⊎◌, inl, inr, ℕ, zero, suc, Bool, true, false, if◌then◌else◌, List, [], ◌∷◌, map, length, Option, Some, None, ℤ, bytes_eq, refl, sym, ap, subst, ◌∙◌, arith}
 use Rattle.std.specs.Option.{option_map_or}
 use Rattle.std.proofs.Props.{props}
 use Rattle.std.proofs.Math.Logic.{∥∥₁_elim}
 use Rattle.std.proofs.lemmas.Int.{ints}
+use Rattle.std.proofs.lemmas.Slice.Eq.{bytes_eq-Decides}
 use Rattle.cob_data.specs.declared.layout.Item.{Item}
 use Rattle.cob_data.specs.declared.layout.Layout.{Layout}
 use Rattle.cob_data.specs.Extents.{start_of}
@@ -143,7 +144,7 @@ known_stands l first s same (of_item place) =
     reads n z less e =
         let is = number_is l place n z e in
         ap (contents_value (form_at l place)) (ap (λ b. occurrence_bytes l b place n) same ∙ filled_stands l place n first is.0) ∙ is.1
-known_stands l first s same (of_count statement) n less = tt
+known_stands l first s same (of_count statement) = λ n less. tt
 
 module _ (p : Program) (g : Graph) (s : Storage) (begins : Begins p g s) where
   abbrev l : Layout

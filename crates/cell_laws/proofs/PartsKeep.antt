@@ -269,7 +269,7 @@ module _ (given : Given) (p : Program) (statement : ℕ) (a : Act) (x : Action) 
 
       others : (h : Home) → Contains (homes_of p) h → ¬ h ≡ of_count k → HomeStands p.layout (storage m.storage (slice_set m.counts (k - 1) (Some v))) (known_of (homes_of p) cells h) h
       others (of_item place) there d = stands.known (of_item place)
-      others (of_count j) there d n less =
+      others (of_count j) there d = λ n less.
           subst (λ (w : Option ℤ). KnownStands (known_of (homes_of p) cells (of_count j)) w) (sym (count_elsewhere m.counts j k v (differs j k (sound.counts j there).first first (λ e. d (ap of_count e))))) (stands.known (of_count j) n less)
 
   -- what a counter holds lies in what is fitted

@@ -1,5 +1,6 @@
 pub mod CellNumbers
 pub mod Forgotten
+pub mod MarkedCells
 pub mod Digits
 pub mod ShortBounds
 pub mod SumsAgree

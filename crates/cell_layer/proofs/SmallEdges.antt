@@ -17,7 +17,7 @@ use Rattle.transfer_ranges.specs.ResultRanges.{count_range, lowered}
 use Rattle.interval_domain.specs.Known.{Known}
 use Rattle.cob_graph.specs.declared.homes.Home.TheVariants.{Item as of_item, Count as of_count}
 use Rattle.cob_graph.specs.Homes.{homes_of}
-use Rattle.cell_steps.specs.Cells.{units_of}
+use Rattle.cell_steps.specs.Cells.{is_table, units_of}
 use Rattle.cell_steps.specs.Seen.{Seen, beginning, with_cells, with_zero}
 use Rattle.cell_steps.specs.Stores.{range_at, handled, taking, with_taken, stored}
 use Rattle.cell_steps.specs.Steps.{can_divide, known_as, read_cells, guarded_cells, counted_cells, with_cells_if, after_read, after_bytes, after_count, after_divide, step}
@@ -69,7 +69,7 @@ module _ (p : Program) (a : Act) (x : Action) where
   cells_if s (Some cs) = refl
 
   read_same : (place : ℕ) (s : Seen) → after_read p place (trim s) ≡ trim (after_read p place s)
-  read_same place s = go s.may_zero
+  read_same place s = go (s.may_zero || is_table p.layout place)
     where
       go : (b : Bool) → (if b then trim s else with_cells (trim s) (read_cells p (of_item place) s.cells)) ≡ trim (if b then s else with_cells s (read_cells p (of_item place) s.cells))
       go true = refl

@@ -1,5 +1,6 @@
 //! What a row of a program's cells tells, and how it is set, cut and forgotten by what its cells are of.
 
+pub(crate) mod beside;
 pub(crate) mod counters;
 pub(crate) mod forgetting;
 pub(crate) mod items;

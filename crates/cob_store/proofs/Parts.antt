@@ -1,6 +1,6 @@
 -- A part of storage that is written.
-use Rattle.std.proofs.Common.{◌≡◌, Some, ℕ, ◌+◌, ◌-◌, ◌≤◌, List, ◌++◌, length, take, drop, refl, ap, ◌∙◌, sym, arith}
-use Rattle.std.proofs.lemmas.List.{take_all}
+use Rattle.std.proofs.Common.{◌≡◌, Some, ℕ, ◌+◌, ◌-◌, ◌≤◌, List, ◌++◌, length, length-drop, take, drop, refl, ap, ◌∙◌, sym, subst, arith}
+use Rattle.std.proofs.lemmas.List.{take_all, length-take-le}
 use Rattle.std.proofs.lemmas.Slice.{put_mid-paste}
 use borrow.Rule.Slice.PartMut.{put_mid}
 use Rattle.cob_tree.specs.declared.form.Form.{Form}
@@ -8,7 +8,7 @@ use Rattle.cob_tree.specs.declared.form.Form.TheVariants.{Group, Text, Number, E
 use Rattle.std.specs.Option.{option_map_or}
 use Rattle.cob_data.specs.declared.layout.Item.{Item}
 use Rattle.cob_data.specs.declared.layout.Layout.{Layout}
-use Rattle.cob_runs.specs.Contents.{written, digits_of, item_at, form_at, filled_at}
+use Rattle.cob_runs.specs.Contents.{area, written, digits_of, item_at, form_at, filled_at}
 use Rattle.cob_store.specs.WellFormed.{IsWellFormedForm, IsWellFormedItem}
 
 pub put_mid_written : (xs ys : List ℕ) (a k : ℕ) → length ys ≡ k → put_mid a k xs ys ≡ written xs a ys
@@ -19,6 +19,16 @@ put_mid_written xs ys a k whole =
 
 pub first_within : (l : Layout) (i : Item) → IsWellFormedItem l i → i.offset + i.length ≤ l.storage
 first_within l i sound = sound.within 0 (omega (arith, sound.extent.some))
+
+-- the bytes of an item that is no table's are those of its form
+pub first_formed : (l : Layout) (i : Item) (storage : List ℕ) → IsWellFormedItem l i → length storage ≡ l.storage →
+    IsWellFormedForm i.form (length (area storage i.offset i.length))
+first_formed l i storage sound whole =
+    let within = first_within l i sound in
+    let rest = length-drop i.offset storage in
+    let long : length (area storage i.offset i.length) ≡ i.length =
+    length-take-le i.length (drop i.offset storage) (omega (arith, rest, within, whole)) in
+    subst (IsWellFormedForm i.form) (sym long) sound.form
 
 pub few_digits : (f : Form) (bytes : ℕ) → IsWellFormedForm f bytes → digits_of f ≤ 18
 few_digits Group bytes sound = omega arith
