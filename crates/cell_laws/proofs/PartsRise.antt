@@ -199,6 +199,15 @@ module _ (p : Program) where
       (count_part (home_range p.layout (of_count n)) i (count_kept wanted i) (units_fit p.layout (homes_of p) as_ (of_count n) f.fits) (given.counts_fit_ wanted i))
       (given.counts_ wanted i j (w.low, w.high))
 
+  pub indexed_below : (k count : ℕ) (as_ bs : List Known) → FitBelow as_ bs → FitBelowIf (indexed_cells p k count as_) (indexed_cells p k count bs)
+  indexed_below k count as_ bs f =
+      let i = units_of p.layout (homes_of p) as_ (of_item k) in
+      let j = units_of p.layout (homes_of p) bs (of_item k) in
+      let w = units_below p.layout (homes_of p) as_ bs (of_item k) f.fits f.below in
+      known_if_below (of_item k) as_ bs (met i (table count)) (met j (table count)) f
+      (count_part (home_range p.layout (of_item k)) i (met i (table count)) (units_fit p.layout (homes_of p) as_ (of_item k) f.fits) (table_cut i (table count)))
+      (cut_rises i j (table count) (w.low, w.high))
+
 -- ---- divisors
 
 pub le_test : (z w : ℤ) → int_le z w ≡ true → z ≤ℤ w
@@ -283,29 +292,15 @@ module _ (given : Given) (p : Program) (a : Act) (x : Action) where
       here : Interval
       here = units_of p.layout (homes_of p) s.cells (of_item k)
 
-      there : Interval
-      there = units_of p.layout (homes_of p) t.cells (of_item k)
-
       alone : (o : Option Interval) → IfSome o (λ i. IsInside i here × (i.low ≤ℤ i.high)) → BelowIf p a x (with_cells_if s (option_map (known_as p (of_item k) s.cells) o)) (Some t)
       alone None f = tt
       alone (Some i) f = cells_below s t (known_as p (of_item k) s.cells i) t.cells h (cut_alone_below p (of_item k) s.cells t.cells i (fit_below s t h) f.0 f.1)
-
-      fits : (o : Option Interval) → IfSome o (λ i. IsInside i here × (i.low ≤ℤ i.high)) → IfSome o (λ i. KnownFits (home_range p.layout (of_item k)) (Some i))
-      fits None f = tt
-      fits (Some i) f = cut_part (home_range p.layout (of_item k)) here i (units_fit p.layout (homes_of p) s.cells (of_item k) h.fits) f.0 f.1
-
-      both : BelowIf p a x (with_cells_if s (indexed_cells p k count s.cells)) (with_cells_if t (indexed_cells p k count t.cells))
-      both =
-          let w = units_below p.layout (homes_of p) s.cells t.cells (of_item k) h.fits h.cells in
-          cells_if_below s t (indexed_cells p k count s.cells) (indexed_cells p k count t.cells) h
-          (known_if_below p (of_item k) s.cells t.cells (met here (table count)) (met there (table count)) (fit_below s t h)
-          (fits (met here (table count)) (table_cut here (table count))) (cut_rises here there (table count) (w.low, w.high)))
 
       go : (u v : Bool) → (u ≡ true → v ≡ true) → BelowIf p a x (if u then Some s else with_cells_if s (indexed_cells p k count s.cells)) (if v then Some t else with_cells_if t (indexed_cells p k count t.cells))
       go true true uv = h
       go true false uv = absurd (grind (arith, uv refl))
       go false true uv = alone (met here (table count)) (table_cut here (table count))
-      go false false uv = both
+      go false false uv = cells_if_below s t (indexed_cells p k count s.cells) (indexed_cells p k count t.cells) h (indexed_below p k count s.cells t.cells (fit_below s t h))
 
   ranges : (s t : Seen) → Below s t → (place : ℕ) → IsNarrower (range_at p s.cells place) (range_at p t.cells place)
   ranges s t h = range_below p.layout (homes_of p) s.cells t.cells h.fits h.cells
