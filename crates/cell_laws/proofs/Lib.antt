@@ -28,6 +28,7 @@ pub mod ResultLaws
 pub mod ItemRanges
 pub mod OperandsRise
 pub mod ResultsFit
+pub mod Meetings
 pub mod PartsRise
 pub mod ClearsFall
 pub mod ResultLawsHold
@@ -42,6 +43,7 @@ pub mod AmountsHold
 pub mod WalkLaws
 pub mod PartsDone
 pub mod QuietParts
+pub mod Subscripts
 pub mod StoresKeep
 pub mod StoreOutcomes
 pub mod PartsKeep

@@ -20,10 +20,10 @@ use Rattle.cob_runs.specs.declared.action.Action.{Action}
 use Rattle.cob_runs.specs.Contents.{form_at, bytes_of, number_at, filled_at}
 use Rattle.cob_runs.specs.Moves.{takes_number, number_of}
 use Rattle.cob_runs.specs.Computing.{items_in_atom, are_numeric, worth}
-use Rattle.cob_edge_parts.specs.Parts.{Amount, moved, Part, read, unread, divide, store, bytes_in, guard, read_count, set_count, count_down, guard_count, divides, parts_of}
+use Rattle.cob_edge_parts.specs.Parts.{Amount, moved, Part, read, unread, subscript, index, divide, store, bytes_in, guard, read_count, set_count, count_down, guard_count, divides, parts_of}
 use Rattle.cob_runs.specs.Effects.{is_times}
 use Rattle.cob_edge_parts.specs.Meaning as run
-use Rattle.cob_edge_parts.specs.Meaning.{Moment, with_storage, with_count, with_failure, divided_by_zero, count_in, divides_by, changed_in, Divides}
+use Rattle.cob_edge_parts.specs.Meaning.{Moment, with_storage, with_count, with_failure, divided_by_zero, count_in, divides_by, skipped, changed_in, Divides}
 use Rattle.cob_edge_parts.specs.Ranges.{ChangesWithin}
 use Rattle.dom_laws.specs.Walking.{IsSeen}
 use Rattle.sum_ranges.specs.declared.ranged.Ranged.{Ranged}
@@ -62,6 +62,8 @@ use Rattle.cell_laws.proofs.Frames.{value_stays, range_changes}
 use Rattle.cell_laws.proofs.Counters.{count_set, count_elsewhere, differs, counted_set}
 use Rattle.cell_laws.proofs.HomesHold.{if_home, home_set, some_times, number_holds, range_is_ordered, count_holds}
 use Rattle.cell_laws.proofs.PartsDone.{any_last, none_written, read_first, read_zero, store_zero, all_contained, contained_all}
+use Rattle.cob_edge_parts.proofs.Subscripts.{subscript_leaves, index_leaves}
+use Rattle.cell_laws.proofs.Subscripts.{subscript_keeps, index_keeps}
 use Rattle.cell_laws.proofs.QuietParts.{same_moment, SeenOn, quiet, quiet_at, read_keeps, guard_keeps, read_count_keeps, guard_count_keeps, times_small}
 use Rattle.cell_laws.proofs.StoreOutcomes.{result_meant, each_outcome}
 use Rattle.cell_laws.proofs.StoresKeep.{then_holds, TakenAt, taken_at, written_agrees, counts_amount, stored_stands}
@@ -431,6 +433,8 @@ module _ (given : Given) (p : Program) (statement : ℕ) (a : Act) (x : Action) 
   same_zero : (y : Part) (m n : Moment) → handled p a x ≡ false → PassesPart p.layout (handled p a x) y m n → n.by_zero ≡ m.by_zero
   same_zero (read place) m n off (h, fits) = read_zero p.layout (handled p a x) m.by_zero place m n h
   same_zero unread m n off (h, fits) = absurd h
+  same_zero (subscript last k) m n off (h, fits) = ap (λ (j : Moment). j.by_zero) (subscript_leaves p.layout (skipped last m) k m n h)
+  same_zero (index last k count) m n off (h, fits) = ap (λ (j : Moment). j.by_zero) (index_leaves p.layout (skipped last m) k count m n h)
   same_zero (divide d) m n off (h, fits) = let w = subst (λ (b : Bool). Divides p.layout b d m n) off h in ap (λ (k : Moment). k.by_zero) w.1
   same_zero (store place mode y) m n off (h, fits) = store_zero p.layout (handled p a x) (handled p a x) place mode y m n h
   same_zero (bytes_in offset count) m n off (h, fits) = ap (λ (k : Moment). k.by_zero) h.1
@@ -455,6 +459,8 @@ module _ (given : Given) (p : Program) (statement : ℕ) (a : Act) (x : Action) 
   pub keeps : (done rest : List Part) (y : Part) (s : Seen) (m n : Moment) → done ++ y ∷ rest ≡ parts_of p statement a x → Now done s m → PassesPart p.layout (handled p a x) y m n → (keeps_receiver a x ≡ true → FailsAt p.layout y m) → SeenNow (done ++ y ∷ []) (step p a x y s) n
   keeps done rest (read place) s m n e g h fails = read_keeps p statement a x done place s m n g h
   keeps done rest unread s m n e g h fails = absurd h.0
+  keeps done rest (subscript last k) s m n e g h fails = subscript_keeps p statement a x done last k s m n g h
+  keeps done rest (index last k count) s m n e g h fails = index_keeps p statement a x done last k count s m n g h
   keeps done rest (divide d) s m n e g h fails = divide_keeps done d s m (given.places_ p statement a x done rest (divide d) e) g n h
   keeps done rest (store place mode y) s m n e g h fails =
       store_keeps done place mode y (with_taken p a x s) m (taken_at p statement a x given done (store place mode y) s m refl (given.places_ p statement a x done rest (store place mode y) e) g)

@@ -179,7 +179,7 @@ module _ (p : Program) (statement : ℕ) (a : Act) (x : Action) where
       chosen (λ (cs : List Known). AllKnown cs m) (is_table p.layout c.item) cells (known_as p (of_item c.item) cells c.units)
       (λ e. known) (λ e. item_known sound cells m c.item h.0 c.units e known h.1 h.2.held)
 
-  seen_cells : (done : List Part) (y : Part) (s : Seen) (m n : Moment) (o : Option (List Known)) → Agrees p statement a x done s m → PassesPart p.layout (handled p a x) y m n
+  pub seen_cells : (done : List Part) (y : Part) (s : Seen) (m n : Moment) (o : Option (List Known)) → Agrees p statement a x done s m → PassesPart p.layout (handled p a x) y m n
       → writes y ≡ false → is_store y ≡ false → SameMoment m n → IsSomeAnd o (λ cells. AllKnown cells m)
       → IsSeen (walking p statement a x) (with_cells_if s o) (λ t. Agrees p statement a x (done ++ y ∷ []) t n)
   seen_cells done y s m n None g h q r same known = absurd known

@@ -31,7 +31,7 @@ use Rattle.cob_runs.specs.declared.action.Action.TheVariants as action
 use Rattle.cob_runs.specs.Contents.{form_at, item_at, times_at, bytes_of, digits_of, number_in, number_at, occurrence_filled}
 use Rattle.cob_runs.specs.Moves.{takes_number, number_of}
 use Rattle.cob_runs.specs.Computing.{items_in, are_numeric, worth}
-use Rattle.cob_edge_parts.specs.Parts.{Amount, moved, computed, remaining, augmented, Part, read, unread, divide, store, bytes_in, guard, read_count, set_count, count_down, guard_count, divides, number_reads, divisors_of}
+use Rattle.cob_edge_parts.specs.Parts.{Amount, moved, computed, remaining, augmented, Part, read, unread, subscript, index, divide, store, bytes_in, guard, read_count, set_count, count_down, guard_count, divides, number_reads, divisors_of}
 use Rattle.cob_edge_parts.specs.Meaning as run
 use Rattle.cob_edge_parts.specs.Meaning.{Moment, with_own, divides_by, amount, ReadsAt}
 use Rattle.sum_ranges.specs.Ranged.{decimal, IsIn}
@@ -115,6 +115,8 @@ module _ (p : Program) (statement : ℕ) (a : Act) (x : Action) where
   numeric_operands done first counts m (set_count n y) w q passed s ts r size fine e = absurd (subst (λ (b : Act). Counts b x y) e q.1)
   numeric_operands done first counts m (read place) w q passed s ts r size fine e = absurd cc
   numeric_operands done first counts m unread w q passed s ts r size fine e = absurd cc
+  numeric_operands done first counts m (subscript last k) w q passed s ts r size fine e = absurd cc
+  numeric_operands done first counts m (index last k count) w q passed s ts r size fine e = absurd cc
   numeric_operands done first counts m (divide d) w q passed s ts r size fine e = absurd cc
   numeric_operands done first counts m (guard v wanted) w q passed s ts r size fine e = absurd cc
   numeric_operands done first counts m (read_count n) w q passed s ts r size fine e = absurd cc

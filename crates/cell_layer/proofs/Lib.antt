@@ -8,6 +8,7 @@ pub mod ShortAnswers
 pub mod SmallHomes
 pub mod Reading
 pub mod CounterRanges
+pub mod Tables
 pub mod TestsAgree
 pub mod Cuts
 pub mod SmallEdges

@@ -8,6 +8,7 @@ pub(crate) mod knowing;
 pub(crate) mod pictures;
 pub(crate) mod reads;
 pub(crate) mod scales;
+pub(crate) mod subscripts;
 pub(crate) mod sums;
 pub(crate) mod taking;
 pub(crate) mod tests_of;

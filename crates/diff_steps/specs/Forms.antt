@@ -80,6 +80,10 @@ module _ (p : Program) (pack : Pack) (t : Seen) (wrote : List Extent) where
   abbrev pub own_form : ℕ → Option Lin
   own_form place = item_form decimals (cell_at place) (range_at p t.cells place)
 
+  -- What a subscript is: the units of its item, which are its number where it has no decimals.
+  abbrev pub subscript_form : ℕ → Option Lin
+  subscript_form k = if is_whole_sender p.layout (sender.Item k) then own_form k else None
+
   abbrev pub counter_form : ℕ → Option Lin
   counter_form statement =
       item_form decimals (cell_of pack (of_count statement)) (ranged (units_of p.layout (homes_of p) t.cells (of_count statement)) 0)

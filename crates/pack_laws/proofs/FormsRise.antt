@@ -44,7 +44,7 @@ use Rattle.cell_laws.proofs.ItemRanges.{units_below, range_below}
 use Rattle.cell_laws.proofs.OperandsRise.{SettledBelow, settled_below}
 use Rattle.diff_steps.specs.Packs.{Pack, cell_of, pack_decimals}
 use Rattle.diff_steps.specs.Moments.{is_written}
-use Rattle.diff_steps.specs.Forms.{is_whole_sender, set_form, whole_sum, added_forms, turned_if, has_operands, own_form, counter_form, kept_form, taken_form, operands_form, item_sent, sender_form, multiplied_form, computed_form, amount_form, lowered_form}
+use Rattle.diff_steps.specs.Forms.{is_whole_sender, set_form, whole_sum, added_forms, turned_if, has_operands, own_form, subscript_form, counter_form, kept_form, taken_form, operands_form, item_sent, sender_form, multiplied_form, computed_form, amount_form, lowered_form}
 use Rattle.diff_steps.specs.Guards.{difference_form}
 
 -- ---- sums of two forms
@@ -125,6 +125,9 @@ module _ (p : Program) (a : Act) (x : Action) (pack : Pack) (less more : Seen) (
 
     own_narrower : (place : ℕ) → IsNarrowerIfAny (own_form p pack less wrote place) (own_form p pack more wrote place)
     own_narrower place = item_narrower decimals (cell place) (range_at p less.cells place) (range_at p more.cells place) (items_narrower place)
+
+    pub subscript_narrower : (k : ℕ) → IsNarrowerIfAny (subscript_form p pack less wrote k) (subscript_form p pack more wrote k)
+    subscript_narrower k = either_narrower (is_whole_sender p.layout (sender.Item k)) (own_form p pack less wrote k) (own_form p pack more wrote k) None None (own_narrower k) tt
 
     counter_narrower : (statement : ℕ) → IsNarrowerIfAny (counter_form p pack less wrote statement) (counter_form p pack more wrote statement)
     counter_narrower statement =

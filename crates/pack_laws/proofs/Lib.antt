@@ -29,6 +29,7 @@ pub mod FormsShowGuards
 pub mod FormsShowMoments
 pub mod PacksStand
 pub mod PacksClearEnds
+pub mod Subscripts
 pub mod PacksClear
 pub mod PacksClearAll
 pub mod Occurrences

@@ -10,7 +10,7 @@ use Rattle.cob_program.specs.Logic.{Test, numbers, texts, member, numeric, alway
 use Rattle.cob_program.specs.Act.{Act, Program}
 use Rattle.cob_runs.specs.declared.action.Action.{Action}
 use Rattle.cob_runs.specs.Contents.{form_at}
-use Rattle.cob_edge_parts.specs.Parts.{Amount, Part, read, unread, divide, store, bytes_in, guard, read_count, set_count, count_down, guard_count, parts_of}
+use Rattle.cob_edge_parts.specs.Parts.{Amount, Part, read, unread, subscript, index, divide, store, bytes_in, guard, read_count, set_count, count_down, guard_count, parts_of}
 use Rattle.diff_bounds.specs.declared.form.lin.Lin.{Lin}
 use Rattle.diff_bounds.specs.Matrix.{largest, IsWord, IsMatrix}
 use Rattle.transfer_ranges.specs.Receivers.{receiver_of}
@@ -94,6 +94,8 @@ module _ (p : Program) (a : Act) (x : Action) where
   pub changed_flat : (y : Part) (s : Seen) (wrote : List Extent) (pack : Pack) (m : List ℤ) → IsFlat (size_of pack) m → IsFlat (size_of pack) (changed_pack p a x y s wrote pack m)
   changed_flat (read place) s wrote pack m has = has
   changed_flat unread s wrote pack m has = has
+  changed_flat (subscript last k) s wrote pack m has = has
+  changed_flat (index last k count) s wrote pack m has = has
   changed_flat (divide d) s wrote pack m has = has
   changed_flat (store place mode y) s wrote pack m has =
       let t = with_taken p a x s in

@@ -21,8 +21,9 @@ use Rattle.cob_runs.specs.declared.action.Action.{Action}
 use Rattle.cob_runs.specs.Contents.{item_at, form_at, scale_of, scaled_by, occurrence_number}
 use Rattle.cob_runs.specs.Computing.{worth}
 use Rattle.cob_runs.specs.Moves.{number_of}
-use Rattle.cob_edge_parts.specs.Parts.{Amount, Part, read, unread, divide, store, bytes_in, guard, read_count, set_count, count_down, guard_count, parts_of}
-use Rattle.cob_edge_parts.specs.Meaning.{Moment, with_failure, divided_by_zero, is_left_alone, changed_in, divides_by, stored_bytes, stored_or_kept, Divides, Stores}
+use Rattle.cob_edge_parts.specs.Parts.{Amount, Part, read, unread, subscript, index, divide, store, bytes_in, guard, read_count, set_count, count_down, guard_count, parts_of}
+use Rattle.cob_edge_parts.specs.Meaning.{Moment, with_failure, divided_by_zero, is_left_alone, changed_in, divides_by, stored_bytes, stored_or_kept, Divides, Stores, skipped}
+use Rattle.cob_edge_parts.proofs.Subscripts.{subscript_leaves, index_leaves}
 use Rattle.cob_edge_parts.specs.Ranges.{ChangesWithin}
 use Rattle.cob_program.specs.Sum.{Atom}
 use Rattle.dom_laws.specs.Meaning.{Storage}
@@ -223,6 +224,8 @@ module _ (p : Program) (packs : List Pack) (statement : ℕ) (a : Act) (x : Acti
       → (keeps_receiver a x ≡ true → FailsAt p.layout y m) → (pack : Pack) (w : List ℤ) → IsPackOf p pack → size_of pack ≤ 8 → PackStands p.layout pack w (storage m.storage m.counts) → PackStands p.layout pack (changed_pack p a x y s r.wrote pack w) (storage n.storage n.counts)
   part_stands done rest (read place) s r m n e g h fails pack w of few k = quiet_stands p.layout pack w m n (of_same m n (read_moment p.layout m.by_zero place m n h.0)) k
   part_stands done rest unread s r m n e g h fails pack w of few k = absurd h.0
+  part_stands done rest (subscript last j) s r m n e g h fails pack w of few k = quiet_stands p.layout pack w m n (of_same m n (same_moment m n (subscript_leaves p.layout (skipped last m) j m n h.0))) k
+  part_stands done rest (index last j count) s r m n e g h fails pack w of few k = quiet_stands p.layout pack w m n (of_same m n (same_moment m n (index_leaves p.layout (skipped last m) j count m n h.0))) k
   part_stands done rest (divide d) s r m n e g h fails pack w of few k = quiet_stands p.layout pack w m n (divide_quiet p.layout (handled p a x) d m n h.0) k
   part_stands done rest (store place mode y) s r m n e g h fails pack w of few k =
       let q = cell_laws.places_ p statement a x done rest (store place mode y) e in
@@ -257,6 +260,10 @@ module _ (p : Program) (packs : List Pack) (statement : ℕ) (a : Act) (x : Acti
       → (keeps_receiver a x ≡ true → FailsAt p.layout y m) → IsTracked p.layout (written_by p a x y ++ r.wrote) n
   part_tracked done rest (read place) s r m n e g h fails = let q = of_same m n (read_moment p.layout m.by_zero place m n h.0) in quiet_tracked p.layout r.wrote m n q.storage_ q.first g.tracked
   part_tracked done rest unread s r m n e g h fails = absurd h.0
+  part_tracked done rest (subscript last j) s r m n e g h fails =
+      let q = of_same m n (same_moment m n (subscript_leaves p.layout (skipped last m) j m n h.0)) in quiet_tracked p.layout r.wrote m n q.storage_ q.first g.tracked
+  part_tracked done rest (index last j count) s r m n e g h fails =
+      let q = of_same m n (same_moment m n (index_leaves p.layout (skipped last m) j count m n h.0)) in quiet_tracked p.layout r.wrote m n q.storage_ q.first g.tracked
   part_tracked done rest (divide d) s r m n e g h fails = let q = divide_quiet p.layout (handled p a x) d m n h.0 in quiet_tracked p.layout r.wrote m n q.storage_ q.first g.tracked
   part_tracked done rest (store place mode y) s r m n e g h fails = by_keeping (keeps_receiver a x) refl
     where

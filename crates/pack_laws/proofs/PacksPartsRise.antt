@@ -12,7 +12,7 @@ use Rattle.cob_program.specs.Logic.{numbers, texts, member, numeric, always}
 use Rattle.cob_program.specs.Act.{Act, Program}
 use Rattle.cob_runs.specs.declared.action.Action.{Action}
 use Rattle.cob_runs.specs.Deciding.{below, equal, above, holds}
-use Rattle.cob_edge_parts.specs.Parts.{Part, read, unread, divide, store, bytes_in, guard, read_count, set_count, count_down, guard_count}
+use Rattle.cob_edge_parts.specs.Parts.{Part, read, unread, subscript, index, divide, store, bytes_in, guard, read_count, set_count, count_down, guard_count}
 use Rattle.diff_bounds.specs.declared.form.lin.Lin.{Lin}
 use Rattle.diff_bounds.specs.Matrix.{word, IsMatrix}
 use Rattle.diff_bounds.specs.Values.{AreLower}
@@ -118,6 +118,8 @@ module _ (p : Program) (a : Act) (x : Action) (s t : Seen) (under : SeenBelow p 
   pub changed_rises : (y : Part) (after : Seen) → step p a x y s ≡ Some after → AreLowerOff (size_of pack) (changed_pack p a x y s wrote pack m) (changed_pack p a x y t wrote pack n)
   changed_rises (read place) after e = lower
   changed_rises unread after e = lower
+  changed_rises (subscript last k) after e = lower
+  changed_rises (index last k count) after e = lower
   changed_rises (divide d) after e = lower
   changed_rises (store place mode y) after e =
       store_rises p a x (with_taken p a x s) (with_taken p a x t) (taken_rises rising p a x s t under) wrote place mode y pack m n is are all_lower

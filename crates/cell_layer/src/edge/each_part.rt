@@ -182,6 +182,11 @@ impl<'a> Walk<'a> {
                 true
             }
             EdgePart::Unread => false,
+            EdgePart::Subscript { last, item } => {
+                self.subscript(last, item);
+                true
+            }
+            EdgePart::Index { last, item, count } => self.index(last, item, count),
             EdgePart::Divide(divisor) => self.divide(divisor),
             EdgePart::Store { item, mode, amount } => self.put(item, mode, amount),
             EdgePart::Bytes { offset, length } => {
