@@ -2,7 +2,8 @@
 ghost use Rattle.std.specs.Prelude.{◌≡◌, ◌+◌, ◌++◌, ◌∷◌, [], ◌<◌, ◌≤◌, map, length, take, drop, IfOk, IfSome, OnOk, false};
 ghost use Rattle.cob_lex.specs.Marks.{undoubled, undoubled_one, content};
 ghost use Rattle.cob_lex.specs.Words.{raised};
-ghost use Rattle.cob_lex.specs.Canonical.{characters, written, digits, is_sign, sign, point, scale, number, tok_of, characters_of, token};
+ghost use Rattle.cob_lex.specs.Canonical.{written, digits, sign, point, scale, number, tok_of, characters_of, token};
+ghost use Rattle.cob_lex.specs.Characters.{characters, is_sign};
 
 use crate::cut::Shape;
 use crate::mark::{ch_at, half_behind, inside, is_digit, is_second, tail};
