@@ -19,7 +19,9 @@ pub mod Found
 pub mod Spelling
 pub mod EachToken
 pub mod Spellable
+pub mod KnownLemmas
 pub mod Scans
 pub mod Most
 pub mod TextLengths
 pub mod TokenCounts
+pub mod Examples

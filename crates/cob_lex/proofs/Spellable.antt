@@ -142,7 +142,7 @@ Good (Relation r) front = IsSpellable (tok_of (Relation r) front)
 Good Stop front = IsSpellable (tok_of Stop front)
 Good PictureString front = IsSpellable (tok_of PictureString front)
 
-some_same : (a b : Shape) → Some a ≡ Some b → a ≡ b
+pub some_same : (a b : Shape) → Some a ≡ Some b → a ≡ b
 some_same a b e = cc
 
 row_good : {free : Bool} {due : Due} {front behind : List Mark} {shape : Option Shape} → Stands free due front behind shape → (s : Shape) → shape ≡ Some s → Good s front

@@ -14,7 +14,9 @@ pub mod Spelled
 pub mod Pieces
 pub mod Rows
 pub mod Canonical
+pub mod Known
 pub mod Spellable
 pub mod Scan
 pub mod Printed
 pub mod Few
+pub mod Examples

@@ -8,6 +8,7 @@ ghost use Rattle.cob_lex.specs.Tokens.{IsText};
 ghost use Rattle.cob_lex.specs.Spelled.{Part, IsSpelled, IsStopped};
 ghost use Rattle.cob_lex.specs.Marks.{content};
 ghost use Rattle.cob_lex.specs.Few.{HasFewTokens};
+ghost use Rattle.cob_lex.specs.Examples.{AreRead, AreRefused};
 
 /// A law: a text is spelled in one way at most.
 pub fn one_spelling()
@@ -39,4 +40,10 @@ pub fn printed_tokens_are_read()
 /// A law: a source of at most 1,048,576 bytes has at most 2^27 canonical tokens.
 pub fn sources_have_few_tokens()
     ensures { HasFewTokens }
+{}
+
+/// A law: what some texts give, row by row.
+pub fn examples()
+    ensures read { AreRead }
+    ensures refused { AreRefused }
 {}

@@ -7,6 +7,7 @@ ghost use Rattle.std.specs.Prelude.{◌≡◌, map, Ok, Err, IfOk, IfErr};
 ghost use Rattle.cob_lex.specs.Canonical.{AreTokensOf, token, IfBadToken};
 ghost use Rattle.cob_lex.specs.Spelled.{IsStopped};
 ghost use Rattle.cob_lex.specs.Rows.{rewritten};
+ghost use Rattle.cob_lex.specs.Known.{AreKnown};
 ghost use Rattle.cob_lex.specs.declared.LexEnd.TheVariants.{Memory};
 
 mod cut;
@@ -25,7 +26,7 @@ mod word;
 
 use cob_tree::Token;
 pub use laws::{
-    canonical_tokens_are_spellable, one_spelling, one_stop, printed_tokens_are_read,
+    canonical_tokens_are_spellable, examples, one_spelling, one_stop, printed_tokens_are_read,
     sources_have_few_tokens, texts_stand_doubled,
 };
 use piece::{Piece, raw_tokens};
@@ -60,7 +61,9 @@ impl From<AllocError> for LexEnd {
     }
 }
 
+#[tactic(auto, using(crate::proofs::KnownLemmas::rewritten_known))]
 fn finished(alloc: Global, text: &[Mark], raw: &[Piece]) -> Result<Vec<Token>, LexEnd>
+    requires { AreKnown text.now raw.now }
     ensures ok { IfOk result (λ v. v.items ≡ map (token text.now) (rewritten raw.now)) }
     ensures err { IfErr result (λ e. e ≡ Memory) }
 {
@@ -74,7 +77,7 @@ fn finished(alloc: Global, text: &[Mark], raw: &[Piece]) -> Result<Vec<Token>, L
 ///
 /// Own to this reader: `'` is a quotation mark like `"`; ID, COMP-3, COMPUTATIONAL-3 and RECORDING
 /// are words of the language; an optional word is dropped wherever it stands.
-#[tactic(auto, using(crate::proofs::Spelling::tokens_are))]
+#[tactic(auto, using(crate::proofs::Spelling::tokens_are, crate::proofs::KnownLemmas::raw_known))]
 pub fn tokens_of(alloc: Global, text: &[Mark]) -> Result<Vec<Token>, LexEnd>
     ensures tokens { IfOk result (λ tokens. AreTokensOf text.now tokens.items) }
     ensures bad_token { IfErr result (λ end. IfBadToken end (IsStopped text.now)) }
