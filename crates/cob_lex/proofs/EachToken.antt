@@ -26,6 +26,9 @@ use Rattle.cob_lex.specs.Canonical.{characters_of}
 abbrev pub HoldsOfRows : (Shape → List Mark → Type 0) → Type 0
 HoldsOfRows P = (free : Bool) (due : Due) (front behind : List Mark) (shape : Shape) → Stands free due front behind (Some shape) → P shape front
 
+pub same_shape : (a b : Shape) → Some a ≡ Some b → a ≡ b
+same_shape a b e = cc
+
 -- what rewriting makes of a token keeps it
 pub record IsKept (P : Shape → List Mark → Type 0) : Type 0 where
   pub word : (k : Keyword) (shape : Shape) (front : List Mark) → P shape front → P (Word (Some k)) front

@@ -11,8 +11,7 @@ use Rattle.cob_lex.specs.Pieces.{raw_tokens}
 use Rattle.cob_lex.specs.Rows.{head, rewritten}
 use Rattle.cob_lex.specs.Known.{IsKnownWord, IsKnown, IsKnownPiece, AreKnown}
 use Rattle.cob_lex.proofs.Spelling.{spelled_by}
-use Rattle.cob_lex.proofs.Spellable.{some_same}
-use Rattle.cob_lex.proofs.EachToken.{HoldsOfRows, IsKept, raw_hold, rewritten_hold}
+use Rattle.cob_lex.proofs.EachToken.{HoldsOfRows, same_shape, IsKept, raw_hold, rewritten_hold}
 
 word_known : (front : List Mark) (word : Option Keyword) → spelled_keyword front ≡ word → IsKnownWord word front
 word_known front None e = e
@@ -20,14 +19,14 @@ word_known front (Some keyword) e = tt
 
 row_known : {free : Bool} {due : Due} {front behind : List Mark} {shape : Option Shape} → Stands free due front behind shape → (s : Shape) → shape ≡ Some s → IsKnown s front
 row_known {front = front} (a_separator e) s same = absurd cc
-row_known {front = front} (a_word is e) s same = subst (λ (o : Shape). IsKnown o front) (some_same _ s same) (word_known front (spelled_keyword front) refl)
-row_known {front = front} (a_number is may e) s same = subst (λ (o : Shape). IsKnown o front) (some_same _ s same) tt
-row_known {front = front} (a_text is e) s same = subst (λ (o : Shape). IsKnown o front) (some_same _ s same) tt
-row_known {front = front} (a_mark is e) s same = subst (λ (o : Shape). IsKnown o front) (some_same _ s same) tt
-row_known {front = front} (a_relation r is e) s same = subst (λ (o : Shape). IsKnown o front) (some_same _ s same) tt
-row_known {front = front} (a_stop is e) s same = subst (λ (o : Shape). IsKnown o front) (some_same _ s same) tt
-row_known {front = front} (the_word_is is e) s same = subst (λ (o : Shape). IsKnown o front) (some_same _ s same) tt
-row_known {front = front} (a_picture is e d) s same = subst (λ (o : Shape). IsKnown o front) (some_same _ s same) tt
+row_known {front = front} (a_word is e) s same = subst (λ (o : Shape). IsKnown o front) (same_shape _ s same) (word_known front (spelled_keyword front) refl)
+row_known {front = front} (a_number is may e) s same = subst (λ (o : Shape). IsKnown o front) (same_shape _ s same) tt
+row_known {front = front} (a_text is e) s same = subst (λ (o : Shape). IsKnown o front) (same_shape _ s same) tt
+row_known {front = front} (a_mark is e) s same = subst (λ (o : Shape). IsKnown o front) (same_shape _ s same) tt
+row_known {front = front} (a_relation r is e) s same = subst (λ (o : Shape). IsKnown o front) (same_shape _ s same) tt
+row_known {front = front} (a_stop is e) s same = subst (λ (o : Shape). IsKnown o front) (same_shape _ s same) tt
+row_known {front = front} (the_word_is is e) s same = subst (λ (o : Shape). IsKnown o front) (same_shape _ s same) tt
+row_known {front = front} (a_picture is e d) s same = subst (λ (o : Shape). IsKnown o front) (same_shape _ s same) tt
 
 rows_known : HoldsOfRows IsKnown
 rows_known free due front behind shape h = row_known h shape refl

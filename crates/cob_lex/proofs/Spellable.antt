@@ -41,7 +41,7 @@ use Rattle.cob_lex.proofs.RowsCut.{one_character}
 use Rattle.cob_lex.proofs.Runs.{count_on, weight, or_first}
 use Rattle.cob_lex.proofs.RunTests.{is_the_word}
 use Rattle.cob_lex.proofs.CutOff.{some_digit}
-use Rattle.cob_lex.proofs.EachToken.{HoldsOfRows, IsKept, HoldsOfAll, raw_hold, rewritten_hold}
+use Rattle.cob_lex.proofs.EachToken.{HoldsOfRows, same_shape, IsKept, HoldsOfAll, raw_hold, rewritten_hold}
 
 -- ---- reserved words
 
@@ -142,19 +142,16 @@ Good (Relation r) front = IsSpellable (tok_of (Relation r) front)
 Good Stop front = IsSpellable (tok_of Stop front)
 Good PictureString front = IsSpellable (tok_of PictureString front)
 
-pub some_same : (a b : Shape) → Some a ≡ Some b → a ≡ b
-some_same a b e = cc
-
 row_good : {free : Bool} {due : Due} {front behind : List Mark} {shape : Option Shape} → Stands free due front behind shape → (s : Shape) → shape ≡ Some s → Good s front
 row_good {front = front} (a_separator e) s same = absurd cc
-row_good {front = front} (a_word is e) s same = subst (λ (o : Shape). Good o front) (some_same _ s same) (record { shape = Word (spelled_keyword front); front = front; own = (is, refl); token = refl })
-row_good {front = front} (a_number is may e) s same = subst (λ (o : Shape). Good o front) (some_same _ s same) is
-row_good {front = front} (a_text is e) s same = subst (λ (o : Shape). Good o front) (some_same _ s same) (record { shape = Literal; front = front; own = is; token = refl })
-row_good {front = front} (a_mark is e) s same = subst (λ (o : Shape). Good o front) (some_same _ s same) (record { shape = Symbol; front = front; own = is; token = refl })
-row_good {front = front} (a_relation r is e) s same = subst (λ (o : Shape). Good o front) (some_same _ s same) (record { shape = Relation r; front = front; own = is; token = refl })
-row_good {front = front} (a_stop is e) s same = subst (λ (o : Shape). Good o front) (some_same _ s same) (record { shape = Stop; front = front; own = is; token = refl })
-row_good {front = front} (the_word_is is e) s same = subst (λ (o : Shape). Good o front) (some_same _ s same) (record { shape = Word _; front = front; own = (is.word, sym is.spelled); token = refl })
-row_good {front = front} (a_picture is e d) s same = subst (λ (o : Shape). Good o front) (some_same _ s same) (record { shape = PictureString; front = front; own = is; token = refl })
+row_good {front = front} (a_word is e) s same = subst (λ (o : Shape). Good o front) (same_shape _ s same) (record { shape = Word (spelled_keyword front); front = front; own = (is, refl); token = refl })
+row_good {front = front} (a_number is may e) s same = subst (λ (o : Shape). Good o front) (same_shape _ s same) is
+row_good {front = front} (a_text is e) s same = subst (λ (o : Shape). Good o front) (same_shape _ s same) (record { shape = Literal; front = front; own = is; token = refl })
+row_good {front = front} (a_mark is e) s same = subst (λ (o : Shape). Good o front) (same_shape _ s same) (record { shape = Symbol; front = front; own = is; token = refl })
+row_good {front = front} (a_relation r is e) s same = subst (λ (o : Shape). Good o front) (same_shape _ s same) (record { shape = Relation r; front = front; own = is; token = refl })
+row_good {front = front} (a_stop is e) s same = subst (λ (o : Shape). Good o front) (same_shape _ s same) (record { shape = Stop; front = front; own = is; token = refl })
+row_good {front = front} (the_word_is is e) s same = subst (λ (o : Shape). Good o front) (same_shape _ s same) (record { shape = Word _; front = front; own = (is.word, sym is.spelled); token = refl })
+row_good {front = front} (a_picture is e d) s same = subst (λ (o : Shape). Good o front) (same_shape _ s same) (record { shape = PictureString; front = front; own = is; token = refl })
 
 rows_good : HoldsOfRows Good
 rows_good free due front behind shape h = row_good h shape refl

@@ -52,7 +52,6 @@ impl Word {
     }
 
     /// The reserved word that it is.
-    #[tactic(auto, using(crate::proofs::KeywordLemmas::keyword_of-text))]
     pub fn keyword(&self) -> Option<Keyword>
         ensures { result ≡ keyword_of self.now }
     {

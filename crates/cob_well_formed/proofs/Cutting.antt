@@ -9,7 +9,7 @@ use Rattle.cob_lex.specs.declared.cut.Due.{Due}
 use Rattle.cob_lex.specs.Characters.{is_digit, is_sign}
 use Rattle.cob_lex.specs.WordTests.{digits_in}
 use Rattle.cob_lex.specs.Tokens.{IsNumber, without_sign, with_sign, Stands, a_separator, a_word, a_number, a_text, a_mark, a_relation, a_stop, the_word_is, a_picture}
-use Rattle.cob_lex.proofs.EachToken.{HoldsOfRows, IsKept}
+use Rattle.cob_lex.proofs.EachToken.{HoldsOfRows, same_shape, IsKept}
 
 -- at most 18 digits among the characters of a number, and room for one more where it gets a zero
 abbrev pub HasFewDigits : Shape → List Mark → Type 0
@@ -33,19 +33,16 @@ number_few front (with_sign {m = m} {front = digits} sign is) =
     let few = is.few in
     omega (arith, counted, none, few)
 
-some_same : (a b : Shape) → Some a ≡ Some b → a ≡ b
-some_same a b e = cc
-
 row_few : {free : Bool} {due : Due} {front behind : List Mark} {shape : Option Shape} → Stands free due front behind shape → (s : Shape) → shape ≡ Some s → HasFewDigits s front
 row_few (a_separator e) s same = absurd cc
-row_few {front = front} (a_word is e) s same = subst (λ (o : Shape). HasFewDigits o front) (some_same _ s same) tt
-row_few {front = front} (a_number is may e) s same = subst (λ (o : Shape). HasFewDigits o front) (some_same _ s same) (number_few front is)
-row_few {front = front} (a_text is e) s same = subst (λ (o : Shape). HasFewDigits o front) (some_same _ s same) tt
-row_few {front = front} (a_mark is e) s same = subst (λ (o : Shape). HasFewDigits o front) (some_same _ s same) tt
-row_few {front = front} (a_relation r is e) s same = subst (λ (o : Shape). HasFewDigits o front) (some_same _ s same) tt
-row_few {front = front} (a_stop is e) s same = subst (λ (o : Shape). HasFewDigits o front) (some_same _ s same) tt
-row_few {front = front} (the_word_is is e) s same = subst (λ (o : Shape). HasFewDigits o front) (some_same _ s same) tt
-row_few {front = front} (a_picture is e d) s same = subst (λ (o : Shape). HasFewDigits o front) (some_same _ s same) tt
+row_few {front = front} (a_word is e) s same = subst (λ (o : Shape). HasFewDigits o front) (same_shape _ s same) tt
+row_few {front = front} (a_number is may e) s same = subst (λ (o : Shape). HasFewDigits o front) (same_shape _ s same) (number_few front is)
+row_few {front = front} (a_text is e) s same = subst (λ (o : Shape). HasFewDigits o front) (same_shape _ s same) tt
+row_few {front = front} (a_mark is e) s same = subst (λ (o : Shape). HasFewDigits o front) (same_shape _ s same) tt
+row_few {front = front} (a_relation r is e) s same = subst (λ (o : Shape). HasFewDigits o front) (same_shape _ s same) tt
+row_few {front = front} (a_stop is e) s same = subst (λ (o : Shape). HasFewDigits o front) (same_shape _ s same) tt
+row_few {front = front} (the_word_is is e) s same = subst (λ (o : Shape). HasFewDigits o front) (same_shape _ s same) tt
+row_few {front = front} (a_picture is e d) s same = subst (λ (o : Shape). HasFewDigits o front) (same_shape _ s same) tt
 
 pub rows_few : HoldsOfRows HasFewDigits
 rows_few free due front behind shape h = row_few h shape refl
