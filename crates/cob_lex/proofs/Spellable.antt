@@ -22,10 +22,10 @@ use Rattle.cob_lex.specs.declared.cut.Shape.TheVariants.{Word, Number, Padded, L
 use Rattle.cob_lex.specs.declared.cut.Due.{Due}
 use Rattle.cob_lex.specs.declared.cut.Due.TheVariants.{Nothing, BehindPic, BehindIs}
 use Rattle.cob_lex.specs.declared.piece.Piece.{Piece}
-use Rattle.cob_lex.specs.Characters.{ch_at, last_ch, characters, is_digit, is_gap, goes_on, ends_rightly}
+use Rattle.cob_lex.specs.Characters.{ch_at, last_ch, characters, is_digit, is_sign, is_gap, goes_on}
 use Rattle.cob_lex.specs.Words.{raised, spelled_keyword}
 use Rattle.cob_lex.specs.WordTests.{is_word}
-use Rattle.cob_lex.specs.Tokens.{IsNumber, IsUnsigned, without_sign, with_sign, is_decimal_mark, is_digit_mark, is_point, written_relation, is_strict, RelationEnds, MarkEnds, NumberFollows, IsFollows, Stands, a_separator, a_word, a_number, a_text, a_mark, a_relation, a_stop, the_word_is, a_picture, is_opening, due_after}
+use Rattle.cob_lex.specs.Tokens.{IsNumber, IsUnsigned, without_sign, with_sign, is_decimal_mark, is_digit_mark, is_point, written_relation, MarkEnds, NumberFollows, IsFollows, Stands, a_separator, a_word, a_number, a_text, a_mark, a_relation, a_stop, the_word_is, a_picture, is_opening, due_after}
 use Rattle.cob_lex.specs.Spelled as spelled
 use Rattle.cob_lex.specs.Spelled.{Part, StandBehind, pieces, IsSpelled}
 use Rattle.cob_lex.specs.Rows.{rewritten}
@@ -35,7 +35,7 @@ use Rattle.cob_lex.specs.Text.{numbered_lines}
 use Rattle.cob_lex.specs.Plain.{IsPlain, plain_text}
 use Rattle.cob_lex.specs.Scan.{Tokens, ScansBy, Scans}
 use Rattle.cob_lex.specs.Spellable.{IsOwn, IsSpellable, IsSpellableToken, AreSpellable}
-use Rattle.cob_lex.specs.Printed.{ends_before_stop, is_letter_i, IsSpaced, IsPlaced, IsPrinted, tokens_of}
+use Rattle.cob_lex.specs.Printed.{is_letter_i, IsPlaced, IsPrinted, tokens_of}
 use Rattle.cob_lex.proofs.PlainLemmas.{plain_source}
 use Rattle.cob_lex.proofs.RowsCut.{one_character}
 use Rattle.cob_lex.proofs.Runs.{count_on, weight, or_first}
@@ -180,14 +180,6 @@ canonical_spellable text tokens h =
 
 -- ---- printed texts
 
-ends_so : (shape : Shape) (behind : List Mark) → IsSpaced shape behind → ends_rightly behind ≡ true
-ends_so shape behind (inl e) = rw e refl
-ends_so shape behind (inr (b, e, f)) = rw (e, f) refl
-
-space_behind : (shape : Shape) (behind : List Mark) → ends_before_stop shape ≡ false → IsSpaced shape behind → ch_at behind 0 ≡ 32
-space_behind shape behind none (inl e) = e
-space_behind shape behind none (inr (b, e, f)) = absurd cc
-
 no_number_at_space : (behind : List Mark) → ch_at behind 0 ≡ 32 → NumberFollows behind → ⊥
 no_number_at_space behind space h = by_first h.number h.is (subst (λ (t : List Mark). ch_at t 0 ≡ 32) h.parts space)
   where
@@ -201,8 +193,14 @@ no_number_at_space behind space h = by_first h.number h.is (subst (λ (t : List 
         let none : is_decimal_mark m ≡ false = no_decimal m.ch e in
         cc
 
-mark_ends : (free : Bool) (ch : ℕ) (behind : List Mark) → ch_at behind 0 ≡ 32 → MarkEnds free ch behind
-mark_ends free ch behind e = record { hyphen = λ h. rw e refl; plus = λ h f. no_number_at_space behind e }
+mark_ends : (free : Bool) (ch : ℕ) (behind : List Mark) → (is_sign ch ≡ true → ch_at behind 0 ≡ 32) → MarkEnds free ch behind
+mark_ends free ch behind spaced = record {
+  hyphen = λ h. nothing_on behind (spaced (rw h refl));
+  plus = λ h f. no_number_at_space behind (spaced (rw h refl));
+}
+  where
+    nothing_on : (behind : List Mark) → ch_at behind 0 ≡ 32 → goes_on behind ≡ false
+    nothing_on behind e = rw e refl
 
 -- the word IS begins with an I
 capital_i : (ch : ℕ) → to_ascii_uppercase ch ≡ 73 → is_letter_i ch ≡ true
@@ -224,24 +222,30 @@ no_word_is (m ∷ front) behind some none h =
     let there : is_letter_i m.ch ≡ true = subst (λ (t : List Mark). is_letter_i (ch_at t 0) ≡ true) (sym h.parts) (begins_with_i h.word h.rest h.is.spelled) in
     cc
 
+space_gap : (m : Mark) (behind : List Mark) → m.ch ≡ 32 → is_gap (m ∷ behind) ≡ true
+space_gap m behind e = rw e refl
+
+semicolon_gap : (m : Mark) (behind : List Mark) → m.ch ≡ 59 → ch_at behind 0 ≡ 32 → is_gap (m ∷ behind) ≡ true
+semicolon_gap m behind e space = rw (e, space) refl
+
 placed : (free : Bool) (due : Due) (shape : Option Shape) (front behind : List Mark) → IsPlaced free due shape front behind → Stands free due front behind shape
-placed free due None front behind h =
+placed free due None front behind (inl h) =
     let one = one_character front 32 h in
     subst (λ (f : List Mark). Stands free due f behind None) (sym one.1) (a_separator (space_gap one.0 behind one.2))
-  where
-    space_gap : (m : Mark) (behind : List Mark) → m.ch ≡ 32 → is_gap (m ∷ behind) ≡ true
-    space_gap m behind e = rw e refl
+placed free due None front behind (inr (h, space)) =
+    let one = one_character front 59 h in
+    subst (λ (f : List Mark). Stands free due f behind None) (sym one.1) (a_separator (semicolon_gap one.0 behind one.2 space))
 placed free Nothing (Some (Word word)) front behind ((is, word_is), spaced) =
-    subst (λ (w : Option Keyword). Stands free Nothing front behind (Some (Word w))) (sym word_is) (a_word is (ends_so (Word word) behind spaced))
-placed free Nothing (Some Number) front behind (is, may, spaced) = a_number is may (ends_so Number behind spaced)
+    subst (λ (w : Option Keyword). Stands free Nothing front behind (Some (Word w))) (sym word_is) (a_word is spaced)
+placed free Nothing (Some Number) front behind (is, may, spaced) = a_number is may spaced
 placed free Nothing (Some Padded) front behind (is, spaced) = absurd is
-placed free Nothing (Some Literal) front behind (is, spaced) = a_text is (ends_so Literal behind spaced)
-placed free Nothing (Some Symbol) front behind (is, spaced) = a_mark is (mark_ends free (ch_at front 0) behind (space_behind Symbol behind refl spaced))
-placed free Nothing (Some (Relation r)) front behind (is, spaced) = let e = space_behind (Relation r) behind refl spaced in a_relation r is (λ strict. rw e refl)
-placed free Nothing (Some Stop) front behind (is, spaced) = a_stop is (space_behind Stop behind refl spaced)
+placed free Nothing (Some Literal) front behind (is, spaced) = a_text is spaced
+placed free Nothing (Some Symbol) front behind (is, spaced) = a_mark is (mark_ends free (ch_at front 0) behind spaced)
+placed free Nothing (Some (Relation r)) front behind (is, spaced) = a_relation r is spaced
+placed free Nothing (Some Stop) front behind (is, spaced) = a_stop is spaced
 placed free Nothing (Some PictureString) front behind h = absurd h
 placed free BehindPic (Some (Word word)) front behind (is, word_is, spaced) =
-    subst (λ (w : Option Keyword). Stands free BehindPic front behind (Some (Word w))) (sym (word_is ∙ is.spelled)) (the_word_is is (ends_so (Word word) behind spaced))
+    subst (λ (w : Option Keyword). Stands free BehindPic front behind (Some (Word w))) (sym (word_is ∙ is.spelled)) (the_word_is is spaced)
 placed free BehindPic (Some Number) front behind h = absurd h
 placed free BehindPic (Some Padded) front behind h = absurd h
 placed free BehindPic (Some Literal) front behind h = absurd h

@@ -32,7 +32,7 @@ pub fn canonical_tokens_are_spellable()
 {}
 
 /// A law: a source of ordinary lines, none blank and none with a literal open at its end, whose text is printed tokens
-/// with spaces between them has these tokens.
+/// and the gaps between them has these tokens.
 pub fn printed_tokens_are_read()
     ensures { PrintedAreRead }
 {}
