@@ -69,7 +69,7 @@ module _ (p : Program) (k : ℕ → ℕ → LaidParas) where
         n ≡ first_of_list (lay_list p k ss) list_at next → n ≡ first_of_whens (lay_whens p k whens) at other next
     at_body list_at n ss e on body is-n =
         let list = lay_list p k (when_body w) in
-        let rest_first = λ m. first_of_whens (lay_whens p k rest) (m + list_size list) other next in
+        let rest_first : ℕ → ℕ = λ m. first_of_whens (lay_whens p k rest) (m + list_size list) other next in
         is-n ∙ ap (λ ys. first_of_list (lay_list p k ys) list_at next) body ∙ ap (λ m. first_of_list list m next) on
         ∙ ap (λ v. led v (first_of_list list (at + tests_among (when_tests w)) next) (rest_first (at + tests_among (when_tests w)))) (sym e)
         ∙ whens_led
