@@ -153,6 +153,8 @@ pub(crate) fn writes_operands(program: &Program, act: &Act, action: Action, part
         ),
         EdgePart::Read(_)
         | EdgePart::Unread
+        | EdgePart::Subscript { .. }
+        | EdgePart::Index { .. }
         | EdgePart::Divide(_)
         | EdgePart::Guard { .. }
         | EdgePart::ReadCount(_)
