@@ -61,6 +61,7 @@ use crate::forms::sides::divisor_form;
 use crate::pack::closing::close_all;
 use crate::pack::edge::{PackEdge, PackState};
 use crate::pack::ends::{end_is_shown, high_end_fits, low_end_fits};
+use crate::pack::indexing::{Indexed, index_clears};
 use crate::pack::matrix_bounds::is_apart;
 use crate::pack::moment::{Matrices, Moment, Slot};
 use crate::pack::plans::{PackPlan, view_of, words_for};
@@ -423,21 +424,26 @@ fn is_shown(moment: &Moment, matrices: &Matrices, part: EdgePart, fault: Kind) -
     match part {
         EdgePart::Divide(divisor) => match fault {
             Kind::Zero => is_apart_in_some(&moment.items, matrices.plans, matrices.words, divisor),
-            Kind::Size | Kind::Class | Kind::Truncation => false,
+            Kind::Size | Kind::Class | Kind::Truncation | Kind::Subscript => false,
+        },
+        EdgePart::Index { item, count, .. } => match fault {
+            Kind::Subscript => index_clears(&moment.items, matrices, Indexed { item, count }),
+            Kind::Size | Kind::Zero | Kind::Class | Kind::Truncation => false,
         },
         EdgePart::Store { item, mode, amount } => {
             store_clears(moment, matrices, item, mode, amount)
         }
         EdgePart::SetCount { .. } => match fault {
             Kind::Size => set_clears(moment, matrices, part),
-            Kind::Zero | Kind::Class | Kind::Truncation => false,
+            Kind::Zero | Kind::Class | Kind::Truncation | Kind::Subscript => false,
         },
         EdgePart::CountDown(number) => match fault {
             Kind::Size => down_clears(moment, matrices, number),
-            Kind::Zero | Kind::Class | Kind::Truncation => false,
+            Kind::Zero | Kind::Class | Kind::Truncation | Kind::Subscript => false,
         },
         EdgePart::Read(_)
         | EdgePart::Unread
+        | EdgePart::Subscript { .. }
         | EdgePart::Bytes { .. }
         | EdgePart::Guard { .. }
         | EdgePart::ReadCount(_)
@@ -487,6 +493,7 @@ fn kinds_cleared(moment: &Moment, matrices: &Matrices, part: EdgePart, by_cells:
         truncation: clears(moment, matrices, part, by_cells, Kind::Truncation),
         zero: clears(moment, matrices, part, by_cells, Kind::Zero),
         class: clears(moment, matrices, part, by_cells, Kind::Class),
+        subscript: clears(moment, matrices, part, by_cells, Kind::Subscript),
     }
 }
 
