@@ -84,7 +84,6 @@ module _ (p : Program) (packs : List Pack) where
   down_cleared n s r =
       range_shown p s.cells s.common r.wrote (count_down n) Trunc counter packs r.packs (lowered (units_of p.layout (homes_of p) s.cells (of_count n)))
 
-module _ (p : Program) (packs : List Pack) where
   abbrev pub index_cleared : ℕ → ℕ → Seen → Seen2 → Kind → Bool
   index_cleared k count s r kind.Subscript =
       index_shown p s.cells k count packs r.packs (units_of p.layout (homes_of p) s.cells (of_item k))
