@@ -1,5 +1,5 @@
 -- What is known of cells where a run begins is true of first storage, and lies in the cells' own ranges.
-use Rattle.std.proofs.Common.{◌≡◌, ◌<◌, ◌⊎◌, inl, inr, ℕ, zero, suc, Bool, true, false, if◌then◌else◌, List, [], ◌∷◌, map, length, Option, Some, None, ℤ, bytes_eq, refl, sym, ap, subst, ◌∙◌, arith}
+use Rattle.std.proofs.Common.{◌≡◌, ◌<◌, ◌⊎◌, inl, inr, ℕ, zero, suc, Bool, true, false, if◌then◌else◌, List, [], ◌∷◌, map, length, Option, Some, None, ℤ, refl, sym, ap, subst, ◌∙◌, arith}
 use Rattle.std.specs.Option.{option_map_or}
 use Rattle.std.proofs.Props.{props}
 use Rattle.std.proofs.Math.Logic.{∥∥₁_elim}
@@ -31,7 +31,7 @@ use Rattle.cob_graph.specs.declared.homes.Home.{Home}
 use Rattle.cob_graph.specs.declared.homes.Home.TheVariants.{Item as of_item, Count as of_count}
 use Rattle.cob_graph.specs.Homes.{is_home, homes_of}
 use Rattle.cell_steps.specs.OwnRanges.{form_range, home_range, owns}
-use Rattle.cell_steps.specs.Storages.{known_of, occurrences_of, value_at, KnownStands, HomeStands, StandsIn}
+use Rattle.cell_steps.specs.Storages.{known_of, value_at, KnownStands, HomeStands, StandsIn}
 use Rattle.cell_laws.proofs.CellLists.{home_is}
 use Rattle.cell_laws.proofs.HomesStand.{stands_above}
 use Rattle.cell_laws.proofs.FirstBytes.{over_length, filled_bytes_stand}

@@ -16,7 +16,7 @@ use Rattle.graph_runs.specs.Places.{edge_at, IsOf, DoesAt}
 use Rattle.graph_runs.specs.Doing.{Begins, Acts, MeetsAt}
 use Rattle.cob_graph.specs.Homes.{homes_of}
 use Rattle.cell_steps.specs.OwnRanges.{owns}
-use Rattle.cell_steps.specs.Storages.{storage, value_at, StandsIn, ElementStands}
+use Rattle.cell_steps.specs.Storages.{storage, StandsIn, ElementStands}
 use Rattle.cell_steps.specs.Edges.{post_cells, clears_edge}
 use Rattle.cell_laws.specs.Entry.{entry_cells}
 use Rattle.cell_laws.specs.Layer.{statement_at, row_for, left, edge_cells, post_at, edge_clears, clears_at, cell_flow, cell_meaning}

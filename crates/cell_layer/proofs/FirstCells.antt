@@ -26,7 +26,7 @@ use Rattle.cob_graph.specs.Numbers.{item_of, items_of}
 use Rattle.cob_graph.proofs.Parallel.{cells_same}
 use Rattle.interval_domain.specs.Known.{Known, IsOrdered, joined_known}
 use Rattle.interval_domain.specs.Rows as rows
-use Rattle.interval_domain.specs.Rows.{IsReached, words_in, cells_in, row_of, row_from}
+use Rattle.interval_domain.specs.Rows.{IsReached, words_in, cells_in, row_from}
 use Rattle.cell_laws.specs.Entry.{values_over, first_number, point, least_of, entry_known, entry_cells}
 use Rattle.cell_layer.specs.Firsts.{AreOver, bytes_in, number_of, first_known, first_cells}
 

@@ -22,7 +22,7 @@ use Rattle.interval_domain.specs.Rows as rows
 use Rattle.cell_steps.specs.Cells.{forgotten, is_in_extent, is_beside}
 use Rattle.cell_laws.proofs.CellLists.{home_is}
 use Rattle.cell_layer.specs.ProgramRows.{IsRowOf}
-use Rattle.cell_layer.specs.Forgetting.{has_bytes, forgotten_by, marks_of, cell_marks, all_marks, lists_in, AreMarks}
+use Rattle.cell_layer.specs.Forgetting.{has_bytes, forgotten_by, marks_of, cell_marks, lists_in, AreMarks}
 use Rattle.cell_layer.proofs.Forgotten.{by_marks, forgotten_of, item_got, as_wide}
 use Rattle.cell_layer.proofs.FirstCells.{homes_many}
 

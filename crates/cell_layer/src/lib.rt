@@ -26,7 +26,7 @@ pub use row::beside::marks_of_cells;
 pub use row::counters::count_units;
 pub use row::forgetting::bytes_from;
 pub use row::items::{KnownItems, item_is_numeric, item_range};
-pub use row::pictures::is_table;
 pub use row::knowing::{known_of_count, known_of_item};
+pub use row::pictures::is_table;
 pub use row::scales::Taken;
 pub use row::taking::taken;

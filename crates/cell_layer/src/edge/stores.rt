@@ -121,11 +121,7 @@ fn receiver_known(
     ensures ordered { IsOrdered result }
 {
     let old = known_of_item(program, cells, row, place);
-    kept_or_new(
-        keeps,
-        old,
-        stored_known(&program.layout, place, old, units),
-    )
+    kept_or_new(keeps, old, stored_known(&program.layout, place, old, units))
 }
 
 // ---- the row

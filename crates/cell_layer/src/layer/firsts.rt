@@ -8,7 +8,6 @@ ghost use Rattle.cob_runs.specs.Contents.{area, form_at};
 ghost use Rattle.cob_graph.specs.Graphs.{cells_of as program_cells};
 ghost use Rattle.cob_store.specs.WellFormed.{HasWellFormedItems, IsWellFormedForm, IsShort};
 ghost use Rattle.cob_graph.specs.declared.homes.Home.TheVariants.{Item as of_item};
-ghost use Rattle.interval_domain.specs.Known.{IsOrdered};
 ghost use Rattle.interval_domain.specs.Rows.{IsReached, cells_of, row_of};
 ghost use Rattle.cell_laws.specs.Entry.{values_over, least_of, entry_known, entry_cells};
 ghost use Rattle.cell_layer.specs.Firsts.{read_known, number_of, known_at, AreOver, first_known, first_cells};

@@ -49,11 +49,7 @@ fn cell_marks(
     }
 }
 
-fn all_marks(
-    alloc: Global,
-    items: &[Item],
-    cells: &[Cell],
-) -> Result<Vec<Vec<bool>>, AllocError>
+fn all_marks(alloc: Global, items: &[Item], cells: &[Cell]) -> Result<Vec<Vec<bool>>, AllocError>
     requires within { All (λ c. IfSome c.item (λ place. place < length items.now)) cells.now }
     ensures { IfOk result (λ rows. lists_in rows.items ≡ all_marks items.now cells.now) }
 {

@@ -13,7 +13,8 @@ ghost use Rattle.diff_steps.specs.Moments.{is_written, item_bytes};
 ghost use Rattle.diff_layer.specs.PackWriting.{sender_items, are_written};
 ghost use Rattle.diff_layer.specs.Writing.{product_items, items_of_amount, edge_items, part_bytes};
 
-use crate::pack::gone::{bytes_from, item_at};
+use crate::pack::gone::item_at;
+use cell_layer::bytes_from;
 use cob_data::{Extent, Layout, Sender, share_extents};
 use cob_program::{Act, Atom, Factor, Part, Program, Sum};
 use cob_runs::Action;

@@ -13,11 +13,12 @@ ghost use Rattle.diff_layer.specs.Views.{plain_pack, HasUnit};
 
 use crate::forms::view::PackView;
 use crate::pack::counters::{count_down, set_count};
-use crate::pack::gone::{Gone, bytes_from, forget};
+use crate::pack::gone::{Gone, forget};
 use crate::pack::guards::guard;
 use crate::pack::moment::Moment;
 use crate::pack::plans::{PackPlan, view_of};
 use crate::pack::stores::store;
+use cell_layer::bytes_from;
 use edge_parts::EdgePart;
 
 // what a part makes of the matrix of a pack

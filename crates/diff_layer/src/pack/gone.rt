@@ -6,7 +6,7 @@ ghost use Rattle.cob_runs.specs.Contents.{item_at};
 ghost use Rattle.diff_bounds.specs.Matrix.{IsMatrix};
 ghost use Rattle.cob_graph.specs.declared.homes.Home.TheVariants.{Item as of_item};
 ghost use Rattle.cob_graph.specs.Homes.{is_home};
-ghost use Rattle.cell_steps.specs.Cells.{is_in_extent, bytes_from, is_beside};
+ghost use Rattle.cell_steps.specs.Cells.{is_in_extent, is_beside};
 ghost use Rattle.diff_steps.specs.Stores.{forgotten_cells};
 ghost use Rattle.diff_layer.specs.Gone.{is_gone};
 
@@ -30,18 +30,6 @@ pub(crate) fn item_at(layout: &Layout, place: u32) -> Option<&Item>
     ensures { option_copied result ≡ item_at layout.now place }
 {
     layout.items.get().get(place as usize)
-}
-
-/// So many bytes from an offset on.
-pub(crate) fn bytes_from(offset: u32, length: u32) -> Extent
-    ensures { result ≡ bytes_from offset length }
-{
-    Extent {
-        offset,
-        length,
-        times: 1,
-        stride: 0,
-    }
 }
 
 // Whether two extents share bytes, by the occurrences of the first. A pack's cell has one.

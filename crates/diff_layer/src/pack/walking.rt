@@ -134,7 +134,7 @@ pub(crate) fn step(
     before.copy_from_slice(row);
     let written = state.written;
     let mut kept = state.kept;
-    let passes = walk_part(edge.cells, edge.work, *part, row, &mut kept);
+    let passes = walk_part(edge.cells, edge.marks, edge.work, *part, row, &mut kept);
     *state = PackState {
         kept,
         written: written_behind(edge.work, *part, written),
