@@ -84,11 +84,15 @@ module _ (p : Program) (packs : List Pack) where
   down_cleared n s r =
       range_shown p s.cells s.common r.wrote (count_down n) Trunc counter packs r.packs (lowered (units_of p.layout (homes_of p) s.cells (of_count n)))
 
+  abbrev pub index_cleared : ℕ → ℕ → Seen → Seen2 → Kind → Bool
+  index_cleared k count s r kind.Subscript =
+      index_shown p s.cells k count packs r.packs (units_of p.layout (homes_of p) s.cells (of_item k))
+  index_cleared k count s r _ = false
+
 module _ (p : Program) (packs : List Pack) (a : Act) (x : Action) where
   -- the fault of a part that the first layer doesn't clear
   abbrev pub part_cleared : Part → Seen → Seen2 → Kind → Bool
-  part_cleared (index last k count) s r kind.Subscript =
-      index_shown p s.cells k count packs r.packs (units_of p.layout (homes_of p) s.cells (of_item k))
+  part_cleared (index last k count) s r fault = index_cleared p packs k count s r fault
   part_cleared (divide d) s r kind.Zero = some_pack (divisor_apart p s.cells d) packs r.packs
   part_cleared (store place mode y) s r fault = store_cleared p packs a x place mode y s r
   part_cleared (set_count n y) s r kind.Size = set_cleared p packs a x (set_count n y) s r

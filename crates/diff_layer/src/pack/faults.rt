@@ -37,6 +37,7 @@ ghost use Rattle.diff_layer.specs.Clears.{
   store_cleared,
   set_cleared,
   down_cleared,
+  index_cleared,
   part_cleared,
   IsSetCount,
 };
@@ -409,6 +410,18 @@ fn down_clears(moment: &Moment, matrices: &Matrices, number: u32) -> bool
     counter_fits(moment, matrices, EdgePart::CountDown(number), units)
 }
 
+fn index_is_shown(moment: &Moment, matrices: &Matrices, index: Indexed, fault: Kind) -> bool
+    requires matrices { AreMatricesOf (program_at moment.now) matrices.now }
+    requires small { is_small (bound_at (program_at moment.now).layout index.item) ≡ true }
+    ensures { (wrote : List Extent) → result ≡ index_cleared (program_at moment.now) (packs_in matrices.now) index.item
+        index.count (seen_at moment.now) (seen2 wrote (words_in matrices.now)) fault }
+{
+    match fault {
+        Kind::Subscript => index_clears(&moment.items, matrices, index),
+        Kind::Size | Kind::Zero | Kind::Class | Kind::Truncation => false,
+    }
+}
+
 // whether the fault of a part is not met, where the first layer doesn't show it
 fn is_shown(moment: &Moment, matrices: &Matrices, part: EdgePart, fault: Kind) -> bool
     requires matrices { AreMatricesOf (program_at moment.now) matrices.now }
@@ -426,10 +439,9 @@ fn is_shown(moment: &Moment, matrices: &Matrices, part: EdgePart, fault: Kind) -
             Kind::Zero => is_apart_in_some(&moment.items, matrices.plans, matrices.words, divisor),
             Kind::Size | Kind::Class | Kind::Truncation | Kind::Subscript => false,
         },
-        EdgePart::Index { item, count, .. } => match fault {
-            Kind::Subscript => index_clears(&moment.items, matrices, Indexed { item, count }),
-            Kind::Size | Kind::Zero | Kind::Class | Kind::Truncation => false,
-        },
+        EdgePart::Index { item, count, .. } => {
+            index_is_shown(moment, matrices, Indexed { item, count }, fault)
+        }
         EdgePart::Store { item, mode, amount } => {
             store_clears(moment, matrices, item, mode, amount)
         }

@@ -91,12 +91,7 @@ fn some_pack_shows(
     }
 }
 
-fn high_is_shown(
-    items: &KnownItems,
-    matrices: &Matrices,
-    index: Indexed,
-    units: Interval,
-) -> bool
+fn high_is_shown(items: &KnownItems, matrices: &Matrices, index: Indexed, units: Interval) -> bool
     requires fits { CellsFit (owns (program_of items.now)) (known_in items.now) }
     requires matrices { AreMatricesOf (program_of items.now) matrices.now }
     requires small { is_small (bound_at (program_of items.now).layout index.item) ≡ true }
@@ -107,12 +102,7 @@ fn high_is_shown(
         || some_pack_shows(items, matrices.plans, matrices.words, index, false)
 }
 
-fn low_is_shown(
-    items: &KnownItems,
-    matrices: &Matrices,
-    index: Indexed,
-    units: Interval,
-) -> bool
+fn low_is_shown(items: &KnownItems, matrices: &Matrices, index: Indexed, units: Interval) -> bool
     requires fits { CellsFit (owns (program_of items.now)) (known_in items.now) }
     requires matrices { AreMatricesOf (program_of items.now) matrices.now }
     requires small { is_small (bound_at (program_of items.now).layout index.item) ≡ true }
