@@ -18,11 +18,13 @@ USAGES = {
 
 @dataclass(eq=False)
 class Item:
-    """An entry: its tokens' places, its level and name (empty for FILLER), the entry above it and those below it.
-    `usage` is its own, or that of a group above it."""
+    """An entry: its tokens' places, the first and the last of them, its level and name (empty for FILLER), the entry
+    above it and those below it. `usage` is its own, or that of a group above it."""
 
     first: int
     behind: int
+    head: Token
+    last: Token
     level: int
     name: str
     above: "Item | None"
@@ -140,7 +142,8 @@ def entry(tokens: list[Token], first: int, behind: int, level: int, above: Item 
     """What an entry says."""
     name = token_at(tokens, first + 1)
     is_named = name.kind is Kind.WORD and name.upper not in {"FILLER", "PIC", "PICTURE", "REDEFINES", "USAGE", "VALUE"}
-    item = Item(first, behind, level, name.upper if is_named and name.upper not in USAGES else "", above)
+    own = name.upper if is_named and name.upper not in USAGES else ""
+    item = Item(first, behind, tokens[first], tokens[behind - 1], level, own, above)
     item.usage = above.usage if above else "DISPLAY"
     for at in range(first + 1, behind):
         token = tokens[at]

@@ -12,28 +12,32 @@ from .preparing import Prepared, prepare
 
 @dataclass(frozen=True)
 class Way:
-    """The folders of copybooks, the form and the encoding; what isn't given is guessed of each source."""
+    """The folders of copybooks, the form and the encoding, which are guessed of each source where they aren't given; and
+    whether statements give way to what allows more than they do."""
 
     folders: tuple[str, ...] = ()
     form: Form | None = None
     encoding: str = "auto"
+    assumes: bool = False
 
     @classmethod
     def of(cls, options: argparse.Namespace) -> "Way":
-        return cls(tuple(options.folders), Form(options.form) if options.form else None, options.encoding)
+        form = Form(options.form) if options.form else None
+        return cls(tuple(options.folders), form, options.encoding, options.assume)
 
     @property
     def is_plain(self) -> bool:
         return self == Way()
 
     def prepared(self, path: str | os.PathLike[str]) -> Prepared:
-        return prepare(path, self.folders, self.form, self.encoding)
+        return prepare(path, self.folders, self.form, self.encoding, self.assumes)
 
     def command(self) -> str:
         """The command that shows what is prepared so, but for the source."""
         words = ["cobsound", "prepare", *(word for folder in self.folders for word in ("-I", folder))]
         words += ["--form", self.form.value] if self.form else []
         words += ["--encoding", self.encoding] if self.encoding != "auto" else []
+        words += ["--assume"] if self.assumes else []
         return shlex.join(words)
 
 
@@ -42,3 +46,5 @@ def add_way(parser: argparse.ArgumentParser) -> None:
     parser.add_argument("-I", dest="folders", metavar="DIR", action="append", default=[], help="a folder of copybooks")
     parser.add_argument("--form", choices=[form.value for form in Form], help="the source's form; guessed without it")
     parser.add_argument("--encoding", choices=ENCODINGS, default="auto", help="its encoding; guessed without it")
+    told = "statements that aren't in the profile, as CALL and STRING, give way to what allows more than they do"
+    parser.add_argument("--assume", action="store_true", help=told)

@@ -56,6 +56,8 @@ def parsed(words: list[str]) -> argparse.Namespace:
     parser.add_argument("--prepare", action="store_true", help=told)
     add_way(parser)
     options = parser.parse_args(words)
+    if options.assume:
+        parser.error("what is only assumed can't be run: --assume goes with cobsound report alone")
     if not options.prepare and not Way.of(options).is_plain:
         parser.error("-I, --form and --encoding go with --prepare")
     return options

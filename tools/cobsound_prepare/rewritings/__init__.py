@@ -2,6 +2,12 @@
 
 from ..work import Rewriting
 from . import (
+    assumed_calls,
+    assumed_files,
+    assumed_input,
+    assumed_linkage,
+    assumed_parts,
+    assumed_texts,
     comment_entries,
     comp_4,
     computers,
@@ -36,16 +42,19 @@ from . import (
     stop_run,
 )
 
-REWRITINGS: tuple[Rewriting, ...] = tuple(
+# Those that say the same in other words of the profile, or more; and those behind them that give names.
+SAYING: tuple[Rewriting, ...] = tuple(
     module.REWRITING
     for module in (
         comment_entries,
         listing,
         program_name,
+        assumed_linkage,
         decimal_comma,
         special_names,
         computers,
         io_control,
+        assumed_files,
         file_clauses,
         headers,
         display_end,
@@ -68,8 +77,16 @@ REWRITINGS: tuple[Rewriting, ...] = tuple(
         evaluate,
         perform_after,
         next_sentence,
-        names,
-        digit_names,
-        sections,
+        assumed_input,
+        assumed_calls,
+        assumed_texts,
+        assumed_parts,
     )
 )
+NAMING: tuple[Rewriting, ...] = tuple(module.REWRITING for module in (names, digit_names, sections))
+REWRITINGS = (*SAYING, *NAMING)
+
+
+def assumptions() -> tuple[str, ...]:
+    """What is assumed where statements give way to what allows more than they do."""
+    return tuple(rewriting.assumes for rewriting in REWRITINGS if rewriting.is_assumed)

@@ -2,8 +2,7 @@
 
 from ..items import Item, read
 from ..tokens import Kind, Token
-from ..work import Rewriting, Work, behind_stop, division, line_of, token_at
-from .names import free_name
+from ..work import Rewriting, Work, behind_stop, division, free_name, line_of, token_at
 
 
 def is_record(tokens: list[Token], item: Item) -> bool:

@@ -2,8 +2,7 @@
 
 from ..items import Item, read
 from ..tokens import Kind, Token
-from ..work import Rewriting, Work, line_of, token_at
-from .names import free_name
+from ..work import Rewriting, Work, free_name, line_of, token_at
 
 FIGURATIVE = ("SPACE", "SPACES", "ZERO", "ZEROS", "ZEROES", "HIGH-VALUE", "HIGH-VALUES", "LOW-VALUE", "LOW-VALUES", "QUOTE", "QUOTES")
 
