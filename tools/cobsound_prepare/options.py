@@ -12,8 +12,8 @@ from .preparing import Prepared, prepare
 
 @dataclass(frozen=True)
 class Way:
-    """The folders of copybooks, the form and the encoding, which are guessed of each source where they aren't given; and
-    whether statements give way to what allows more than they do."""
+    """The folders of copybooks, the form and the encoding, which are guessed of each source where they aren't given;
+    and whether statements give way to what allows more than they do."""
 
     folders: tuple[str, ...] = ()
     form: Form | None = None

@@ -52,8 +52,8 @@ def apply(work: Work) -> int:
 
 REWRITING = Rewriting(
     name="assumed-calls",
-    rule="behind CALL the items that it hands out by reference, and the one that it returns into, hold anything; either "
-    "list of ON EXCEPTION or OVERFLOW may be done; CANCEL does nothing",
+    rule="behind CALL the items that it hands out by reference, and the one that it returns into, hold anything; "
+    "either list of ON EXCEPTION or OVERFLOW may be done; CANCEL does nothing",
     before="DATA DIVISION. WORKING-STORAGE SECTION. 77 A PIC 9. 77 B PIC X(2). "
     "PROCEDURE DIVISION. CALL 'P' USING B BY CONTENT A. STOP RUN.",
     after="DATA DIVISION. WORKING-STORAGE SECTION. 77 A PIC 9. 77 B PIC X(2). "

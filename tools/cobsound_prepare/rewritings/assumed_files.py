@@ -12,14 +12,15 @@ from ..tokens import Kind, Token
 from ..unknown import Unknown
 from ..work import Rewriting, Work, behind_stop, division, sentences, token_at
 
-SELECTED = frozenset({"INDEXED", "RELATIVE", "LINE", "KEY", "RANDOM", "DYNAMIC", "OPTIONAL", "PASSWORD", "LOCK", "COLLATING"})
-DESCRIBED = frozenset({"VARYING", "DEPENDING", "LINAGE", "EXTERNAL", "GLOBAL", "REPORT", "REPORTS"})
+# The words of SELECT and of FD by which a file is one of these.
+SELECTED = frozenset("INDEXED RELATIVE LINE KEY RANDOM DYNAMIC OPTIONAL PASSWORD LOCK COLLATING".split())
+DESCRIBED = frozenset("VARYING DEPENDING LINAGE EXTERNAL GLOBAL REPORT REPORTS".split())
 MODES = ("INPUT", "OUTPUT", "I-O", "EXTEND")
 
 
 @dataclass
 class File:
-    """A file: the places of its SELECT and of its FD, its records, and the names of its FILE STATUS and RELATIVE KEY."""
+    """A file: the places of its SELECT and of its FD, its records, the names of its FILE STATUS and RELATIVE KEY."""
 
     name: str
     select: range
@@ -48,7 +49,8 @@ def files_of(tokens: list[Token], items: Items) -> dict[str, File]:
     for first, behind in sentences(tokens, 0, end):
         head = token_at(tokens, first)
         if head.is_word("SELECT"):
-            selects[token_at(tokens, first + 1 + token_at(tokens, first + 1).is_word("OPTIONAL")).upper] = range(first, behind)
+            is_optional = token_at(tokens, first + 1).is_word("OPTIONAL")
+            selects[token_at(tokens, first + 1 + is_optional).upper] = range(first, behind)
         elif head.is_word("FD", "SD"):
             name = token_at(tokens, first + 1).upper
             select = selects.get(name, range(first, first))
@@ -112,7 +114,8 @@ class Files:
         named = [names for names in (file.status, file.key) if names]
         is_known = all(record.size() and record.name for record in file.records) and file.records
         if not is_known or not all(self.items.named(names) for names in named):
-            self.work.note(self.work.tokens[file.description.start], f"the file {file.name} isn't taken: its records aren't known")
+            place = self.work.tokens[file.description.start]
+            self.work.note(place, f"the file {file.name} isn't taken: its records aren't known")
             return False
         return True
 
@@ -238,11 +241,12 @@ def apply(work: Work) -> int:
 
 REWRITING = Rewriting(
     name="assumed-files",
-    rule="indexed and relative files, those of lines, with records of several lengths, those that are extended or updated, "
-    "and those of SORT and MERGE are dropped; their records lie in WORKING-STORAGE. Behind each statement with them "
-    "their records and their FILE STATUS hold anything, and either list of it may be done; SORT performs its procedures",
-    before="SELECT F ASSIGN TO 'F' ORGANIZATION INDEXED RECORD KEY K. DATA DIVISION. FILE SECTION. FD F. 01 R. 05 K PIC X. "
-    "WORKING-STORAGE SECTION. PROCEDURE DIVISION. READ F INVALID KEY STOP RUN END-READ.",
+    rule="indexed and relative files, those of lines, with records of several lengths, those that are extended or "
+    "updated, and those of SORT and MERGE are dropped; their records lie in WORKING-STORAGE. Behind each statement with "
+    "them their records and their FILE STATUS hold anything, and either list of it may be done; SORT performs its "
+    "procedures",
+    before="SELECT F ASSIGN TO 'F' ORGANIZATION INDEXED RECORD KEY K. DATA DIVISION. FILE SECTION. FD F. 01 R. "
+    "05 K PIC X. WORKING-STORAGE SECTION. PROCEDURE DIVISION. READ F INVALID KEY STOP RUN END-READ.",
     after="DATA DIVISION. FILE SECTION. WORKING-STORAGE SECTION. 01 R. 05 K PIC X. PROCEDURE DIVISION. "
     "READ UNKNOWN-FILE MOVE UNKNOWN-RECORD TO R READ UNKNOWN-FILE IF UNKNOWN-1 = 'A' STOP RUN END-IF.",
     assumes="nothing but a file's records, its status and its key changes where the program works on it",

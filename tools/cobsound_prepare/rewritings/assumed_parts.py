@@ -129,8 +129,8 @@ def apply(work: Work) -> int:
 
 REWRITING = Rewriting(
     name="assumed-parts",
-    rule="where a part of an item or FUNCTION stands in MOVE or COMPUTE the receivers hold anything behind it, of COMPUTE "
-    "any number; in IF, EVALUATE and UNTIL the condition may hold or not; DISPLAY leaves it out",
+    rule="where a part of an item or FUNCTION stands in MOVE or COMPUTE the receivers hold anything behind it, of "
+    "COMPUTE any number; in IF, EVALUATE and UNTIL the condition may hold or not; DISPLAY leaves it out",
     before="DATA DIVISION. WORKING-STORAGE SECTION. 77 A PIC X(2). 77 B PIC X. "
     "PROCEDURE DIVISION. MOVE A(1:1) TO B. STOP RUN.",
     after="DATA DIVISION. WORKING-STORAGE SECTION. 77 A PIC X(2). 77 B PIC X. "
