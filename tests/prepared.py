@@ -69,7 +69,7 @@ KINDS = ("SIZE", "CLASS")
 CALL = ("--prepare", "-I", "books")
 
 # the copybook with a statement that isn't in the profile
-REFUSED = {**FILES, ADD1: "\n               CONTINUE INITIALIZE WHAT\n"}
+REFUSED = {**FILES, ADD1: "\n               CONTINUE ALTER WHAT\n"}
 HEAD = "prepared: note: what is told holds of the prepared sources, which `cobsound prepare -I books SOURCE` shows"
 
 
@@ -166,9 +166,9 @@ def of_a_refusal(folder):
     place, other = f"{ADD1}:2:25", "books/sums.cpy:2:12"
     copied = [f"note: copied by {file} line {line}" for file, line in COPIES]
     wanted = [
-        f"{place}: error: E8: INITIALIZE isn't in the profile",
+        f"{place}: error: E8: ALTER isn't in the profile",
         *(f"{place}: {line}" for line in copied),
-        f"{place}: note: write MOVE ZERO and MOVE SPACES",
+        f"{place}: note: write an IF round a GO TO",
     ]
     missing = [
         f"{other}: error: copybook NONE isn't found in books",

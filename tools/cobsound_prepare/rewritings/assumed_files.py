@@ -242,8 +242,8 @@ def apply(work: Work) -> int:
 REWRITING = Rewriting(
     name="assumed-files",
     rule="indexed and relative files, those of lines, with records of several lengths, those that are extended or "
-    "updated, and those of SORT and MERGE are dropped; their records lie in WORKING-STORAGE. Behind each statement with "
-    "them their records and their FILE STATUS hold anything, and either list of it may be done; SORT performs its "
+    "updated, and those of SORT and MERGE are dropped; their records lie in WORKING-STORAGE. Behind each statement "
+    "with them their records and their FILE STATUS hold anything, and either list of it may be done; SORT performs its "
     "procedures",
     before="SELECT F ASSIGN TO 'F' ORGANIZATION INDEXED RECORD KEY K. DATA DIVISION. FILE SECTION. FD F. 01 R. "
     "05 K PIC X. WORKING-STORAGE SECTION. PROCEDURE DIVISION. READ F INVALID KEY STOP RUN END-READ.",

@@ -70,12 +70,13 @@ def apply(work: Work) -> int:
 
 REWRITING = Rewriting(
     name="assumed-texts",
-    rule="behind STRING, UNSTRING and INSPECT what they change holds anything; their counters and pointers any number; "
-    "either list of ON OVERFLOW may be done",
+    rule="behind STRING, UNSTRING and INSPECT what they change holds anything; their counters and pointers any "
+    "number; either list of ON OVERFLOW may be done",
     before="DATA DIVISION. WORKING-STORAGE SECTION. 77 A PIC X(2). 77 B PIC 9(2). "
     "PROCEDURE DIVISION. INSPECT A TALLYING B FOR ALL 'X'. STOP RUN.",
     after="DATA DIVISION. WORKING-STORAGE SECTION. 77 A PIC X(2). 77 B PIC 9(2). "
-    "PROCEDURE DIVISION. READ UNKNOWN-FILE MOVE UNKNOWN-RECORD TO B-ANY IF B NOT NUMERIC MOVE ZERO TO B END-IF. STOP RUN.",
+    "PROCEDURE DIVISION. READ UNKNOWN-FILE MOVE UNKNOWN-RECORD TO B-ANY IF B NOT NUMERIC MOVE ZERO TO B END-IF. "
+    "STOP RUN.",
     assumes="a count fits its item",
     words=frozenset({"STRING", "UNSTRING", "INSPECT"}),
     apply=apply,

@@ -79,7 +79,8 @@ def apply(work: Work) -> int:
 
 REWRITING = Rewriting(
     name="corresponding",
-    rule="MOVE, ADD and SUBTRACT CORRESPONDING become a statement for each two items that correspond; not with SIZE ERROR",
+    rule="MOVE, ADD and SUBTRACT CORRESPONDING become a statement for each two items that correspond; not with SIZE "
+    "ERROR",
     before="DATA DIVISION. WORKING-STORAGE SECTION. 01 G. 05 A PIC 9. 05 B PIC X. 01 H. 05 B PIC X. 05 A PIC 9. "
     "PROCEDURE DIVISION. MOVE CORR G TO H ADD CORRESPONDING G TO H.",
     after="DATA DIVISION. WORKING-STORAGE SECTION. 01 G. 05 A PIC 9. 05 B PIC X. 01 H. 05 B PIC X. 05 A PIC 9. "

@@ -76,7 +76,8 @@ def is_plain(found: Evaluate) -> bool:
         return False
     if subjects[0][0].is_word("TRUE"):
         return True
-    return all(is_value(part) for when in found.whens if not when.is_other for choice in when.choices for part in choice)
+    choices = [choice for when in found.whens if not when.is_other for choice in when.choices]
+    return all(is_value(part) for choice in choices for part in choice)
 
 
 def is_word_alone(part: list[Token]) -> bool:
@@ -169,8 +170,8 @@ def apply(work: Work) -> int:
 
 REWRITING = Rewriting(
     name="evaluate",
-    rule="EVALUATE with ALSO, of FALSE, of a literal or an expression, or with NOT or an expression behind WHEN becomes "
-    "EVALUATE TRUE, and each WHEN the condition that its parts say, joined by AND",
+    rule="EVALUATE with ALSO, of FALSE, of a literal or an expression, or with NOT or an expression behind WHEN "
+    "becomes EVALUATE TRUE, and each WHEN the condition that its parts say, joined by AND",
     before="PROCEDURE DIVISION. EVALUATE A ALSO TRUE WHEN 1 ALSO B > 2 STOP RUN WHEN NOT 3 THRU 5 ALSO ANY CONTINUE "
     "WHEN OTHER STOP RUN END-EVALUATE.",
     after="PROCEDURE DIVISION. EVALUATE TRUE WHEN A = 1 AND (B > 2) STOP RUN "

@@ -4,7 +4,10 @@ from ..items import Item, read
 from ..tokens import Kind, Token
 from ..work import Rewriting, Work, free_name, line_of, token_at
 
-FIGURATIVE = ("SPACE", "SPACES", "ZERO", "ZEROS", "ZEROES", "HIGH-VALUE", "HIGH-VALUES", "LOW-VALUE", "LOW-VALUES", "QUOTE", "QUOTES")
+FIGURATIVE = (
+    *("SPACE", "SPACES", "ZERO", "ZEROS", "ZEROES", "QUOTE", "QUOTES"),
+    *("HIGH-VALUE", "HIGH-VALUES", "LOW-VALUE", "LOW-VALUES"),
+)
 
 
 def literal_of(tokens: list[Token], item: Item, size: int) -> str | None:
@@ -27,7 +30,7 @@ def clause_of(tokens: list[Token], item: Item) -> range:
     """The places of the VALUE clause."""
     first = (item.value or 0) - 1
     behind = first + 1
-    while not (tokens[behind].kind is Kind.LITERAL or tokens[behind].is_word(*FIGURATIVE) or tokens[behind].kind is Kind.STOP):
+    while tokens[behind].kind not in (Kind.LITERAL, Kind.STOP) and not tokens[behind].is_word(*FIGURATIVE):
         behind += 1
     return range(first, behind + 1)
 
@@ -67,8 +70,8 @@ REWRITING = Rewriting(
     name="group-value",
     rule="VALUE of a group becomes that of an item as long as the group before it, which the group then redefines",
     before="DATA DIVISION. WORKING-STORAGE SECTION. 01 G VALUE 'A12'. 05 A PIC X. 05 N PIC 99.",
-    after="DATA DIVISION. WORKING-STORAGE SECTION. 01 G-VALUE PIC X(3) VALUE 'A12'. 01 G REDEFINES G-VALUE. 05 A PIC X. "
-    "05 N PIC 99.",
+    after="DATA DIVISION. WORKING-STORAGE SECTION. 01 G-VALUE PIC X(3) VALUE 'A12'. 01 G REDEFINES G-VALUE. "
+    "05 A PIC X. 05 N PIC 99.",
     assumes="nothing",
     words=frozenset({"VALUE", "VALUES"}),
     apply=apply,

@@ -95,8 +95,8 @@ def apply(work: Work) -> int:
 
 REWRITING = Rewriting(
     name="initialize",
-    rule="INITIALIZE becomes MOVE ZERO of its numeric and edited items and MOVE SPACE of the others, one by one, but for "
-    "FILLER and what redefines; with REPLACING it moves what that says; not of tables",
+    rule="INITIALIZE becomes MOVE ZERO of its numeric and edited items and MOVE SPACE of the others, one by one, but "
+    "for FILLER and what redefines; with REPLACING it moves what that says; not of tables",
     before="DATA DIVISION. WORKING-STORAGE SECTION. 01 G. 05 A PIC 9. 05 FILLER PIC X. 05 B PIC X. 05 C PIC Z9. "
     "PROCEDURE DIVISION. INITIALIZE G.",
     after="DATA DIVISION. WORKING-STORAGE SECTION. 01 G. 05 A PIC 9. 05 FILLER PIC X. 05 B PIC X. 05 C PIC Z9. "
