@@ -7,6 +7,7 @@ from .statements import ends_statement, is_inline, is_verb, statement_end
 from .tokens import Kind, Token
 from .work import token_at
 
+DEEPEST = 100  # statements in one another; what lies deeper is read as if it had no lists
 # The words that open a list, with the verbs whose statements can have it.
 ARITHMETIC = ("ADD", "SUBTRACT", "MULTIPLY", "DIVIDE", "COMPUTE")
 KEYED = ("READ", "WRITE", "REWRITE", "DELETE", "START")
@@ -50,6 +51,7 @@ class Structure:
     def __init__(self, tokens: list[Token], first: int):
         self.tokens = tokens
         self.found: list[Statement] = []
+        self.deep = 0
         at = first
         while at < len(tokens):
             if is_verb(tokens[at]):
@@ -76,7 +78,9 @@ class Structure:
         made = Statement(verb, at, at + 1, at + 1)
         self.found.append(made)
         read = {"IF": self.of_if, "EVALUATE": self.of_evaluate, "SEARCH": self.of_search, "PERFORM": self.of_perform}
-        end = read.get(verb, self.of_other)(made)
+        self.deep += 1
+        end = read.get(verb, self.of_other)(made) if self.deep < DEEPEST else statement_end(self.tokens, at + 1)
+        self.deep -= 1
         made.behind = end + 1 if self.is_word(end, f"END-{verb}") else end
         return made.behind
 
