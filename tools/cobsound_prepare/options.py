@@ -41,10 +41,10 @@ class Way:
         return shlex.join(words)
 
 
-def add_way(parser: argparse.ArgumentParser) -> None:
-    """The options of which a Way is made."""
+def add_way(parser: argparse.ArgumentParser, can_assume: bool = True) -> None:
+    """The options of which a Way is made. A tool that can't take what is only assumed says so itself."""
     parser.add_argument("-I", dest="folders", metavar="DIR", action="append", default=[], help="a folder of copybooks")
     parser.add_argument("--form", choices=[form.value for form in Form], help="the source's form; guessed without it")
     parser.add_argument("--encoding", choices=ENCODINGS, default="auto", help="its encoding; guessed without it")
     told = "statements that aren't in the profile, as CALL and STRING, give way to what allows more than they do"
-    parser.add_argument("--assume", action="store_true", help=told)
+    parser.add_argument("--assume", action="store_true", help=told if can_assume else argparse.SUPPRESS)
