@@ -15,3 +15,4 @@ pub mod Answers
 pub mod Overlaps
 pub mod Names
 pub mod Parts
+pub mod Places

@@ -6,10 +6,24 @@ use crate::extent::Extent;
 use cob_tree::{Bytes, Form, Many, Name, Num};
 use std::alloc::{AllocError, Global};
 
+/// The subscript of a table's item: a number, or the place of an item.
+#[derive(Clone, Copy, PartialEq, Eq)]
+pub enum Sub {
+    At(u32),
+    By(u32),
+}
+
+/// An item by its place, with its subscript where it is a table's.
+#[derive(Clone, Copy, PartialEq, Eq)]
+pub struct Place {
+    pub item: u32,
+    pub sub: Option<Sub>,
+}
+
 /// What is moved or compared, or what an item begins with: an item by its place, a literal, or a figurative constant.
 #[derive(Drop)]
 pub enum Sender {
-    Item(u32),
+    Item(Place),
     Number(Num),
     Text(Bytes),
     /// SPACE, QUOTE, HIGH-VALUE or LOW-VALUE, by its byte

@@ -27,5 +27,5 @@ pub use laws::{
     columns_lie_apart, groups_are_as_long_as_their_parts, occurrences_lie_apart,
     parts_follow_each_other,
 };
-pub use layout::{FileDecl, Flag, Item, Layout, Pair, Sender};
+pub use layout::{FileDecl, Flag, Item, Layout, Pair, Place, Sender, Sub};
 pub use top::{layout_of, overlaps};

@@ -1,4 +1,5 @@
 -- Arithmetic statements: operands are read, divisors count, each receiver in turn is read and stored, then a remainder.
+use Rattle.cob_data.specs.declared.layout.Place.{Place}
 use Rattle.std.proofs.Common.{◌≡◌, ℕ, Bool, true, false, ◌||◌, not, List, [], ◌∷◌, ◌++◌, inl, Option, Some, None, Result, Ok, Err, ℤ, refl, sym, ap, subst, ◌∙◌}
 use Rattle.std.specs.Prelude.{if◌then◌else◌}
 use Rattle.std.specs.List.{list_all}
@@ -43,7 +44,7 @@ module _ (l : Layout) (handled : Bool) (counts : List (Option ℤ)) (first : Lis
 
 -- ---- a store
 
-module _ (l : Layout) (counts : List (Option ℤ)) (first : List ℕ) (place : ℕ) (mode : Mode) (a : Amount)
+module _ (l : Layout) (counts : List (Option ℤ)) (first : List ℕ) (place : Place) (mode : Mode) (a : Amount)
     (is : misfit_of a ≡ kind.Size) (now : List ℕ) (own : Scaled) (failed : Bool) where
   same_flag : (storage : List ℕ) → fine_moment storage counts first own
       (failed || false) ≡ fine_moment storage counts first own failed
@@ -97,12 +98,12 @@ module _ (l : Layout) (handled : Bool) (counts : List (Option ℤ)) (first : Lis
       × (result (worth l first) s h u ≡ result (worth l first) s h v)
   OwnSo h xs now own failed (Err fault) = Meets l handled xs (fine_moment now counts first own failed) fault
 
-  own_read : (h : How) (place : ℕ) (now : List ℕ) (own : Scaled) (failed : Bool) (o : Option Scaled) →
+  own_read : (h : How) (place : Place) (now : List ℕ) (own : Scaled) (failed : Bool) (o : Option Scaled) →
       number_at l now place ≡ o → OwnSo h (part.read place ∷ []) now own failed (or_fault kind.Class o)
   own_read h place now own failed (Some v) e = (v, (fine_moment now counts first v failed, (v, e, refl), refl), refl)
   own_read h place now own failed None e = inl (refl, e, refl)
 
-  own_step : (h : How) (place : ℕ) (now : List ℕ) (own : Scaled) (failed : Bool) →
+  own_step : (h : How) (place : Place) (now : List ℕ) (own : Scaled) (failed : Bool) →
       OwnSo h (own_reads h place) now own failed (own_worth l handled h now place)
   own_step how.Whole place now own failed = (own, refl, refl)
   own_step how.Plus place now own failed = own_read how.Plus place now own failed (number_at l now place) refl
@@ -132,7 +133,7 @@ module _ (l : Layout) (handled : Bool) (counts : List (Option ℤ)) (first : Lis
       (received l handled now t.item (stored_result l handled t.mode t.item (result (worth l first) s t.how v))) h.1
       (store_step l counts first t.item t.mode (part.computed s t.how) refl now h.0 failed handled
       (stored_result l handled t.mode t.item (result (worth l first) s t.how v)) refl
-      (ap (λ (o : Option Fraction). value.◌>>=◌ o (λ x. stored t.mode (form_at l t.item) x)) h.2))
+      (ap (λ (o : Option Fraction). value.◌>>=◌ o (λ x. stored t.mode (form_at l t.item.item) x)) h.2))
   own_on t now own failed (Err fault) h =
       meets_front l handled (own_reads t.how t.item) (part.store t.item t.mode (part.computed s t.how) ∷ [])
       (fine_moment now counts first own failed) fault h
@@ -189,16 +190,16 @@ module _ (l : Layout) (counts : List (Option ℤ)) (first : List ℕ) (s : Sum) 
   from_step handled xs now own (Ok x) h = h
   from_step handled xs now own (Err fault) h = h
 
-  pub remainder_step : (handled failed : Bool) (ts : List Target) (remainder : Option ℕ) (now : List ℕ) (own : Scaled) →
+  pub remainder_step : (handled failed : Bool) (ts : List Target) (remainder : Option Place) (now : List ℕ) (own : Scaled) →
       IsUnfailed handled failed →
       DoneSo l handled counts first (remainder_parts l s ts remainder) now own failed
       (remainder_received l handled failed (worth l first) s ts remainder now)
   remainder_step handled false (t ∷ []) (Some place) now own h =
       from_step handled (remainder_parts l s (t ∷ []) (Some place)) now own
       (received l handled now place (stored_result l handled Trunc place (remainder_of (worth l first) (scale_of
-      (form_at l t.item)) (root_of s))))
-      (store_step l counts first place Trunc (part.remaining s (scale_of (form_at l t.item))) refl now own false handled
-      (stored_result l handled Trunc place (remainder_of (worth l first) (scale_of (form_at l t.item))
+      (form_at l t.item.item)) (root_of s))))
+      (store_step l counts first place Trunc (part.remaining s (scale_of (form_at l t.item.item))) refl now own false handled
+      (stored_result l handled Trunc place (remainder_of (worth l first) (scale_of (form_at l t.item.item))
       (root_of s))) refl refl)
   remainder_step true true (t ∷ []) (Some place) now own h = (own, (fine_moment now counts first own true, refl, refl))
   remainder_step false true (t ∷ []) (Some place) now own h = absurd (false≢true (sym h))
@@ -212,7 +213,7 @@ module _ (l : Layout) (counts : List (Option ℤ)) (first : List ℕ) (s : Sum) 
   -- ---- where a divisor is 0
 
   module _ (m : Moment) where
-    own_kept : (h : How) (place : ℕ) →
+    own_kept : (h : How) (place : Place) →
         PassesAll l true (own_reads h place) (divided_by_zero m) (divided_by_zero m)
     own_kept how.Whole place = refl
     own_kept how.Plus place = (divided_by_zero m, refl, refl)
@@ -230,14 +231,14 @@ module _ (l : Layout) (counts : List (Option ℤ)) (first : List ℕ) (s : Sum) 
         (divided_by_zero m, refl, refl))
         (targets_kept ts)
 
-    remainder_kept : (ts : List Target) (remainder : Option ℕ) →
+    remainder_kept : (ts : List Target) (remainder : Option Place) →
         PassesAll l true (remainder_parts l s ts remainder) (divided_by_zero m) (divided_by_zero m)
     remainder_kept [] remainder = refl
     remainder_kept (t ∷ []) None = refl
     remainder_kept (t ∷ []) (Some place) = (divided_by_zero m, refl, refl)
     remainder_kept (t ∷ u ∷ ts) remainder = refl
 
-    pub all_kept : (ts : List Target) (remainder : Option ℕ) →
+    pub all_kept : (ts : List Target) (remainder : Option Place) →
         PassesAll l true (targets_parts s ts ++ remainder_parts l s ts remainder) (divided_by_zero m)
         (divided_by_zero m)
     all_kept ts remainder =
@@ -251,8 +252,8 @@ pub bind_ok : {A B : Type 0} (r : Result A Kind) (f : A → Result B Kind) (b : 
 bind_ok (Ok a) f b e = (a, refl, e)
 bind_ok (Err fault) f b e = absurd (cc)
 
-module _ (l : Layout) (w : ℕ → Scaled) (s : Sum) where
-  plain_received : (now : List ℕ) (place : ℕ) (o : Option (List ℕ)) (x : Receiving) →
+module _ (l : Layout) (w : Place → Scaled) (s : Sum) where
+  plain_received : (now : List ℕ) (place : Place) (o : Option (List ℕ)) (x : Receiving) →
       received l false now place o ≡ Ok x → x.failed ≡ false
   plain_received now place None x e = absurd (cc)
   plain_received now place (Some bytes) x e = cc
@@ -282,14 +283,14 @@ module _ (l : Layout) (w : ℕ → Scaled) (s : Sum) where
       (so_far.failed || r.failed)) ts) x e in
       stays ts (receiving h.0.storage (so_far.failed || h.0.failed)) x h.2 (ap (λ b. b || h.0.failed) f)
 
-  own_same : (h : How) (now : List ℕ) (place : ℕ) → own_worth l true h now place ≡ own_worth l false h now place
+  own_same : (h : How) (now : List ℕ) (place : Place) → own_worth l true h now place ≡ own_worth l false h now place
   own_same how.Whole now place = refl
   own_same how.Plus now place = refl
   own_same how.Minus now place = refl
   own_same how.Times now place = refl
   own_same how.Under now place = refl
 
-  received_same : (now : List ℕ) (place : ℕ) (o : Option (List ℕ)) (x : Receiving) →
+  received_same : (now : List ℕ) (place : Place) (o : Option (List ℕ)) (x : Receiving) →
       received l true now place o ≡ Ok x →
       x.failed ≡ false → received l false now place o ≡ Ok x
   received_same now place None x e f = absurd (cc)
@@ -324,7 +325,7 @@ module _ (l : Layout) (w : ℕ → Scaled) (s : Sum) where
       (receive_same so_far.storage t h.0 h.1 none.1)
       ∙ all_same ts (receiving h.0.storage (so_far.failed || h.0.failed)) x h.2 f
 
-  remainder_same : (failed : Bool) (ts : List Target) (remainder : Option ℕ) (now : List ℕ) (x : Receiving) →
+  remainder_same : (failed : Bool) (ts : List Target) (remainder : Option Place) (now : List ℕ) (x : Receiving) →
       remainder_received l true failed w s ts remainder now ≡ Ok x → x.failed ≡ false →
       (failed ≡ false) × (remainder_received l false failed w s ts remainder now ≡ Ok x)
   remainder_same true ts remainder now x e f = absurd (cc)
@@ -333,7 +334,7 @@ module _ (l : Layout) (w : ℕ → Scaled) (s : Sum) where
   remainder_same false (t ∷ []) (Some place) now x e f = (refl, received_same now place _ x e f)
   remainder_same false (t ∷ u ∷ ts) remainder now x e f = (refl, e)
 
-  plain_remainder : (failed : Bool) (ts : List Target) (remainder : Option ℕ) (now : List ℕ) (x : Receiving) →
+  plain_remainder : (failed : Bool) (ts : List Target) (remainder : Option Place) (now : List ℕ) (x : Receiving) →
       remainder_received l false failed w s ts remainder now ≡ Ok x → failed ≡ false → x.failed ≡ false
   plain_remainder true ts remainder now x e f = absurd (false≢true (sym f))
   plain_remainder false [] remainder now x e f = cc
@@ -357,7 +358,7 @@ module _ (l : Layout) (handled : Bool) where
   arith_behind xs ys m k (Err fault) h e g = meets_behind l handled xs ys m k fault h g
 
 module _ (l : Layout) (counts : List (Option ℤ)) (storage : List ℕ) (s : Sum) (ts : List Target)
-    (remainder : Option ℕ) where
+    (remainder : Option Place) where
   done_on : (handled : Bool) (xs ys : List Part) (own : Scaled) (r : Result Receiving Kind)
       (f : Receiving → Result Receiving Kind) → DoneSo l handled counts storage xs storage own false r →
       ((x : Receiving) (v : Scaled) → r ≡ Ok x → DoneSo l handled counts storage ys x.storage v x.failed (f x)) →

@@ -1,4 +1,5 @@
 -- Parts passed in turn: cut in two, and what each of them leaves.
+use Rattle.cob_data.specs.declared.layout.Place.{Place}
 use Rattle.std.proofs.Common.{◌≡◌, ℕ, Bool, true, false, List, [], ◌∷◌, ◌++◌, ◌⊎◌, inl, inr, Option, Some, None, refl, ap, ◌∙◌}
 use Rattle.std.specs.Prelude.{if◌then◌else◌}
 use Rattle.cob_tree.specs.declared.fault.Kind.{Kind}
@@ -31,7 +32,7 @@ module _ (l : Layout) (handled : Bool) where
 -- ---- the storage in which operands are read
 
 module _ (l : Layout) where
-  reads_first : (b : Bool) (place : ℕ) (m n : Moment) → ReadsAt l b place m n → n.first ≡ m.first
+  reads_first : (b : Bool) (place : Place) (m n : Moment) → ReadsAt l b place m n → n.first ≡ m.first
   reads_first true place m n h = ap (λ (k : Moment). k.first) h
   reads_first false place m n h = ap (λ (k : Moment). k.first) h.2
 
@@ -39,7 +40,7 @@ module _ (l : Layout) where
   zero_first true m = refl
   zero_first false m = refl
 
-  kept_first : (b : Bool) (m : Moment) (place : ℕ) (o : Option (List ℕ)) →
+  kept_first : (b : Bool) (m : Moment) (place : Place) (o : Option (List ℕ)) →
       (if b then m else stored_or_kept l m place o).first ≡ m.first
   kept_first true m place o = refl
   kept_first false m place None = refl

@@ -1,4 +1,5 @@
 -- A sum has a value exactly where none of its divisors is 0.
+use Rattle.cob_data.specs.declared.layout.Place.{Place}
 use Rattle.std.proofs.Common.{◌≡◌, ℕ, Bool, true, false, ◌&&◌, ◌||◌, not, List, [], ◌∷◌, ◌++◌, Option, Some, None, ℤ, pos, negsuc, refl, sym, ap, ◌∙◌}
 use Rattle.std.specs.Prelude.{if◌then◌else◌, is_some, ◌==◌, neg_ℤ, unsigned_abs, zero, suc}
 use Rattle.std.specs.List.{list_all, list_any}
@@ -48,7 +49,7 @@ exact_counts a v minus = some_unless (unsigned_abs (negated minus v).units == 0)
 exact_counts_plain : (a v : Scaled) → is_some (exact_quotient a v) ≡ isnt_zero v
 exact_counts_plain a v = some_unless (unsigned_abs v.units == 0) _
 
-module _ (w : ℕ → Scaled) where
+module _ (w : Place → Scaled) where
   abbrev all_divide : List Atom → Bool
   all_divide atoms = list_all (divides_by w) atoms
 
@@ -247,13 +248,13 @@ any_divides false false t ts h = true_head (is_under t.how) (list_any (λ x. not
     (if is_under x.how then false else false)) ts)
 any_divides true false t ts h = absurd (false≢true (h refl))
 
-if_list : (w : ℕ → Scaled) (s : Sum) (b : Bool) →
+if_list : (w : Place → Scaled) (s : Sum) (b : Bool) →
     list_all (divides_by w) (if b then group s ∷ [] else []) ≡ (if b then divides_by w (group s) else true)
 if_list w s true = and-true (divides_by w (group s))
 if_list w s false = refl
 
 -- no divisor of an arithmetic statement is 0
-pub divisors_are : (w : ℕ → Scaled) (s : Sum) (ts : List Target) →
+pub divisors_are : (w : Place → Scaled) (s : Sum) (ts : List Target) →
     not (has_zero_divisor w s ts) ≡ list_all (divides_by w) (divisors_of s ts)
 divisors_are w s [] = refl
 divisors_are w s (t ∷ ts) =

@@ -1,4 +1,6 @@
 -- Edges that leave the counters as they are: what they pass, and the fault that one of their parts meets.
+use Rattle.cob_data.specs.declared.layout.Place.{Place}
+use Rattle.cob_data.specs.Places.{plain}
 use Rattle.std.proofs.Common.{◌≡◌, ℕ, Bool, true, false, not, List, [], ◌∷◌, Option, Some, None, Result, Ok, Err, ℤ, pos, refl, sym, ap, subst, ◌∙◌}
 use Rattle.std.specs.Prelude.{if◌then◌else◌, slice_get, ◌&&◌}
 use Rattle.std.specs.Option.{option_map}
@@ -36,7 +38,7 @@ module _ (p : Program) (statement : ℕ) (c : Choice) (w : World) (counts : List
 
   from_edge : (r : ℕ) (from : Option Sender) → Does (from_parts p.layout r from) (met (move_if p.layout from r w))
   from_edge r None = stays
-  from_edge r (Some x) = move_edge p.layout counts w x (r ∷ [])
+  from_edge r (Some x) = move_edge p.layout counts w x (plain r ∷ [])
 
   pub assign_edge : (a : Act) → Does (assign_parts p statement a) (edge_assigned p statement c w a)
   assign_edge (act.move x places) = move_edge p.layout counts w x places
@@ -46,7 +48,7 @@ module _ (p : Program) (statement : ℕ) (c : Choice) (w : World) (counts : List
   assign_edge (perform body once) = tt
   assign_edge (perform body (times x)) = tt
   assign_edge (perform body (until after t)) = tt
-  assign_edge (perform body (varying after place start by t)) = move_edge p.layout counts w start (place ∷ [])
+  assign_edge (perform body (varying after place start by t)) = move_edge p.layout counts w start (plain place ∷ [])
   assign_edge (go para) = tt
   assign_edge nothing = tt
   assign_edge stop = tt
@@ -168,7 +170,7 @@ module _ (p : Program) (statement : ℕ) (c : Choice) (w : World) (counts : List
   not_is true e = absurd (false≢true e)
   not_is false e = refl
 
-  module _ (s : Sum) (targets : List Target) (remainder : Option ℕ) where
+  module _ (s : Sum) (targets : List Target) (remainder : Option Place) where
     abbrev arithmetic : Bool → Result Receiving Kind
     arithmetic phrase = after_arithmetic p.layout phrase w.storage s targets remainder
 

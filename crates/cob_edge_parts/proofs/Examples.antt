@@ -1,4 +1,5 @@
 -- The parts of some statements' edges, worked out.
+use Rattle.cob_data.specs.Places.{plain}
 use Rattle.std.specs.Prelude.{◌≡◌, ℕ, true, false, List, [], ◌∷◌, Some, None}
 use Rattle.std.proofs.Common.{refl}
 use Rattle.dec_num.specs.declared.types.Mode.{Mode}
@@ -68,67 +69,67 @@ over a b =
     (MkFactor true false b) no_factors))) no_parts)
 
 abbrev pub target : ℕ → How → Mode → Target
-target place h mode = record { item = place; how = h; mode = mode }
+target place h mode = record { item = plain place; how = h; mode = mode }
 
 -- ADD A TO A B: A is read as operand, and at its turn
-added : parts (arith (alone (item 1)) (target 1 how.Plus Trunc ∷ target 2 how.Plus Round ∷ []) None left_out no_stmts)
+added : parts (arith (alone (item (plain 1))) (target 1 how.Plus Trunc ∷ target 2 how.Plus Round ∷ []) None left_out no_stmts)
     action.Done
-    ≡ read 1 ∷ read 1 ∷ store 1 Trunc (computed (alone (item 1)) how.Plus) ∷ read 2
-    ∷ store 2 Round (computed (alone (item 1)) how.Plus) ∷ []
+    ≡ read (plain 1) ∷ read (plain 1) ∷ store (plain 1) Trunc (computed (alone (item (plain 1))) how.Plus) ∷ read (plain 2)
+    ∷ store (plain 2) Round (computed (alone (item (plain 1))) how.Plus) ∷ []
 added = refl
 
 -- DIVIDE A INTO B: the sum is the divisor
-divided : parts (arith (alone (item 1)) (target 2 how.Under Trunc ∷ []) None left_out no_stmts) action.Done
-    ≡ read 1 ∷ divide (group (alone (item 1))) ∷ read 2 ∷ store 2 Trunc (computed (alone (item 1)) how.Under) ∷ []
+divided : parts (arith (alone (item (plain 1))) (target 2 how.Under Trunc ∷ []) None left_out no_stmts) action.Done
+    ≡ read (plain 1) ∷ divide (group (alone (item (plain 1)))) ∷ read (plain 2) ∷ store (plain 2) Trunc (computed (alone (item (plain 1))) how.Under) ∷ []
 divided = refl
 
 -- DIVIDE A BY 7 GIVING B ROUNDED REMAINDER A, with ON SIZE ERROR
-remained : parts (arith (over (item 1) (number (numeral (55 ∷ []))))
-    (target 2 how.Whole Round ∷ []) (Some 1) (given no_stmts) no_stmts) action.Size
-    ≡ read 1 ∷ divide (number (numeral (55 ∷ []))) ∷ store 2 Round (computed (over (item 1) (number (numeral
+remained : parts (arith (over (item (plain 1)) (number (numeral (55 ∷ []))))
+    (target 2 how.Whole Round ∷ []) (Some (plain 1)) (given no_stmts) no_stmts) action.Size
+    ≡ read (plain 1) ∷ divide (number (numeral (55 ∷ []))) ∷ store (plain 2) Round (computed (over (item (plain 1)) (number (numeral
     (55 ∷ [])))) how.Whole)
-    ∷ store 1 Trunc (remaining (over (item 1) (number (numeral (55 ∷ [])))) 1) ∷ []
+    ∷ store (plain 1) Trunc (remaining (over (item (plain 1)) (number (numeral (55 ∷ [])))) 1) ∷ []
 remained = refl
 
 -- COMPUTE A = A / (A / B): what stands in a divisor comes first
-nested : parts (arith (over (item 1) (group (over (item 1) (item 2))))
+nested : parts (arith (over (item (plain 1)) (group (over (item (plain 1)) (item (plain 2)))))
     (target 1 how.Whole Trunc ∷ []) None left_out no_stmts) action.Done
-    ≡ read 1 ∷ read 1 ∷ read 2 ∷ divide (item 2) ∷ divide (group (over (item 1) (item 2)))
-    ∷ store 1 Trunc (computed (over (item 1) (group (over (item 1) (item 2)))) how.Whole) ∷ []
+    ≡ read (plain 1) ∷ read (plain 1) ∷ read (plain 2) ∷ divide (item (plain 2)) ∷ divide (group (over (item (plain 1)) (item (plain 2))))
+    ∷ store (plain 1) Trunc (computed (over (item (plain 1)) (group (over (item (plain 1)) (item (plain 2))))) how.Whole) ∷ []
 nested = refl
 
 -- MOVE A TO G B T: A is read once
-moved_to_some : parts (act.move (sender.Item 1) (0 ∷ 2 ∷ 3 ∷ [])) action.Assign
-    ≡ read 1 ∷ bytes_in 0 7 ∷ store 2 Trunc (moved (sender.Item 1)) ∷ bytes_in 7 5 ∷ []
+moved_to_some : parts (act.move (sender.Item (plain 1)) (plain 0 ∷ plain 2 ∷ plain 3 ∷ [])) action.Assign
+    ≡ read (plain 1) ∷ bytes_in 0 7 ∷ store (plain 2) Trunc (moved (sender.Item (plain 1))) ∷ bytes_in 7 5 ∷ []
 moved_to_some = refl
 
 -- MOVE G TO A, MOVE T TO S, MOVE A TO G: bytes alone
-group_moved : parts (act.move (sender.Item 0) (1 ∷ [])) action.Assign ≡ bytes_in 0 3 ∷ []
+group_moved : parts (act.move (sender.Item (plain 0)) (plain 1 ∷ [])) action.Assign ≡ bytes_in 0 3 ∷ []
 group_moved = refl
 
-text_moved : parts (act.move (sender.Item 3) (4 ∷ [])) action.Assign ≡ bytes_in 12 2 ∷ []
+text_moved : parts (act.move (sender.Item (plain 3)) (plain 4 ∷ [])) action.Assign ≡ bytes_in 12 2 ∷ []
 text_moved = refl
 
-to_group_moved : parts (act.move (sender.Item 1) (0 ∷ [])) action.Assign ≡ bytes_in 0 7 ∷ []
+to_group_moved : parts (act.move (sender.Item (plain 1)) (plain 0 ∷ [])) action.Assign ≡ bytes_in 0 7 ∷ []
 to_group_moved = refl
 
 -- MOVE T TO A: T is read; MOVE '12' TO A: nothing is; MOVE '1X' TO A: that is no number
-text_read : parts (act.move (sender.Item 3) (1 ∷ [])) action.Assign ≡ read 3 ∷ store 1 Trunc (moved
-    (sender.Item 3)) ∷ []
+text_read : parts (act.move (sender.Item (plain 3)) (plain 1 ∷ [])) action.Assign ≡ read (plain 3) ∷ store (plain 1) Trunc (moved
+    (sender.Item (plain 3))) ∷ []
 text_read = refl
 
-literal_stored : parts (act.move (sender.Text (49 ∷ 50 ∷ [])) (1 ∷ [])) action.Assign
-    ≡ store 1 Trunc (moved (sender.Text (49 ∷ 50 ∷ []))) ∷ []
+literal_stored : parts (act.move (sender.Text (49 ∷ 50 ∷ [])) (plain 1 ∷ [])) action.Assign
+    ≡ store (plain 1) Trunc (moved (sender.Text (49 ∷ 50 ∷ []))) ∷ []
 literal_stored = refl
 
-no_number : parts (act.move (sender.Text (49 ∷ 88 ∷ [])) (1 ∷ [])) action.Assign
-    ≡ unread ∷ store 1 Trunc (moved (sender.Text (49 ∷ 88 ∷ []))) ∷ []
+no_number : parts (act.move (sender.Text (49 ∷ 88 ∷ [])) (plain 1 ∷ [])) action.Assign
+    ≡ unread ∷ store (plain 1) Trunc (moved (sender.Text (49 ∷ 88 ∷ []))) ∷ []
 no_number = refl
 
 -- IF A / B > 0, on its way for false
-compared : parts (if_ (test (numbers (over (item 1) (item 2)) rel.Greater (alone (number (numeral
+compared : parts (if_ (test (numbers (over (item (plain 1)) (item (plain 2))) rel.Greater (alone (number (numeral
     (48 ∷ [])))))) no_stmts no_stmts) (action.False 0)
-    ≡ read 1 ∷ read 2 ∷ divide (item 2) ∷ guard (numbers (over (item 1) (item 2)) rel.Greater (alone (number (numeral
+    ≡ read (plain 1) ∷ read (plain 2) ∷ divide (item (plain 2)) ∷ guard (numbers (over (item (plain 1)) (item (plain 2))) rel.Greater (alone (number (numeral
     (48 ∷ []))))) false ∷ []
 compared = refl
 
@@ -138,31 +139,31 @@ pair a b = record { low = sender.Number (numeral a); high = sender.Number (numer
 -- a condition-name of A with two ranges: A is read once; A NUMERIC: it isn't read
 of_ranges : parts (if_ (test (member 1 (pair (49 ∷ []) (50 ∷ []) ∷ pair (55 ∷ []) (57 ∷ []) ∷ []))) no_stmts no_stmts)
     (action.True 0)
-    ≡ read 1 ∷ guard (member 1 (pair (49 ∷ []) (50 ∷ []) ∷ pair (55 ∷ []) (57 ∷ []) ∷ [])) true ∷ []
+    ≡ read (plain 1) ∷ guard (member 1 (pair (49 ∷ []) (50 ∷ []) ∷ pair (55 ∷ []) (57 ∷ []) ∷ [])) true ∷ []
 of_ranges = refl
 
-of_class : parts (if_ (test (numeric 1)) no_stmts no_stmts) (action.True 0) ≡ guard (numeric 1) true ∷ []
+of_class : parts (if_ (test (numeric (plain 1))) no_stmts no_stmts) (action.True 0) ≡ guard (numeric (plain 1)) true ∷ []
 of_class = refl
 
 -- PERFORM .. A TIMES
-set : parts (perform (range 0 0) (times (sender.Item 1))) action.SetCount ≡ read 1 ∷ set_count 9 (sender.Item 1) ∷ []
+set : parts (perform (range 0 0) (times (sender.Item (plain 1)))) action.SetCount ≡ read (plain 1) ∷ set_count 9 (sender.Item (plain 1)) ∷ []
 set = refl
 
-left : parts (perform (range 0 0) (times (sender.Item 1))) (action.True 0) ≡ read_count 9 ∷ guard_count 9 true ∷ []
+left : parts (perform (range 0 0) (times (sender.Item (plain 1)))) (action.True 0) ≡ read_count 9 ∷ guard_count 9 true ∷ []
 left = refl
 
-down : parts (perform (range 0 0) (times (sender.Item 1))) action.Down ≡ read_count 9 ∷ count_down 9 ∷ []
+down : parts (perform (range 0 0) (times (sender.Item (plain 1)))) action.Down ≡ read_count 9 ∷ count_down 9 ∷ []
 down = refl
 
 -- PERFORM .. VARYING A FROM 1 BY B
-begun : parts (perform (range 0 0) (varying false 1 (sender.Number (numeral (49 ∷ []))) (sender.Item 2) (test
-    (numeric 1)))) action.Assign
-    ≡ store 1 Trunc (moved (sender.Number (numeral (49 ∷ [])))) ∷ []
+begun : parts (perform (range 0 0) (varying false 1 (sender.Number (numeral (49 ∷ []))) (sender.Item (plain 2)) (test
+    (numeric (plain 1))))) action.Assign
+    ≡ store (plain 1) Trunc (moved (sender.Number (numeral (49 ∷ [])))) ∷ []
 begun = refl
 
-augments : parts (perform (range 0 0) (varying false 1 (sender.Number (numeral (49 ∷ []))) (sender.Item 2) (test
-    (numeric 1)))) action.Done
-    ≡ read 2 ∷ read 1 ∷ store 1 Trunc (augmented (sender.Item 2)) ∷ []
+augments : parts (perform (range 0 0) (varying false 1 (sender.Number (numeral (49 ∷ []))) (sender.Item (plain 2)) (test
+    (numeric (plain 1))))) action.Done
+    ≡ read (plain 2) ∷ read (plain 1) ∷ store (plain 1) Trunc (augmented (sender.Item (plain 2))) ∷ []
 augments = refl
 
 -- OPEN INPUT F, READ F INTO T at its end and its move, WRITE R done and not

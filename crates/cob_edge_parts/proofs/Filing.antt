@@ -1,4 +1,5 @@
 -- Files: FILE STATUS is set, and a record area is filled or undefined.
+use Rattle.cob_data.specs.Places.{plain}
 use Rattle.std.proofs.Common.{◌≡◌, ℕ, Bool, true, false, not, List, [], ◌∷◌, Option, Some, None, Ok, Err, ℤ, pos, refl, sym, ap}
 use Rattle.std.specs.Prelude.{if◌then◌else◌, slice_get}
 use Rattle.std.specs.Option.{option_map_or}
@@ -137,7 +138,7 @@ module _ (l : Layout) (counts : List (Option ℤ)) (w : World) where
       PassesAll l false (into_parts l (Some place)) (at w.storage) (at (into_from l d place w.storage))
   into_by None place = item_idle (item_at l place) (λ i. i.length) w.storage
   into_by (Some d) place =
-      bytes_change l counts w.storage (whole_number (pos 0)) place w.storage (area w.storage d.offset d.length)
+      bytes_change l counts w.storage (whole_number (pos 0)) (plain place) w.storage (area w.storage d.offset d.length)
 
   pub into_does : (f : ℕ) (into : Option ℕ) → ChangesSo (into_parts l into) (into_if l f into w)
   into_does f None = (refl, refl)
@@ -174,7 +175,7 @@ module _ (l : Layout) (counts : List (Option ℤ)) (w : World) where
     refl,
   )
   wrote_on fine c place rec_ (Some d) (Some f) e =
-      let x = after_write (fitted d.length (bytes_at l w.storage rec_)) f in
+      let x = after_write (fitted d.length (bytes_at l w.storage (plain rec_))) f in
       let v = (with_file l place d x w).0 in (
         passes_on l false (status_parts l d.status) (if fine then part.bytes_in d.offset d.length ∷ [] else [])
             (at w.storage) (at v.storage) (at (undefined_if l (is_fine x.1) c d v).storage)

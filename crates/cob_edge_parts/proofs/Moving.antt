@@ -1,4 +1,5 @@
 -- MOVE, the setting of VARYING and FROM: the sender is read once, then each receiver gets a value or bytes.
+use Rattle.cob_data.specs.declared.layout.Place.{Place}
 use Rattle.std.proofs.Common.{◌≡◌, ℕ, Bool, true, false, ◌||◌, not, List, [], ◌∷◌, ◌++◌, length, replicate, inl, Option, Some, None, Result, Ok, Err, ℤ, refl, sym, ap, subst, ◌∙◌, arith}
 use Rattle.std.specs.Prelude.{if◌then◌else◌, is_some, ◌==◌}
 use Rattle.std.specs.List.{list_any}
@@ -101,7 +102,7 @@ module _ (l : Layout) where
     -- a sender that is read, if it is a numeric item, is a text
     pub text_given : (n : ℕ) (x : Sender) → (is_number_item l x ≡ true → is_some (number_of l s x) ≡ true) →
         (b : List ℕ) × (text_of l s n x ≡ Some b)
-    text_given n (sender.Item place) h = item_given (form_at l place) (bytes_at l s place) h
+    text_given n (sender.Item place) h = item_given (form_at l place.item) (bytes_at l s place) h
     text_given n (sender.Number x) h = (_, refl)
     text_given n (sender.Text text) h = (_, refl)
     text_given n (sender.Fill byte) h = (_, refl)
@@ -117,7 +118,7 @@ module _ (l : Layout) where
 
     pub text_missing : (n : ℕ) (x : Sender) → is_number_item l x ≡ true → number_of l s x ≡ None →
         text_of l s n x ≡ None
-    text_missing n (sender.Item place) h e = item_missing (form_at l place) (bytes_at l s place) h e
+    text_missing n (sender.Item place) h e = item_missing (form_at l place.item) (bytes_at l s place) h e
     text_missing n (sender.Number x) h e = absurd (false≢true h)
     text_missing n (sender.Text text) h e = absurd (false≢true h)
     text_missing n (sender.Fill byte) h e = absurd (false≢true h)
@@ -176,13 +177,13 @@ module _ (l : Layout) where
         PassesAll l false xs (fine_moment now counts first own false) (fine_moment storage counts first own false)
     MovesSo xs now (Err fault) = Meets l false xs (fine_moment now counts first own false) fault
 
-    abbrev ReceivesSo : List Part → List ℕ → ℕ → Result (List ℕ) Kind → Type 0
+    abbrev ReceivesSo : List Part → List ℕ → Place → Result (List ℕ) Kind → Type 0
     ReceivesSo xs now place (Ok bytes) =
         PassesAll l false xs (fine_moment now counts first own false) (fine_moment
         (filled_at l now place bytes) counts first own false)
     ReceivesSo xs now place (Err fault) = Meets l false xs (fine_moment now counts first own false) fault
 
-    moves_on : (xs ys : List Part) (now : List ℕ) (place : ℕ) (r : Result (List ℕ) Kind)
+    moves_on : (xs ys : List Part) (now : List ℕ) (place : Place) (r : Result (List ℕ) Kind)
         (f : List ℕ → Result (List ℕ) Kind) → ReceivesSo xs now place r →
         ((bytes : List ℕ) → MovesSo ys (filled_at l now place bytes) (f bytes)) → MovesSo (xs ++ ys) now (r >>= f)
     moves_on xs ys now place (Ok bytes) f h g =
@@ -216,19 +217,19 @@ module _ (l : Layout) where
     )
 
     -- an item gets so many bytes as it has
-    pub bytes_change : (place : ℕ) (now bytes : List ℕ) →
+    pub bytes_change : (place : Place) (now bytes : List ℕ) →
         PassesAll l false (item_bytes l place) (fine_moment now counts first own false)
-        (fine_moment (filled_at l now place (fitted (length_at l place) bytes)) counts first own false)
-    bytes_change place now bytes = item_changes (item_at l place) now bytes
+        (fine_moment (filled_at l now place (fitted (length_at l place.item) bytes)) counts first own false)
+    bytes_change place now bytes = item_changes (item_at l place.item) now bytes
 
     module _ (x : Sender) where
-      stored_is : (place : ℕ) (now : List ℕ) (v : Scaled) → number_of l first x ≡ Some v →
+      stored_is : (place : Place) (now : List ℕ) (v : Scaled) → number_of l first x ≡ Some v →
           stored_bytes l (fine_moment now counts first own false) place Trunc (part.moved x)
-          ≡ stored Trunc (form_at l place) (value_of v)
+          ≡ stored Trunc (form_at l place.item) (value_of v)
       stored_is place now v e =
-          ap (λ (o : Option Scaled). value.◌>>=◌ (option_map value_of o) (λ u. stored Trunc (form_at l place) u)) e
+          ap (λ (o : Option Scaled). value.◌>>=◌ (option_map value_of o) (λ u. stored Trunc (form_at l place.item) u)) e
 
-      value_stored : (place : ℕ) (now : List ℕ) (o : Option (List ℕ)) →
+      value_stored : (place : Place) (now : List ℕ) (o : Option (List ℕ)) →
           stored_bytes l (fine_moment now counts first own false) place Trunc (part.moved x) ≡ o →
           ReceivesSo (part.store place Trunc (part.moved x) ∷ []) now place (or_fault kind.Truncation o)
       value_stored place now (Some bytes) e =
@@ -236,41 +237,41 @@ module _ (l : Layout) where
       value_stored place now None e = inl (e, refl)
 
       -- a receiver, where the sender is read if it has to be
-      receiver_does : (place : ℕ) (now : List ℕ) (b : Bool) → gets_value l (form_at l place) x ≡ b →
-          (is_read_for l (form_at l place) x ≡ true → is_some (number_of l first x) ≡ true) →
+      receiver_does : (place : Place) (now : List ℕ) (b : Bool) → gets_value l (form_at l place.item) x ≡ b →
+          (is_read_for l (form_at l place.item) x ≡ true → is_some (number_of l first x) ≡ true) →
           ReceivesSo (if b then part.store place Trunc (part.moved x) ∷ [] else item_bytes l place) now place
-          (moved l first (form_at l place) (length_at l place) x)
+          (moved l first (form_at l place.item) (length_at l place.item) x)
       receiver_does place now true e h =
-          let n = some_of (number_of l first x) (h (gets_reads (form_at l place) x e)) in
-          let f : moved l first (form_at l place) (length_at l place) x
-          ≡ or_fault kind.Truncation (stored Trunc (form_at l place) (value_of n.0)) =
-          gets_number first (form_at l place) (length_at l place) x e
+          let n = some_of (number_of l first x) (h (gets_reads (form_at l place.item) x e)) in
+          let f : moved l first (form_at l place.item) (length_at l place.item) x
+          ≡ or_fault kind.Truncation (stored Trunc (form_at l place.item) (value_of n.0)) =
+          gets_number first (form_at l place.item) (length_at l place.item) x e
           ∙ ap (λ (o : Option Scaled). or_fault kind.Class o >>= λ v. or_fault kind.Truncation (stored Trunc
-          (form_at l place) (value_of v))) n.1 in
+          (form_at l place.item) (value_of v))) n.1 in
           subst (λ (r : Result (List ℕ) Kind). ReceivesSo (part.store place Trunc (part.moved x) ∷ []) now place r)
           (sym f)
-          (value_stored place now (stored Trunc (form_at l place) (value_of n.0)) (stored_is place now n.0 n.1))
+          (value_stored place now (stored Trunc (form_at l place.item) (value_of n.0)) (stored_is place now n.0 n.1))
       receiver_does place now false e h =
-          let b = gets_bytes first (form_at l place) (length_at l place) x e h in
+          let b = gets_bytes first (form_at l place.item) (length_at l place.item) x e h in
           subst (λ (r : Result (List ℕ) Kind). ReceivesSo (item_bytes l place) now place r) (sym b.1)
           (bytes_change place now b.0)
 
-      abbrev needs : ℕ → Bool
-      needs place = is_read_for l (form_at l place) x
+      abbrev needs : Place → Bool
+      needs place = is_read_for l (form_at l place.item) x
 
-      receivers_do : (places now : List ℕ) → (list_any needs places ≡ true → is_some (number_of l first x) ≡ true) →
+      receivers_do : (places : List Place) (now : List ℕ) → (list_any needs places ≡ true → is_some (number_of l first x) ≡ true) →
           MovesSo (receivers_parts l x places) now (moved_to l first now x places)
       receivers_do [] now h = refl
       receivers_do (place ∷ places) now h =
           moves_on (receiver_parts l x place) (receivers_parts l x places) now place
-          (moved l first (form_at l place) (length_at l place) x)
+          (moved l first (form_at l place.item) (length_at l place.item) x)
           (λ bytes. moved_to l first (filled_at l now place bytes) x places)
-          (receiver_does place now (gets_value l (form_at l place) x) refl
+          (receiver_does place now (gets_value l (form_at l place.item) x) refl
           (λ e. h (ap (λ b. b || list_any needs places) e)))
           (λ bytes. receivers_do places (filled_at l now place bytes) (λ e. h (ap (λ b. needs place || b) e ∙ or_true
           (needs place))))
 
-      none_read : (places now : List ℕ) → number_of l first x ≡ None → list_any needs places ≡ true →
+      none_read : (places : List Place) (now : List ℕ) → number_of l first x ≡ None → list_any needs places ≡ true →
           moved_to l first now x places ≡ Err kind.Class
       none_read [] now e h = absurd (false≢true h)
       none_read (place ∷ places) now e h = none_first (λ behind g. none_read places behind e g) (needs place) refl h
@@ -281,13 +282,13 @@ module _ (l : Layout) where
               moved_to l first now x (place ∷ places) ≡ Err kind.Class
           none_first k true f g =
               ap (λ (r : Result (List ℕ) Kind). r >>= λ bytes. moved_to l first (filled_at l now place bytes) x places)
-              (gets_none first (form_at l place) (length_at l place) x f e)
+              (gets_none first (form_at l place.item) (length_at l place.item) x f e)
           none_first k false f g =
-              let b = gets_bytes first (form_at l place) (length_at l place) x (reads_not (form_at l place) x f)
+              let b = gets_bytes first (form_at l place.item) (length_at l place.item) x (reads_not (form_at l place.item) x f)
               (λ y. absurd (false≢true (sym f ∙ y))) in
               ap (λ (r : Result (List ℕ) Kind). r >>= λ bytes. moved_to l first
               (filled_at l now place bytes) x places) b.1
-              ∙ k (filled_at l now place (fitted (length_at l place) b.0)) g
+              ∙ k (filled_at l now place (fitted (length_at l place.item) b.0)) g
 
 -- ---- the whole
 
@@ -314,7 +315,7 @@ module _ (l : Layout) (counts : List (Option ℤ)) where
         meets_behind l false xs ys (fine_moment storage counts storage own false)
         (fine_moment storage counts storage v false) fault h g
 
-    read_first : (places : List ℕ) → list_any (needs l counts storage own x) places ≡ true → (n : Option Scaled) →
+    read_first : (places : List Place) → list_any (needs l counts storage own x) places ≡ true → (n : Option Scaled) →
         number_of l storage x ≡ n →
         ReadsSo l false storage counts storage false (number_reads x) own (is_some n) →
         LeavesSo (number_reads x ++ receivers_parts l x places) storage own (after_move l storage x places)
@@ -327,7 +328,7 @@ module _ (l : Layout) (counts : List (Option ℤ)) where
         (meets_front l false (number_reads x) (receivers_parts l x places)
         (fine_moment storage counts storage own false) kind.Class h)
 
-    move_by : (places : List ℕ) (b : Bool) → list_any (needs l counts storage own x) places ≡ b →
+    move_by : (places : List Place) (b : Bool) → list_any (needs l counts storage own x) places ≡ b →
         LeavesSo ((if b then number_reads x else []) ++ receivers_parts l x places) storage own
         (after_move l storage x places)
     move_by places true e =
@@ -337,5 +338,5 @@ module _ (l : Layout) (counts : List (Option ℤ)) where
         (receivers_do l counts storage own x places storage (λ g. absurd (false≢true (sym e ∙ g))))
 
     -- MOVE passes its parts, or one of them meets its fault
-    pub move_does : (places : List ℕ) → LeavesSo (move_parts l x places) storage own (after_move l storage x places)
+    pub move_does : (places : List Place) → LeavesSo (move_parts l x places) storage own (after_move l storage x places)
     move_does places = move_by places (list_any (needs l counts storage own x) places) refl

@@ -1,4 +1,5 @@
 -- What single parts do, what they meet, and which edge meets a fault, worked out.
+use Rattle.cob_data.specs.Places.{plain}
 use Rattle.std.specs.Prelude.{◌≡◌, ℕ, Bool, true, false, List, [], ◌∷◌, Some, None, pos}
 use Rattle.std.proofs.Common.{refl}
 use Rattle.dec_num.specs.declared.types.Mode.TheVariants.{Trunc}
@@ -19,34 +20,34 @@ abbrev along : List ℕ → List ℕ → Bool → Bool → Moment
 along now first by_zero failed = moment now [] first (whole_number (pos 0)) by_zero failed
 
 -- what doesn't fit is lost by a MOVE, and is a size error elsewhere
-moves_are_cut : misfit_of (moved (sender.Item 1)) ≡ kind.Truncation
+moves_are_cut : misfit_of (moved (sender.Item (plain 1))) ≡ kind.Truncation
 moves_are_cut = refl
 
-sums_overflow : misfit_of (computed (alone (item 1)) how.Whole) ≡ kind.Size
+sums_overflow : misfit_of (computed (alone (item (plain 1))) how.Whole) ≡ kind.Size
 sums_overflow = refl
 
-augmented_overflow : misfit_of (augmented (sender.Item 1)) ≡ kind.Size
+augmented_overflow : misfit_of (augmented (sender.Item (plain 1))) ≡ kind.Size
 augmented_overflow = refl
 
 -- operands are worth what they were where the edge begins, whatever storage is now
 operands_stay : (now first : List ℕ) →
-    amount program.layout (along now first false false) (computed (alone (item 1)) how.Whole)
-    ≡ amount program.layout (along first first false false) (computed (alone (item 1)) how.Whole)
+    amount program.layout (along now first false false) (computed (alone (item (plain 1))) how.Whole)
+    ≡ amount program.layout (along first first false false) (computed (alone (item (plain 1))) how.Whole)
 operands_stay now first = refl
 
 -- a remainder is left alone after a quotient that doesn't fit, other receivers only after a divisor that is 0
-remainder_left : is_left_alone (along [] [] false true) (remaining (alone (item 1)) 0) ≡ true
+remainder_left : is_left_alone (along [] [] false true) (remaining (alone (item (plain 1))) 0) ≡ true
 remainder_left = refl
 
-sum_stored : is_left_alone (along [] [] false true) (computed (alone (item 1)) how.Whole) ≡ false
+sum_stored : is_left_alone (along [] [] false true) (computed (alone (item (plain 1))) how.Whole) ≡ false
 sum_stored = refl
 
-none_stored : is_left_alone (along [] [] true false) (computed (alone (item 1)) how.Whole) ≡ true
+none_stored : is_left_alone (along [] [] true false) (computed (alone (item (plain 1))) how.Whole) ≡ true
 none_stored = refl
 
 -- a receiver isn't read after a divisor that is 0
 not_read : (storage : List ℕ) →
-    Passes program.layout true (read 2) (along storage storage true false) (along storage storage true false)
+    Passes program.layout true (read (plain 2)) (along storage storage true false) (along storage storage true false)
 not_read storage = refl
 
 -- 0 may stand for a count that isn't there
@@ -55,7 +56,7 @@ zero_for_none = (pos 0, refl, refl)
 
 -- the counter is read where TIMES goes on, where it ends, and where it counts down
 abbrev looping : Act
-looping = perform (range 0 0) (times (sender.Item 1))
+looping = perform (range 0 0) (times (sender.Item (plain 1)))
 
 going_on : reads_count looping (action.True 0) ≡ true
 going_on = refl
@@ -71,7 +72,7 @@ beginning_to_count = refl
 
 -- ADD A TO A: its fault is met on the edge to the list of ON SIZE ERROR, where it has one
 abbrev adding : Phrase → Act
-adding size = arith (alone (item 1)) (target 1 how.Plus Trunc ∷ []) None size no_stmts
+adding size = arith (alone (item (plain 1))) (target 1 how.Plus Trunc ∷ []) None size no_stmts
 
 with_phrase : fault_edge (adding (given no_stmts)) action.Done ≡ action.Size
 with_phrase = refl

@@ -1,4 +1,5 @@
 -- Lists of parts one behind the other, reads and divisors.
+use Rattle.cob_data.specs.declared.layout.Place.{Place}
 use Rattle.std.proofs.Common.{◌≡◌, ℕ, Bool, true, false, List, [], ◌∷◌, ◌++◌, length, inl, inr, Option, Some, None, ℤ, refl, sym, ap, subst}
 use Rattle.std.specs.Prelude.{if◌then◌else◌, is_some, ◌&&◌}
 use Rattle.std.specs.List.{list_all}
@@ -58,12 +59,12 @@ module _ (l : Layout) (handled : Bool) where
     reads_on xs ys own true false h f = meets_behind xs ys _ _ kind.Class h.1 (f h.0)
     reads_on xs ys own false b h f = meets_front xs ys _ kind.Class h
 
-    pub item_read : (place : ℕ) (own : Scaled) (n : Option Scaled) → number_at l storage place ≡ n →
+    pub item_read : (place : Place) (own : Scaled) (n : Option Scaled) → number_at l storage place ≡ n →
         ReadsSo (part.read place ∷ []) own (is_some n)
     item_read place own (Some v) e = (v, (fine_moment storage counts first v failed, (v, e, refl), refl))
     item_read place own None e = inl (refl, e, refl)
 
-    pub items_read : (places : List ℕ) (own : Scaled) → ReadsSo (item_reads places) own (are_numeric l storage places)
+    pub items_read : (places : List Place) (own : Scaled) → ReadsSo (item_reads places) own (are_numeric l storage places)
     items_read [] own = (own, refl)
     items_read (place ∷ places) own =
         reads_on (part.read place ∷ []) (item_reads places) own (is_some (number_at l storage place))

@@ -1,4 +1,6 @@
 -- Edges of MOVE, of conditions, and of the augmenting of VARYING.
+use Rattle.cob_data.specs.declared.layout.Place.{Place}
+use Rattle.cob_data.specs.Places.{plain}
 use Rattle.std.proofs.Common.{◌≡◌, ℕ, Bool, true, false, not, List, [], ◌∷◌, ◌++◌, inl, Option, Some, None, Result, Ok, Err, ℤ, pos, refl, ap}
 use Rattle.std.specs.Prelude.{if◌then◌else◌, is_some}
 use Rattle.std.specs.Option.{option_map}
@@ -41,7 +43,7 @@ module _ (l : Layout) (counts : List (Option ℤ)) (w : World) where
   moved_edge xs (Ok now) h = (fine_moment now counts w.storage h.0 false, h.1, refl, refl, refl, refl)
   moved_edge xs (Err fault) h = h
 
-  pub move_edge : (x : Sender) (places : List ℕ) → EdgeSo l counts false (move_parts l x places) w (met
+  pub move_edge : (x : Sender) (places : List Place) → EdgeSo l counts false (move_parts l x places) w (met
       (move l x places w))
   move_edge x places =
       moved_edge (move_parts l x places) (after_move l w.storage x places) (move_does l counts x w.storage start places)
@@ -84,7 +86,7 @@ module _ (l : Layout) (counts : List (Option ℤ)) (w : World) where
   -- ---- the augmenting of VARYING
 
   sum_stored : (place : ℕ) (by : Sender) (v own : Scaled) → number_of l w.storage by ≡ Some v →
-      stored_bytes l (at own) place Trunc (part.augmented by) ≡ stored Trunc (form_at l place) (value_of (plus own v))
+      stored_bytes l (at own) (plain place) Trunc (part.augmented by) ≡ stored Trunc (form_at l place) (value_of (plus own v))
   sum_stored place by v own e =
       ap (λ (o : Option Scaled). value.◌>>=◌ (option_map (λ u. value_of (plus own u)) o) (λ u. stored Trunc
       (form_at l place) u)) e
@@ -96,12 +98,12 @@ module _ (l : Layout) (counts : List (Option ℤ)) (w : World) where
   AugmentsSo xs own (Err fault) = Meets l false xs (at own) fault
 
   store_augmented : (place : ℕ) (by : Sender) (own : Scaled) (o : Option (List ℕ)) →
-      stored_bytes l (at own) place Trunc (part.augmented by) ≡ o →
-      AugmentsSo (part.store place Trunc (part.augmented by) ∷ []) own
-      (or_fault kind.Size o >>= λ bytes. Ok (with_storage w (filled_at l w.storage place bytes)))
+      stored_bytes l (at own) (plain place) Trunc (part.augmented by) ≡ o →
+      AugmentsSo (part.store (plain place) Trunc (part.augmented by) ∷ []) own
+      (or_fault kind.Size o >>= λ bytes. Ok (with_storage w (filled_at l w.storage (plain place) bytes)))
   store_augmented place by own (Some bytes) e = (
-    fine_moment (filled_at l w.storage place bytes) counts w.storage own false,
-    (fine_moment (filled_at l w.storage place bytes) counts w.storage own false, (bytes, e, refl), refl),
+    fine_moment (filled_at l w.storage (plain place) bytes) counts w.storage own false,
+    (fine_moment (filled_at l w.storage (plain place) bytes) counts w.storage own false, (bytes, e, refl), refl),
     refl,
     refl,
     refl,
@@ -117,13 +119,13 @@ module _ (l : Layout) (counts : List (Option ℤ)) (w : World) where
 
   read_augmented : (place : ℕ) (by : Sender) (v own : Scaled) → number_of l w.storage by ≡ Some v →
       (o : Option Scaled) →
-      number_at l w.storage place ≡ o →
-      AugmentsSo (part.read place ∷ part.store place Trunc (part.augmented by) ∷ []) own
+      number_at l w.storage (plain place) ≡ o →
+      AugmentsSo (part.read (plain place) ∷ part.store (plain place) Trunc (part.augmented by) ∷ []) own
       (or_fault kind.Class o >>= λ u. or_fault kind.Size (stored Trunc (form_at l place) (value_of
       (plus u v))) >>= λ bytes.
-      Ok (with_storage w (filled_at l w.storage place bytes)))
+      Ok (with_storage w (filled_at l w.storage (plain place) bytes)))
   read_augmented place by v own e (Some u) f =
-      augments_behind (part.read place) (part.store place Trunc (part.augmented by) ∷ []) own u _ (
+      augments_behind (part.read (plain place)) (part.store (plain place) Trunc (part.augmented by) ∷ []) own u _ (
         at u,
         (u, f, refl),
         refl,
@@ -132,19 +134,19 @@ module _ (l : Layout) (counts : List (Option ℤ)) (w : World) where
   read_augmented place by v own e None f = inl (refl, f, refl)
 
   abbrev own_parts : ℕ → Sender → List Part
-  own_parts place by = part.read place ∷ part.store place Trunc (part.augmented by) ∷ []
+  own_parts place by = part.read (plain place) ∷ part.store (plain place) Trunc (part.augmented by) ∷ []
 
   augment_by : (place : ℕ) (by : Sender) (o : Option Scaled) → number_of l w.storage by ≡ o →
       ReadsSo l false w.storage counts w.storage false (number_reads by) start (is_some o) →
       EdgeSo l counts false (augment_parts place by) w
-      (met (or_fault kind.Class o >>= λ v. or_fault kind.Class (number_at l w.storage place) >>= λ u.
+      (met (or_fault kind.Class o >>= λ v. or_fault kind.Class (number_at l w.storage (plain place)) >>= λ u.
       or_fault kind.Size (stored Trunc (form_at l place) (value_of (plus u v))) >>= λ bytes.
-      Ok (with_storage w (filled_at l w.storage place bytes))))
+      Ok (with_storage w (filled_at l w.storage (plain place) bytes))))
   augment_by place by (Some v) e h =
-      behind (or_fault kind.Class (number_at l w.storage place) >>= λ u.
+      behind (or_fault kind.Class (number_at l w.storage (plain place)) >>= λ u.
       or_fault kind.Size (stored Trunc (form_at l place) (value_of (plus u v))) >>= λ bytes.
-      Ok (with_storage w (filled_at l w.storage place bytes)))
-      (read_augmented place by v h.0 e (number_at l w.storage place) refl)
+      Ok (with_storage w (filled_at l w.storage (plain place) bytes)))
+      (read_augmented place by v h.0 e (number_at l w.storage (plain place)) refl)
     where
       behind : (r : Result World Kind) → AugmentsSo (own_parts place by) h.0 r → EdgeSo l counts false
           (augment_parts place by) w (met r)
@@ -159,7 +161,7 @@ module _ (l : Layout) (counts : List (Option ℤ)) (w : World) where
       )
       behind (Err fault) g = meets_behind l false (number_reads by) (own_parts place by) (at start) (at h.0) fault h.1 g
   augment_by place by None e h =
-      meets_front l false (number_reads by) (part.read place ∷ part.store place Trunc (part.augmented by) ∷ [])
+      meets_front l false (number_reads by) (part.read (plain place) ∷ part.store (plain place) Trunc (part.augmented by) ∷ [])
       (at start)
       kind.Class h
 

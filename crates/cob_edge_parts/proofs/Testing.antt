@@ -1,4 +1,5 @@
 -- Conditions: what a test reads and divides by, before it is decided.
+use Rattle.cob_data.specs.Places.{plain}
 use Rattle.std.proofs.Common.{◌≡◌, ℕ, Bool, true, false, ◌&&◌, ◌||◌, List, [], ◌∷◌, ◌++◌, Option, Some, None, Result, Ok, Err, ℤ, refl, sym, ap, subst, ◌∙◌}
 use Rattle.std.specs.Prelude.{if◌then◌else◌, is_some}
 use Rattle.std.specs.List.{list_all}
@@ -246,12 +247,12 @@ module _ (l : Layout) (storage : List ℕ) (counts : List (Option ℤ)) where
       (texts_decided l storage a r b)
   test_does (member place []) own = (own, refl)
   test_does (member place (p ∷ ps)) own =
-      by_reads (member_reads l place (p ∷ ps)) own (readable l storage (sender.Item place) && ends_readable l storage
+      by_reads (member_reads l place (p ∷ ps)) own (readable l storage (sender.Item (plain place)) && ends_readable l storage
       (p ∷ ps))
-      (in_some l storage (sender.Item place) (p ∷ ps))
-      (reads_on l false storage counts storage false (text_reads l (sender.Item place)) (end_reads l (p ∷ ps)) own
-      (readable l storage (sender.Item place)) (ends_readable l storage (p ∷ ps)) (text_read (sender.Item place) own)
+      (in_some l storage (sender.Item (plain place)) (p ∷ ps))
+      (reads_on l false storage counts storage false (text_reads l (sender.Item (plain place))) (end_reads l (p ∷ ps)) own
+      (readable l storage (sender.Item (plain place))) (ends_readable l storage (p ∷ ps)) (text_read (sender.Item (plain place)) own)
       (λ v. ends_read (p ∷ ps) v))
-      (some_decided l storage (sender.Item place) p ps (readable l storage (sender.Item place)) refl)
+      (some_decided l storage (sender.Item (plain place)) p ps (readable l storage (sender.Item (plain place))) refl)
   test_does (numeric place) own = (own, refl)
   test_does always own = (own, refl)

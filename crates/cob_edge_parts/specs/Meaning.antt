@@ -1,4 +1,5 @@
 -- What each part of an edge does to storage and counters, and the fault that it meets.
+use Rattle.cob_data.specs.declared.layout.Place.{Place}
 use Rattle.std.specs.Prelude.{◌≡◌, ℕ, suc, ◌-◌, ◌==◌, ◌||◌, ◌⊎◌, if◌then◌else◌, Bool, true, false, not, List, [], ◌∷◌, length, slice_get, slice_set, Option, Some, None, Ok, ℤ, pos, ◌-ℤ◌, unsigned_abs}
 use Rattle.std.specs.Option.{option_map, option_map_or}
 use Rattle.dec_num.specs.declared.types.Mode.{Mode}
@@ -75,7 +76,7 @@ is_positive _ = false
 -- ---- what receivers get
 
 -- a divisor has a value, which isn't 0
-abbrev pub divides_by : (ℕ → Scaled) → Atom → Bool
+abbrev pub divides_by : (Place → Scaled) → Atom → Bool
 divides_by worth_ a = option_map_or (λ v. not (unsigned_abs v.units == 0)) (atom_value worth_ a) false
 
 -- the fault where a receiver doesn't hold it
@@ -106,18 +107,18 @@ module _ (l : Layout) where
   amount m (augmented x) = option_map (λ v. value_of (plus m.own v)) (number_of l m.first x)
 
   -- the bytes that a receiver gets, where it holds its value
-  abbrev pub stored_bytes : Moment → ℕ → Mode → Amount → Option (List ℕ)
-  stored_bytes m place mode a = amount m a >>= stored mode (form_at l place)
+  abbrev pub stored_bytes : Moment → Place → Mode → Amount → Option (List ℕ)
+  stored_bytes m place mode a = amount m a >>= stored mode (form_at l place.item)
 
   -- what doesn't fit leaves the receiver as it is
-  abbrev pub stored_or_kept : Moment → ℕ → Option (List ℕ) → Moment
+  abbrev pub stored_or_kept : Moment → Place → Option (List ℕ) → Moment
   stored_or_kept m place None = with_failure m
   stored_or_kept m place (Some bytes) = with_storage m (filled_at l m.storage place bytes)
 
   -- ---- passing a part
 
   -- Receivers aren't read behind a divisor that is 0.
-  abbrev pub ReadsAt : Bool → ℕ → Moment → Moment → Type 0
+  abbrev pub ReadsAt : Bool → Place → Moment → Moment → Type 0
   ReadsAt true place m n = n ≡ m
   ReadsAt false place m n = (v : Scaled) × (number_at l m.storage place ≡ Some v) × (n ≡ with_own m v)
 
@@ -125,7 +126,7 @@ module _ (l : Layout) where
   Divides true a m n = n ≡ (if divides_by (worth l m.first) a then m else divided_by_zero m)
   Divides false a m n = (divides_by (worth l m.first) a ≡ true) × (n ≡ m)
 
-  abbrev pub Stores : Bool → ℕ → Mode → Amount → Moment → Moment → Type 0
+  abbrev pub Stores : Bool → Place → Mode → Amount → Moment → Moment → Type 0
   Stores true place mode a m n = n ≡ (if is_left_alone m a then m else stored_or_kept m place
       (stored_bytes m place mode a))
   Stores false place mode a m n =

@@ -1,5 +1,7 @@
 -- The parts of what each edge of the graph does: sending operands are read first, then divisors count, then each
 -- receiver in turn is read and stored (ISO 1989:1985, "Procedure division").
+use Rattle.cob_data.specs.declared.layout.Place.{Place}
+use Rattle.cob_data.specs.Places.{plain}
 use Rattle.std.specs.Prelude.{ℕ, ◌&&◌, if◌then◌else◌, Bool, true, false, List, [], ◌∷◌, ◌++◌, map, length, not, slice_get, Option, Some, None, is_some}
 use Rattle.std.specs.List.{list_any}
 use Rattle.std.specs.Option.{option_map, option_map_or}
@@ -45,13 +47,13 @@ pub data Amount : Type 0 where
 
 pub data Part : Type 0 where
   -- an item's contents are a number
-  read : ℕ → Part
+  read : Place → Part
   -- a constant that is no number is asked for one; no program of the profile has this
   unread : Part
   -- a divisor isn't 0
   divide : Atom → Part
   -- an item gets a value
-  store : ℕ → Mode → Amount → Part
+  store : Place → Mode → Amount → Part
   -- Bytes from an offset on, so many, change to anything that the statement may put there.
   bytes_in : ℕ → ℕ → Part
   -- a test has this outcome
@@ -97,7 +99,7 @@ divisors_of s (t ∷ ts) = divisors_in s ++ (if list_any (λ u. is_under u.how) 
 
 -- ---- what is read
 
-abbrev pub item_reads : List ℕ → List Part
+abbrev pub item_reads : List Place → List Part
 item_reads places = map (λ place. read place) places
 
 -- what is read of a sender as a number
@@ -109,7 +111,7 @@ number_reads (sender.Fill byte) = unread ∷ []
 number_reads sender.Zero = []
 
 -- a receiver is read at its turn, unless it gets the whole
-abbrev pub own_reads : How → ℕ → List Part
+abbrev pub own_reads : How → Place → List Part
 own_reads how.Whole place = []
 own_reads _ place = read place ∷ []
 
@@ -128,18 +130,18 @@ targets_parts s (t ∷ ts) = target_parts s t ++ targets_parts s ts
 
 -- VARYING goes on as by ADD
 abbrev pub augment_parts : ℕ → Sender → List Part
-augment_parts place by = number_reads by ++ (read place ∷ store place Trunc (augmented by) ∷ [])
+augment_parts place by = number_reads by ++ (read (plain place) ∷ store (plain place) Trunc (augmented by) ∷ [])
 
 -- A comparison of two sums. The items of both are read before a divisor counts.
 abbrev pub compare_parts : Sum → Sum → List Part
 compare_parts a b = item_reads (items_in a) ++ (item_reads (items_in b) ++ divides (divisors_in a ++ divisors_in b))
 
 module _ (l : Layout) where
-  abbrev pub remainder_parts : Sum → List Target → Option ℕ → List Part
-  remainder_parts s (t ∷ []) (Some place) = store place Trunc (remaining s (scale_of (form_at l t.item))) ∷ []
+  abbrev pub remainder_parts : Sum → List Target → Option Place → List Part
+  remainder_parts s (t ∷ []) (Some place) = store place Trunc (remaining s (scale_of (form_at l t.item.item))) ∷ []
   remainder_parts s ts remainder = []
 
-  abbrev pub arith_parts : Sum → List Target → Option ℕ → List Part
+  abbrev pub arith_parts : Sum → List Target → Option Place → List Part
   arith_parts s targets remainder =
       item_reads (items_in s) ++ (divides (divisors_of s targets) ++
       (targets_parts s targets ++ remainder_parts s targets remainder))
@@ -147,7 +149,7 @@ module _ (l : Layout) where
   -- ---- MOVE
 
   abbrev pub is_number_item : Sender → Bool
-  is_number_item (sender.Item place) = is_number_form (form_at l place)
+  is_number_item (sender.Item p) = is_number_form (form_at l p.item)
   is_number_item _ = false
 
   -- a sender as text, which a numeric item gives by its number
@@ -163,21 +165,21 @@ module _ (l : Layout) where
   is_read_for (form.Text n) x = is_number_item x
   is_read_for f x = gets_value f x
 
-  abbrev pub item_bytes : ℕ → List Part
-  item_bytes place = option_map_or (λ i. bytes_in i.offset i.length ∷ []) (item_at l place) []
+  abbrev pub item_bytes : Place → List Part
+  item_bytes p = option_map_or (λ i. bytes_in i.offset i.length ∷ []) (item_at l p.item) []
 
-  abbrev pub receiver_parts : Sender → ℕ → List Part
+  abbrev pub receiver_parts : Sender → Place → List Part
   receiver_parts x place =
-      if gets_value (form_at l place) x then store place Trunc (moved x) ∷ [] else item_bytes place
+      if gets_value (form_at l place.item) x then store place Trunc (moved x) ∷ [] else item_bytes place
 
-  abbrev pub receivers_parts : Sender → List ℕ → List Part
+  abbrev pub receivers_parts : Sender → List Place → List Part
   receivers_parts x [] = []
   receivers_parts x (place ∷ places) = receiver_parts x place ++ receivers_parts x places
 
   -- the sender is read once
-  abbrev pub move_parts : Sender → List ℕ → List Part
+  abbrev pub move_parts : Sender → List Place → List Part
   move_parts x places =
-      (if list_any (λ place. is_read_for (form_at l place) x) places then number_reads x else [])
+      (if list_any (λ place. is_read_for (form_at l place.item) x) places then number_reads x else [])
       ++ receivers_parts x places
 
   -- ---- conditions
@@ -189,7 +191,7 @@ module _ (l : Layout) where
   -- an item that is a number is read, whatever the ends are
   abbrev pub member_reads : ℕ → List Pair → List Part
   member_reads place [] = []
-  member_reads place (p ∷ ps) = text_reads (sender.Item place) ++ end_reads (p ∷ ps)
+  member_reads place (p ∷ ps) = text_reads (sender.Item (plain place)) ++ end_reads (p ∷ ps)
 
   -- what is read before a test is decided
   abbrev pub test_reads : Test → List Part
@@ -221,18 +223,18 @@ module _ (l : Layout) where
 
   abbrev pub into_parts : Option ℕ → List Part
   into_parts None = []
-  into_parts (Some place) = item_bytes place
+  into_parts (Some place) = item_bytes (plain place)
 
   abbrev pub from_parts : ℕ → Option Sender → List Part
   from_parts rec_ None = []
-  from_parts rec_ (Some x) = move_parts x (rec_ ∷ [])
+  from_parts rec_ (Some x) = move_parts x (plain rec_ ∷ [])
 
 -- ---- edges
 
 module _ (p : Program) (statement : ℕ) where
   abbrev pub assign_parts : Act → List Part
   assign_parts (act.move x places) = move_parts p.layout x places
-  assign_parts (perform body (varying after place start by t)) = move_parts p.layout start (place ∷ [])
+  assign_parts (perform body (varying after place start by t)) = move_parts p.layout start (plain place ∷ [])
   assign_parts (act.read f into end fine) = into_parts p.layout into
   assign_parts (write r from) = from_parts p.layout r from
   assign_parts _ = []

@@ -1,4 +1,5 @@
 -- What a sum is worth lies within its bound, and where the bounds are small, so is each intermediate.
+use Rattle.cob_data.specs.declared.layout.Place.{Place}
 use Rattle.std.proofs.Common.{◌≡◌, ℕ, ◌&&◌, pos, true, Option, Some, None, subst}
 use Rattle.std.specs.Prelude.{IfSome}
 use Rattle.dec_num.specs.declared.types.Scaled.{Scaled}
@@ -7,7 +8,7 @@ use Rattle.cob_program.specs.Values.{whole_number, negated, plus, literal, with_
 use Rattle.cob_program.specs.Bounds.{Bound, exactly, literal_bound, sum_bound, factor_bound, is_small, sum_most, sum_most_from, part_most, product_most_from, atom_most, is_small_sum, is_small_sum_from, is_small_part, is_small_product, is_small_atom, is_small_root, is_small_stored, IsWithin, IsSmall, EachInSum, EachInSumFrom, EachInPart, EachInProduct, EachInAtom, EachInRoot, EachInStored}
 use Rattle.cob_program.proofs.Steps.{some_bound, some_same, if_some, both, negated_within, literal_within, whole_within, plus_within, factor_within, small_of}
 
-module _ (worth : ℕ → Scaled) (bound : ℕ → Bound) (held : (place : ℕ) → IsWithin (worth place) (bound place)) where
+module _ (worth : Place → Scaled) (bound : ℕ → Bound) (held : (place : Place) → IsWithin (worth place) (bound place.item)) where
   mutual
     pub sum_within : (s : Sum) (v : Scaled) → sum_value worth s ≡ Some v → IsWithin v (sum_most bound s)
     sum_within (MkSum ps) v e = sum_from_within ps (whole_number (pos 0)) (exactly 0) v (whole_within 0) e
@@ -32,7 +33,7 @@ module _ (worth : ℕ → Scaled) (bound : ℕ → Bound) (held : (place : ℕ) 
         product_within fs d.0 (factor_bound over b (atom_most bound atom)) v w d.2
 
     atom_within : (a : Atom) (v : Scaled) → atom_value worth a ≡ Some v → IsWithin v (atom_most bound a)
-    atom_within (item place) v e = subst (λ x. IsWithin x (bound place)) (some_same (worth place) v e) (held place)
+    atom_within (item place) v e = subst (λ x. IsWithin x (bound place.item)) (some_same (worth place) v e) (held place)
     atom_within (number n) v e = subst (λ x. IsWithin x (literal_bound n)) (some_same (literal n) v e) (literal_within n)
     atom_within (group s) v e = sum_within s v e
 
@@ -68,7 +69,7 @@ module _ (worth : ℕ → Scaled) (bound : ℕ → Bound) (held : (place : ℕ) 
         )
 
     each_in_atom : (a : Atom) → is_small_atom bound a ≡ true → EachInAtom IsSmall worth a
-    each_in_atom (item place) e = small_of (worth place) (bound place) (held place) e
+    each_in_atom (item place) e = small_of (worth place) (bound place.item) (held place) e
     each_in_atom (number n) e = small_of (literal n) (literal_bound n) (literal_within n) e
     each_in_atom (group s) e = each_in_sum s e
 

@@ -1,4 +1,5 @@
 -- Statements and programs as plain data, without where they lie in memory.
+use Rattle.cob_data.specs.declared.layout.Place.{Place}
 use Rattle.std.specs.Prelude.{ℕ, Bool, List, [], ◌∷◌, Option, None, Some}
 use Rattle.cob_data.specs.declared.layout.Sender.{Sender}
 use Rattle.cob_data.specs.declared.layout.Layout.{Layout}
@@ -28,8 +29,8 @@ mutual
     given : Stmts → Phrase
 
   pub data Act : Type 0 where
-    move : Sender → List ℕ → Act
-    arith : Sum → List Target → Option ℕ → Phrase → Stmts → Act
+    move : Sender → List Place → Act
+    arith : Sum → List Target → Option Place → Phrase → Stmts → Act
     if_ : Logic → Stmts → Stmts → Act
     evaluate : Whens → Stmts → Act
     perform : Body → Turns → Act

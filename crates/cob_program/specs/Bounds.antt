@@ -1,4 +1,5 @@
 -- How great the intermediates of a sum can be, whatever its items hold within their pictures.
+use Rattle.cob_data.specs.declared.layout.Place.{Place}
 use Rattle.std.specs.Prelude.{◌≡◌, ◌≤◌, nat_le, ℕ, ◌+◌, ◌-◌, ◌*◌, ◌^◌, max, Bool, true, false, ◌&&◌, pos, unsigned_abs, length, Option, Some, None, IfSome}
 use Rattle.dec_num.specs.declared.types.Scaled.{Scaled}
 use Rattle.cob_tree.specs.declared.token.Num.{Num}
@@ -73,7 +74,7 @@ module _ (bound : ℕ → Bound) where
     product_most_from a (more_factors (MkFactor over minus atom) fs) = product_most_from (factor_bound over a (atom_most atom)) fs
 
     pub atom_most : Atom → Bound
-    atom_most (item place) = bound place
+    atom_most (item place) = bound place.item
     atom_most (number n) = literal_bound n
     atom_most (group s) = sum_most s
 
@@ -96,7 +97,7 @@ module _ (bound : ℕ → Bound) where
         is_small_atom atom && (is_small (factor_bound over a (atom_most atom)) && is_small_product (factor_bound over a (atom_most atom)) fs)
 
     pub is_small_atom : Atom → Bool
-    is_small_atom (item place) = is_small (bound place)
+    is_small_atom (item place) = is_small (bound place.item)
     is_small_atom (number n) = is_small (literal_bound n)
     is_small_atom (group s) = is_small_sum s
 
@@ -136,7 +137,7 @@ pub record IsSmall (v : Scaled) : Type 0 where
   pub most : unsigned_abs v.units ≤ 10 ^ 37 - 1
   pub scale : v.scale ≤ 37
 
-module _ (P : Scaled → Type 0) (worth : ℕ → Scaled) where
+module _ (P : Scaled → Type 0) (worth : Place → Scaled) where
   abbrev mutual
     -- P of each intermediate, as far as there is no zero divisor
     pub EachInSum : Sum → Type 0

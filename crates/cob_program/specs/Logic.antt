@@ -1,4 +1,5 @@
 -- Conditions as plain data, without where they lie in memory.
+use Rattle.cob_data.specs.declared.layout.Place.{Place}
 use Rattle.std.specs.Prelude.{ℕ, List, [], ◌∷◌}
 use Rattle.cob_tree.specs.declared.token.Rel.{Rel}
 use Rattle.cob_data.specs.declared.layout.Sender.{Sender}
@@ -9,7 +10,7 @@ pub data Test : Type 0 where
   numbers : Sum → Rel → Sum → Test
   texts : Sender → Rel → Sender → Test
   member : ℕ → List Pair → Test
-  numeric : ℕ → Test
+  numeric : Place → Test
   always : Test
 
 mutual

@@ -1,4 +1,5 @@
 -- Sums as plain data, without where they lie in memory.
+use Rattle.cob_data.specs.declared.layout.Place.{Place}
 use Rattle.std.specs.Prelude.{ℕ, Bool, List, [], ◌∷◌}
 use Rattle.cob_tree.specs.declared.token.Num.{Num}
 
@@ -23,7 +24,7 @@ mutual
     MkFactor : Bool → Bool → Atom → Factor
 
   pub data Atom : Type 0 where
-    item : ℕ → Atom
+    item : Place → Atom
     number : Num → Atom
     group : Sum → Atom
 

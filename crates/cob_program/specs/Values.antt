@@ -1,4 +1,5 @@
 -- What a sum is worth, where each item is a number in units of its scale (ISO 1989:1985, "Arithmetic expressions").
+use Rattle.cob_data.specs.declared.layout.Place.{Place}
 use Rattle.std.specs.Prelude.{ℕ, ◌+◌, ◌-◌, ◌*◌, ◌^◌, ◌==◌, max, min, if◌then◌else◌, Bool, true, false, ℤ, pos, neg_ℤ, ◌+ℤ◌, ◌*ℤ◌, unsigned_abs, List, [], ◌∷◌, Option, Some, None}
 use Rattle.dec_num.specs.declared.types.Mode.TheVariants.{Trunc}
 use Rattle.dec_num.specs.declared.types.Scaled.{Scaled}
@@ -59,7 +60,7 @@ abbrev pub with_factor : Bool → Scaled → Scaled → Option Scaled
 with_factor false a b = Some (product a b)
 with_factor true a b = quotient a b
 
-module _ (worth : ℕ → Scaled) where
+module _ (worth : Place → Scaled) where
   abbrev mutual
     -- The value of a sum, from left to right; nothing where a divisor is 0.
     pub sum_value : Sum → Option Scaled
@@ -111,11 +112,11 @@ exact_quotient n d =
     if unsigned_abs d.units == 0 then None
     else Some (ratio_of (n.units *ℤ pos (10 ^ d.scale)) (d.units *ℤ pos (10 ^ n.scale)))
 
-abbrev pub stored_from : (ℕ → Scaled) → Sum → Option Root → Option Fraction
+abbrev pub stored_from : (Place → Scaled) → Sum → Option Root → Option Fraction
 stored_from worth s None = sum_value worth s >>= λ v. Some (value_of v)
 stored_from worth s (Some r) =
     product_from worth (whole_number (pos 1)) r.above >>= λ n. atom_value worth r.below >>= λ d. exact_quotient n (negated r.minus d)
 
 -- the exact value that is stored; nothing where a divisor is 0
-abbrev pub stored_value : (ℕ → Scaled) → Sum → Option Fraction
+abbrev pub stored_value : (Place → Scaled) → Sum → Option Fraction
 stored_value worth s = stored_from worth s (root_of s)

@@ -5,7 +5,7 @@ ghost use Rattle.cob_program.specs.ActView.{plain_stmt, plain_act};
 
 use crate::logic::Logic;
 use crate::sum::Sum;
-use cob_data::Sender;
+use cob_data::{Place, Sender};
 use cob_tree::Many;
 use dec_num::Mode;
 
@@ -25,14 +25,14 @@ pub struct Stmt {
 pub enum Act {
     Move {
         from: Sender,
-        to: Many<u32>,
+        to: Many<Place>,
     },
     /// `common` is worked out once; each target says what becomes of it. `size` is the list of ON SIZE ERROR,
     /// `fine` that of NOT ON SIZE ERROR, empty where there is none.
     Arith {
         common: Sum,
         targets: Many<Target>,
-        remainder: Option<u32>,
+        remainder: Option<Place>,
         size: Option<Vec<Stmt>>,
         fine: Vec<Stmt>,
     },
@@ -90,7 +90,7 @@ pub enum How {
 /// A receiver.
 #[derive(Clone, Copy)]
 pub struct Target {
-    pub item: u32,
+    pub item: Place,
     pub how: How,
     pub mode: Mode,
 }

@@ -4,7 +4,7 @@ ghost use Rattle.cob_program.specs.Logic.{all_of, any_of, not_, test, logics_of}
 ghost use Rattle.cob_program.specs.LogicView.{plain_logic, plain_test};
 
 use crate::sum::Sum;
-use cob_data::{Pair, Sender};
+use cob_data::{Pair, Place, Sender};
 use cob_tree::{Many, Rel};
 
 /// A simple condition (ISO 1989:1985, "Conditional expressions").
@@ -28,7 +28,7 @@ pub enum Test {
         ranges: Many<Pair>,
     },
     /// The item's contents can be read as a number.
-    Numeric(u32),
+    Numeric(Place),
     /// ANY
     Always,
 }

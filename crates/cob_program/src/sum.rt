@@ -3,6 +3,7 @@ ghost use Rattle.std.specs.Prelude.{◌≡◌, map};
 ghost use Rattle.cob_program.specs.Sum.{MkSum, MkPart, MkFactor, parts_of, factors_of, item, number, group};
 ghost use Rattle.cob_program.specs.SumView.{plain_sum, plain_part, plain_factor, plain_atom};
 
+use cob_data::Place;
 use cob_tree::Num;
 
 /// A sum of products (ISO 1989:1985, "Arithmetic expressions").
@@ -33,7 +34,7 @@ pub struct Factor {
 #[cycle(sum)]
 #[derive(Drop)]
 pub enum Atom {
-    Item(u32),
+    Item(Place),
     Number(Num),
     Group(Box<Sum>),
 }
@@ -67,7 +68,7 @@ impl Factor {
 
 impl Atom {
     /// An item.
-    pub fn item(place: u32) -> Atom
+    pub fn item(place: Place) -> Atom
         ensures { plain_atom result ≡ item place }
     {
         Atom::Item(place)

@@ -1,4 +1,6 @@
 -- What statements do to what a run works on. Nothing here knows what comes next.
+use Rattle.cob_data.specs.declared.layout.Place.{Place}
+use Rattle.cob_data.specs.Places.{plain}
 use Rattle.std.specs.Prelude.{ℕ, ◌+◌, ◌-◌, ◌==◌, nat_lt, if◌then◌else◌, Bool, true, false, List, [], ◌∷◌, ◌++◌, slice_get, slice_set, Option, Some, None, Result, Ok, Err, ℤ, pos, ◌-ℤ◌, ◌≤ℤ◌}
 use Rattle.std.specs.Option.{option_map, option_map_or}
 use Rattle.std.specs.List.{list_any}
@@ -30,11 +32,11 @@ abbrev pub count_of : ℕ → World → Option ℤ
 count_of statement w = option_map_or (λ c. c) (slice_get w.counts (statement - 1)) None
 
 module _ (l : Layout) where
-  abbrev pub move : Sender → List ℕ → World → Result World Kind
+  abbrev pub move : Sender → List Place → World → Result World Kind
   move x places w = after_move l w.storage x places >>= λ storage. Ok (with_storage w storage)
 
   -- Arithmetic, with whether there is a size error, which the phrase handles.
-  abbrev pub compute : Bool → Sum → List Target → Option ℕ → World → Result (World × Bool) Kind
+  abbrev pub compute : Bool → Sum → List Target → Option Place → World → Result (World × Bool) Kind
   compute phrase s targets remainder w =
       after_arithmetic l phrase w.storage s targets remainder >>= λ r. Ok (with_storage w r.storage, r.failed)
 
@@ -54,14 +56,14 @@ module _ (l : Layout) where
 
   -- VARYING begins as by MOVE
   abbrev pub set_varied : ℕ → Sender → World → Result World Kind
-  set_varied place start w = move start (place ∷ []) w
+  set_varied place start w = move start (plain place ∷ []) w
 
   -- VARYING goes on as by ADD.
   abbrev pub augment : ℕ → Sender → World → Result World Kind
   augment place by w =
-      or_fault kind.Class (number_of l w.storage by) >>= λ v. or_fault kind.Class (number_at l w.storage place) >>= λ own.
+      or_fault kind.Class (number_of l w.storage by) >>= λ v. or_fault kind.Class (number_at l w.storage (plain place)) >>= λ own.
       or_fault kind.Size (stored Trunc (form_at l place) (value_of (plus own v))) >>= λ bytes.
-      Ok (with_storage w (filled_at l w.storage place bytes))
+      Ok (with_storage w (filled_at l w.storage (plain place) bytes))
 
   -- ---- files
 
@@ -105,7 +107,7 @@ module _ (l : Layout) where
   -- INTO gets the record area as a group
   abbrev pub into_from : Option FileDecl → ℕ → List ℕ → List ℕ
   into_from None place storage = storage
-  into_from (Some d) place storage = filled_at l storage place (fitted (length_at l place) (area storage d.offset d.length))
+  into_from (Some d) place storage = filled_at l storage (plain place) (fitted (length_at l place) (area storage d.offset d.length))
 
   abbrev pub into_one : ℕ → ℕ → World → World
   into_one file place w = with_storage w (into_from (decl_at file) place w.storage)
@@ -134,7 +136,7 @@ module _ (l : Layout) where
 
   abbrev pub write_on : Choice → ℕ → ℕ → Option FileDecl → Option File → World → World × ℕ
   write_on c place rec_ (Some d) (Some f) w =
-      written_world c d (with_file place d (after_write (fitted d.length (bytes_at l w.storage rec_)) f) w)
+      written_world c d (with_file place d (after_write (fitted d.length (bytes_at l w.storage (plain rec_))) f) w)
   write_on c place rec_ d f w = (w, 0)
 
   abbrev pub write_one : Choice → ℕ → ℕ → World → World × ℕ
@@ -142,4 +144,4 @@ module _ (l : Layout) where
 
   abbrev pub move_if : Option Sender → ℕ → World → Result World Kind
   move_if None rec_ w = Ok w
-  move_if (Some x) rec_ w = move x (rec_ ∷ []) w
+  move_if (Some x) rec_ w = move x (plain rec_ ∷ []) w

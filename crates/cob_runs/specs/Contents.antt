@@ -1,4 +1,5 @@
 -- What items hold, and how numbers go into them.
+use Rattle.cob_data.specs.declared.layout.Place.{Place}
 use Rattle.std.specs.Prelude.{ℕ, ◌+◌, ◌^◌, nat_lt, if◌then◌else◌, Bool, true, false, List, [], ◌++◌, length, take, drop, replicate, slice_get, Option, Some, None, ℤ, pos, unsigned_abs}
 use Rattle.std.specs.Option.{option_map, option_map_or}
 use Rattle.dec_num.specs.declared.types.Mode.{Mode}
@@ -53,11 +54,11 @@ module _ (l : Layout) where
       option_map_or (λ i. written storage (start_of (extent_of i) n) bytes) (item_at place) storage
 
   -- of an item that is no table's
-  abbrev pub bytes_at : List ℕ → ℕ → List ℕ
-  bytes_at storage place = occurrence_bytes storage place 0
+  abbrev pub bytes_at : List ℕ → Place → List ℕ
+  bytes_at storage p = occurrence_bytes storage p.item 0
 
-  abbrev pub filled_at : List ℕ → ℕ → List ℕ → List ℕ
-  filled_at storage place bytes = occurrence_filled storage place 0 bytes
+  abbrev pub filled_at : List ℕ → Place → List ℕ → List ℕ
+  filled_at storage p bytes = occurrence_filled storage p.item 0 bytes
 
 -- ---- numbers in items
 
@@ -81,8 +82,8 @@ number_in f bytes = option_map (scaled_by (scale_of f)) (contents_value f bytes)
 abbrev pub occurrence_number : Layout → List ℕ → ℕ → ℕ → Option Scaled
 occurrence_number l storage place n = number_in (form_at l place) (occurrence_bytes l storage place n)
 
-abbrev pub number_at : Layout → List ℕ → ℕ → Option Scaled
-number_at l storage place = occurrence_number l storage place 0
+abbrev pub number_at : Layout → List ℕ → Place → Option Scaled
+number_at l storage p = occurrence_number l storage p.item 0
 
 -- an item without a sign gets the absolute value
 abbrev pub bytes_of : Form → ℤ → List ℕ

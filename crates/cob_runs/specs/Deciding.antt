@@ -1,4 +1,5 @@
 -- Conditions: what is read, and whether they hold (ISO 1989:1985, "Conditional expressions").
+use Rattle.cob_data.specs.Places.{plain}
 use Rattle.std.specs.Prelude.{ℕ, zero, suc, ◌&&◌, ◌||◌, ◌==◌, nat_lt, max, not, if◌then◌else◌, Bool, true, false, List, [], ◌∷◌, length, Option, Some, None, is_some, Result, Ok, Err, ℤ, pos, negsuc, ◌-ℤ◌}
 use Rattle.std.specs.List.{list_any}
 use Rattle.dec_num.specs.declared.types.Scaled.{Scaled}
@@ -77,7 +78,7 @@ module _ (l : Layout) (storage : List ℕ) where
 
   -- how long a side is as text; figurative constants take the other side's length
   abbrev pub side_length : Sender → ℕ → ℕ
-  side_length (sender.Item place) other = form_length (form_at l place) (length_at l place)
+  side_length (sender.Item p) other = form_length (form_at l p.item) (length_at l p.item)
   side_length (sender.Number n) other = length n.digits
   side_length (sender.Text text) other = length text
   side_length (sender.Fill byte) other = other
@@ -94,7 +95,7 @@ module _ (l : Layout) (storage : List ℕ) where
   abbrev pub is_number_end : Sender → Bool
   is_number_end (sender.Number n) = true
   is_number_end sender.Zero = true
-  is_number_end (sender.Item place) = is_number_form (form_at l place)
+  is_number_end (sender.Item p) = is_number_form (form_at l p.item)
   is_number_end _ = false
 
   -- two numbers by their values, else by their bytes
@@ -119,8 +120,8 @@ module _ (l : Layout) (storage : List ℕ) where
   abbrev pub test_holds : Test → Result Bool Kind
   test_holds (numbers a r b) = compared_numbers a r b
   test_holds (texts a r b) = compared_texts a r b
-  test_holds (member place ps) = in_some (sender.Item place) ps
-  test_holds (numeric place) = Ok (is_some (contents_value (form_at l place) (bytes_at l storage place)))
+  test_holds (member place ps) = in_some (sender.Item (plain place)) ps
+  test_holds (numeric p) = Ok (is_some (contents_value (form_at l p.item) (bytes_at l storage p)))
   test_holds always = Ok true
 
   abbrev pub denied : Bool → Result Bool Kind

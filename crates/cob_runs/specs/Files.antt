@@ -1,4 +1,5 @@
 -- Files, and what statements do with them (ISO 1989:1985, "Sequential I-O").
+use Rattle.cob_data.specs.Places.{plain}
 use Rattle.std.specs.Prelude.{ℕ, ◌+◌, ◌/◌, ◌%◌, ◌==◌, nat_le, if◌then◌else◌, Bool, true, false, List, [], ◌∷◌, ◌++◌, length, Option, Some, None, ℤ}
 use Rattle.std.specs.Option.{option_map, option_map_or}
 use Rattle.cob_data.specs.declared.layout.FileDecl.{FileDecl}
@@ -95,7 +96,7 @@ status_bytes n = (48 + n / 10) ∷ (48 + n % 10) ∷ []
 
 abbrev pub status_in : Layout → Option ℕ → ℕ → List ℕ → List ℕ
 status_in l None status storage = storage
-status_in l (Some place) status storage = filled_at l storage place (status_bytes status)
+status_in l (Some place) status storage = filled_at l storage (plain place) (status_bytes status)
 
 -- storage in which a file's FILE STATUS, if it has one, holds the status
 abbrev pub with_status : Layout → FileDecl → ℕ → List ℕ → List ℕ

@@ -1,4 +1,5 @@
 -- The MOVE statement: what a receiver gets (ISO 1989:1985, "The MOVE statement").
+use Rattle.cob_data.specs.declared.layout.Place.{Place}
 use Rattle.std.specs.Prelude.{ℕ, ◌&&◌, not, Bool, true, false, List, [], ◌∷◌, length, replicate, Option, Some, None, Result, Ok, Err, pos, unsigned_abs}
 use Rattle.std.specs.Option.{option_map}
 use Rattle.dec_num.specs.declared.types.Mode.TheVariants.{Trunc}
@@ -37,7 +38,7 @@ item_text (form.Number digits scale signed kept) bytes =
 item_text f bytes = Some bytes
 
 abbrev pub is_group_sender : Layout → Sender → Bool
-is_group_sender l (sender.Item place) = is_group (form_at l place)
+is_group_sender l (sender.Item p) = is_group (form_at l p.item)
 is_group_sender l _ = false
 
 module _ (l : Layout) (storage : List ℕ) where
@@ -50,7 +51,7 @@ module _ (l : Layout) (storage : List ℕ) where
 
   -- A sender as text of so many bytes, which a figurative constant fills.
   abbrev pub text_of : ℕ → Sender → Option (List ℕ)
-  text_of n (sender.Item place) = item_text (form_at l place) (bytes_at l storage place)
+  text_of n (sender.Item p) = item_text (form_at l p.item) (bytes_at l storage p)
   text_of n (sender.Number x) = Some x.digits
   text_of n (sender.Text text) = Some text
   text_of n (sender.Fill byte) = Some (replicate n byte)
@@ -82,11 +83,11 @@ module _ (l : Layout) (storage : List ℕ) where
       moved_amount (is_group_sender l x) (form.Edited picture digits scale) n x
 
   -- From left to right. The sender is what it was at first.
-  abbrev pub moved_to : List ℕ → Sender → List ℕ → Result (List ℕ) Kind
+  abbrev pub moved_to : List ℕ → Sender → List Place → Result (List ℕ) Kind
   moved_to now x [] = Ok now
   moved_to now x (place ∷ places) =
-      moved (form_at l place) (length_at l place) x >>= λ bytes. moved_to (filled_at l now place bytes) x places
+      moved (form_at l place.item) (length_at l place.item) x >>= λ bytes. moved_to (filled_at l now place bytes) x places
 
 -- storage behind MOVE
-abbrev pub after_move : Layout → List ℕ → Sender → List ℕ → Result (List ℕ) Kind
+abbrev pub after_move : Layout → List ℕ → Sender → List Place → Result (List ℕ) Kind
 after_move l storage x places = moved_to l storage storage x places

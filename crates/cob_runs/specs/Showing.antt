@@ -33,7 +33,7 @@ shown_item f bytes = bytes
 
 -- a literal as it is written, without a plus sign; a figurative constant is one character
 abbrev pub shown_sender : Layout → List ℕ → Sender → List ℕ
-shown_sender l storage (sender.Item place) = shown_item (form_at l place) (bytes_at l storage place)
+shown_sender l storage (sender.Item p) = shown_item (form_at l p.item) (bytes_at l storage p)
 shown_sender l storage (sender.Number n) = minus_if (n.sign == 45) ++ with_point n.scale n.digits
 shown_sender l storage (sender.Text text) = text
 shown_sender l storage (sender.Fill byte) = byte ∷ []
