@@ -1,6 +1,7 @@
 //! The layout of a program's data: items, condition-names and files, and copies of them.
 ghost use Rattle.std.specs.Prelude.{◌≡◌, IfOk};
 ghost use Rattle.cob_data.specs.Occurrences.{extent_of, area_of};
+ghost use Rattle.cob_data.specs.Places.{plain};
 
 use crate::extent::Extent;
 use cob_tree::{Bytes, Form, Many, Name, Num};
@@ -18,6 +19,15 @@ pub enum Sub {
 pub struct Place {
     pub item: u32,
     pub sub: Option<Sub>,
+}
+
+impl Place {
+    /// An item that is named without a subscript.
+    pub fn plain(item: u32) -> Place
+        ensures { result ≡ plain item }
+    {
+        Place { item, sub: None }
+    }
 }
 
 /// What is moved or compared, or what an item begins with: an item by its place, a literal, or a figurative constant.

@@ -24,7 +24,7 @@ use Rattle.cob_typed_exprs.specs.declared.kinds.Side.TheVariants as side
 use Rattle.cob_typed_exprs.specs.declared.kinds.Comparison.{Comparison}
 use Rattle.cob_typed_exprs.specs.declared.kinds.Comparison.TheVariants as way
 use Rattle.cob_typed_exprs.specs.Judged.{Broken, one, both, Judged, sound, breaks, demand, demanded, beside, seen_as, ◌>>=◌}
-use Rattle.cob_typed_exprs.specs.Scope.{Scope, flag_named, item_named, is_there, means_something, one_of_kind, the_item, form_at}
+use Rattle.cob_typed_exprs.specs.Scope.{Scope, flag_named, item_named, is_there, means_something, one_of_kind, the_place, form_at}
 use Rattle.cob_typed_exprs.specs.Kinds.{is_number, is_testable, side_of, comparison}
 use Rattle.cob_typed_exprs.specs.Sizes.{bound_at}
 use Rattle.cob_typed_exprs.specs.Sums.{one_atom, operand, zero_literal, atom_of, sum_of, lone, whole_sum, has_item, reference}
@@ -91,7 +91,7 @@ abbrev pub misplaced : {A : Type 0} → Scope → Rule → Expr → A → Judged
 misplaced s rule e a = record { value = a; broken = both (looked_over s e (lone e)) (one rule) }
 
 abbrev pub numeric_item : Scope → Ref → Judged Test
-numeric_item s r = the_item s r >>= λ place. demand Q5 (is_testable (form_at s place)) (numeric place)
+numeric_item s r = the_place s r >>= λ place. demand Q5 (is_testable (form_at s place.item)) (numeric place)
 
 abbrev pub numeric_test : Scope → Expr → Option Opnd → Judged Test
 numeric_test s e (Some (opnd.Ref r)) = numeric_item s r

@@ -10,6 +10,7 @@ use Rattle.cob_tree.specs.Stmt.{Sel, any, range, choice}
 use Rattle.cob_data.specs.declared.end.Rule.TheVariants.{Q7}
 use Rattle.cob_data.specs.declared.layout.Pair.{Pair}
 use Rattle.cob_data.specs.declared.layout.Sender.{Sender}
+use Rattle.cob_data.specs.Places.{plain}
 use Rattle.cob_data.specs.declared.layout.Sender.TheVariants as sender
 use Rattle.cob_program.specs.Logic.{Test, member, always, Logic, test}
 use Rattle.cob_typed_exprs.specs.declared.kinds.Comparison.{Comparison}
@@ -33,7 +34,7 @@ compares way.NotAtAll = false
 
 -- a value that compares with the item
 abbrev pub may_equal : Scope → ℕ → Sender → Bool
-may_equal s place x = compares (comparison (side_of s (sender.Item place)) (side_of s x))
+may_equal s place x = compares (comparison (side_of s (sender.Item (plain place))) (side_of s x))
 
 abbrev pub pair : Sender → Sender → Pair
 pair low high = record { low = low; high = high }

@@ -231,8 +231,8 @@ fn numeric_item(
     ensures value { IfOk result (λ test. plain_test test ≡ (numeric_item scope.now reference.now).value) }
     ensures noted { OnOk result (findings.new.items ≡ noted line findings.old.items (numeric_item scope.now reference.now).broken) }
 {
-    let place = or_leave!(scope.the_item(findings, line, reference));
-    or_leave!(demand(findings, line, Rule::Q5, is_testable(scope.form(place))));
+    let place = or_leave!(scope.the_place(findings, line, reference));
+    or_leave!(demand(findings, line, Rule::Q5, is_testable(scope.form(place.item))));
     Ok(Test::Numeric(place))
 }
 

@@ -16,7 +16,7 @@ ghost use Rattle.cob_typed_conds.specs.Selections.{looked_at, compares, may_equa
 
 use crate::conditions::condition;
 use crate::relations::{look_over, misplaced};
-use cob_data::{Pair, Rule, Sender};
+use cob_data::{Pair, Place, Rule, Sender};
 use cob_program::{Logic, Test};
 use cob_tree::{Cond, Conj, Expr, Many, Neg, Opnd, Sel, Simple, Subject};
 use cob_typed_exprs::{Comparison, Finding, Scope, compare_sides, demand, lone, note};
@@ -124,7 +124,7 @@ pub fn looked_at(
 fn may_equal(scope: &Scope, place: u32, value: &Sender) -> bool
     ensures { result ≡ may_equal scope.now place value.now }
 {
-    let item = scope.side(&Sender::Item(place));
+    let item = scope.side(&Sender::Item(Place::plain(place)));
     compares(compare_sides(item, scope.side(value)))
 }
 

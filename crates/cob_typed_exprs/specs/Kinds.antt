@@ -39,7 +39,7 @@ may_move_item (form.Edited picture digits scale) to = not (is_amount to)
 may_move_item (form.Number digits scale signed kept) to = is_amount to || is_group to || scale == 0
 
 abbrev pub may_move : Scope → Sender → Form → Bool
-may_move s (sender.Item place) to = may_move_item (form_at s place) to
+may_move s (sender.Item p) to = may_move_item (form_at s p.item) to
 may_move s (sender.Number n) to = is_amount to || n.scale == 0
 may_move s (sender.Text text) to = not (is_amount to) || (nat_le (length text) 18 && list_all is_digit text)
 may_move s (sender.Fill byte) to = not (is_amount to)
@@ -49,7 +49,7 @@ may_move s sender.Zero to = true
 
 -- a numeric item, a numeric literal, or ZERO
 abbrev pub is_number : Scope → Sender → Bool
-is_number s (sender.Item place) = is_number_form (form_at s place)
+is_number s (sender.Item p) = is_number_form (form_at s p.item)
 is_number s (sender.Number n) = true
 is_number s (sender.Text text) = false
 is_number s (sender.Fill byte) = false
@@ -61,7 +61,7 @@ is_whole_form _ = false
 
 -- a number without decimals
 abbrev pub is_whole : Scope → Sender → Bool
-is_whole s (sender.Item place) = is_whole_form (form_at s place)
+is_whole s (sender.Item p) = is_whole_form (form_at s p.item)
 is_whole s (sender.Number n) = n.scale == 0
 is_whole s (sender.Text text) = false
 is_whole s (sender.Fill byte) = false
@@ -87,7 +87,7 @@ side_of_form (form.Number digits scale signed kept) = side.Number (scale == 0 &&
 side_of_form _ = side.Text
 
 abbrev pub side_of : Scope → Sender → Side
-side_of s (sender.Item place) = side_of_form (form_at s place)
+side_of s (sender.Item p) = side_of_form (form_at s p.item)
 side_of s (sender.Number n) = side.Number (n.scale == 0)
 side_of s (sender.Text t) = side.Text
 side_of s (sender.Fill byte) = side.Text

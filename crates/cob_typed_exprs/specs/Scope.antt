@@ -8,10 +8,12 @@ use Rattle.cob_data.specs.declared.end.Rule.{Rule}
 use Rattle.cob_data.specs.declared.end.Rule.TheVariants.{Q1}
 use Rattle.cob_data.specs.declared.layout.Item.{Item}
 use Rattle.cob_data.specs.declared.layout.Layout.{Layout}
+use Rattle.cob_data.specs.declared.layout.Place.{Place}
+use Rattle.cob_data.specs.Places.{plain}
 use Rattle.cob_typed_exprs.specs.declared.found.Found.{Found}
 use Rattle.cob_typed_exprs.specs.declared.found.Found.TheVariants as found
 use Rattle.cob_typed_exprs.specs.Names.{names_item, names_flag_at, names_file_at, names_record}
-use Rattle.cob_typed_exprs.specs.Judged.{Judged, sound, breaks}
+use Rattle.cob_typed_exprs.specs.Judged.{Judged, sound, breaks, seen_as}
 
 -- the layout, and the names of the paragraphs behind the unnamed one
 pub record Scope : Type 0 where
@@ -93,6 +95,9 @@ one_of_kind rule something found.Several = breaks Q1 None
 
 abbrev pub the_item : Scope → Ref → Judged ℕ
 the_item s r = exactly_one (item_named s r)
+
+abbrev pub the_place : Scope → Ref → Judged Place
+the_place s r = seen_as plain (the_item s r)
 
 abbrev pub the_para : Scope → List ℕ → Judged ℕ
 the_para s text = exactly_one (para_named s text)

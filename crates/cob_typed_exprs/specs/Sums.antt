@@ -15,13 +15,13 @@ use Rattle.cob_data.specs.declared.layout.Sender.TheVariants as sender
 use Rattle.cob_data.specs.Entries.{sender_of}
 use Rattle.cob_program.specs.Sum.{Sum, MkSum, no_parts, more_parts, Part, MkPart, parts_of, no_factors, more_factors, Factor, MkFactor, factors_of, Atom, item, number, group}
 use Rattle.cob_typed_exprs.specs.Judged.{Broken, kept, Judged, sound, demand, seen_as, ◌>>=◌}
-use Rattle.cob_typed_exprs.specs.Scope.{Scope, the_item}
+use Rattle.cob_typed_exprs.specs.Scope.{Scope, the_place}
 use Rattle.cob_typed_exprs.specs.Kinds.{is_number}
 
 -- ---- operands
 
 abbrev pub operand : Scope → Opnd → Judged Sender
-operand s (opnd.Ref r) = seen_as (λ place. sender.Item place) (the_item s r)
+operand s (opnd.Ref r) = seen_as sender.Item (the_place s r)
 operand s (opnd.Const c) = sound (sender_of c)
 
 -- ZERO among numbers

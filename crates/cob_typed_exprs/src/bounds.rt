@@ -182,7 +182,7 @@ impl<'a> Scope<'a> {
         ensures { plain_size result ≡ capped (atom_most (bound_at self.now) (plain_atom atom.now)) }
     {
         match atom {
-            Atom::Item(place) => self.item_size(*place),
+            Atom::Item(place) => self.item_size(place.item),
             Atom::Number(number) => literal_size(number),
             Atom::Group(_) => ZERO,
         }
@@ -193,7 +193,7 @@ impl<'a> Scope<'a> {
         ensures { option_map plain_size result ≡ small_atom (bound_at self.now) (plain_atom atom.now) }
     {
         match atom {
-            Atom::Item(place) => self.item_size(*place).if_small(),
+            Atom::Item(place) => self.item_size(place.item).if_small(),
             Atom::Number(number) => literal_size(number).if_small(),
             Atom::Group(sum) => self.small_sum(sum),
         }

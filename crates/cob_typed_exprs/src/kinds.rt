@@ -90,7 +90,7 @@ impl<'a> Scope<'a> {
         ensures { result ≡ may_move self.now from.now to.now }
     {
         match from {
-            Sender::Item(place) => may_move_item(self.form(*place), to),
+            Sender::Item(place) => may_move_item(self.form(place.item), to),
             Sender::Number(number) => is_amount(to) || number.scale == 0,
             Sender::Text(text) => {
                 !is_amount(to) || (text.get().len() <= 18 && are_digits(text.get()))
@@ -105,7 +105,7 @@ impl<'a> Scope<'a> {
         ensures { result ≡ is_number self.now value.now }
     {
         match value {
-            Sender::Item(place) => is_number_form(self.form(*place)),
+            Sender::Item(place) => is_number_form(self.form(place.item)),
             Sender::Number(_) | Sender::Zero => true,
             Sender::Text(_) | Sender::Fill(_) => false,
         }
@@ -116,7 +116,7 @@ impl<'a> Scope<'a> {
         ensures { result ≡ is_whole self.now value.now }
     {
         match value {
-            Sender::Item(place) => is_whole_form(self.form(*place)),
+            Sender::Item(place) => is_whole_form(self.form(place.item)),
             Sender::Number(number) => number.scale == 0,
             Sender::Zero => true,
             Sender::Text(_) | Sender::Fill(_) => false,
@@ -128,7 +128,7 @@ impl<'a> Scope<'a> {
         ensures { result ≡ side_of self.now value.now }
     {
         match value {
-            Sender::Item(place) => side_of_form(self.form(*place)),
+            Sender::Item(place) => side_of_form(self.form(place.item)),
             Sender::Number(number) => Side::Number(number.scale == 0),
             Sender::Text(_) | Sender::Fill(_) => Side::Text,
             Sender::Zero => Side::Zero,

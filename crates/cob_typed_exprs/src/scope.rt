@@ -4,12 +4,12 @@ ghost use Rattle.cob_typed_exprs.specs.Paras.{HasParas};
 ghost use Rattle.std.specs.Option.{option_copied};
 ghost use Rattle.cob_typed_exprs.specs.declared.found.Found.{Found};
 ghost use Rattle.cob_typed_exprs.specs.Judged.{noted};
-ghost use Rattle.cob_typed_exprs.specs.Scope.{item_named, flag_named, file_named, record_named, para_named, is_there, names_apart, means_something, exactly_one, one_of_kind, rule_if, the_item, form_at};
+ghost use Rattle.cob_typed_exprs.specs.Scope.{item_named, flag_named, file_named, record_named, para_named, is_there, names_apart, means_something, exactly_one, one_of_kind, rule_if, the_item, the_place, form_at};
 
 use crate::finding::{Finding, note};
 use crate::found::Found;
 use crate::names::Names;
-use cob_data::{FileDecl, Flag, Item, Layout, Rule};
+use cob_data::{FileDecl, Flag, Item, Layout, Place, Rule};
 use cob_tree::{Form, Paragraph, Ref};
 use indexmap::IndexMap;
 use std::alloc::{AllocError, Global};
@@ -142,6 +142,20 @@ impl<'a> Scope<'a> {
         ensures noted { OnOk result (findings.new.items ≡ noted line findings.old.items (the_item self.now reference.now).broken) }
     {
         exactly_one(findings, line, self.item(reference))
+    }
+
+    /// The item that the reference names, as a place in a statement.
+    pub fn the_place(
+        &self,
+        findings: &mut Vec<Finding>,
+        line: u32,
+        reference: &Ref,
+    ) -> Result<Place, AllocError>
+        ensures value { IfOk result (λ place. place ≡ (the_place self.now reference.now).value) }
+        ensures noted { OnOk result (findings.new.items ≡ noted line findings.old.items (the_place self.now reference.now).broken) }
+    {
+        let item = self.the_item(findings, line, reference)?;
+        Ok(Place::plain(item))
     }
 }
 

@@ -104,7 +104,7 @@ impl<'a> Scope<'a> {
         ensures noted { OnOk result (findings.new.items ≡ noted line findings.old.items (operand self.now given.now).broken) }
     {
         match given {
-            Opnd::Ref(reference) => Ok(Sender::Item(self.the_item(findings, line, reference)?)),
+            Opnd::Ref(reference) => Ok(Sender::Item(self.the_place(findings, line, reference)?)),
             Opnd::Const(value) => constant(self.alloc, value),
         }
     }

@@ -12,13 +12,14 @@ use Rattle.cob_tree.specs.declared.stmt.Way.TheVariants as way
 use Rattle.cob_tree.specs.Expr.{Expr}
 use Rattle.cob_tree.specs.Forms.{is_number_form}
 use Rattle.cob_data.specs.declared.end.Rule.TheVariants.{Q3, N5}
+use Rattle.cob_data.specs.declared.layout.Place.{Place}
 use Rattle.cob_program.specs.declared.act.Target.{Target}
 use Rattle.cob_program.specs.declared.act.How.{How}
 use Rattle.cob_program.specs.declared.act.How.TheVariants as how
 use Rattle.cob_program.specs.Sum.{Sum, MkSum, Parts, no_parts, more_parts, Part, MkPart, no_factors, more_factors, MkFactor, Atom}
 use Rattle.cob_program.specs.Bounds.{Bound, sum_bound, product_bound, is_small, sum_most, atom_most, is_small_sum, is_small_stored}
 use Rattle.cob_typed_exprs.specs.Judged.{Judged, sound, demand, demanded, beside, each_of, if_there, ◌>>=◌}
-use Rattle.cob_typed_exprs.specs.Scope.{Scope, the_item, form_at}
+use Rattle.cob_typed_exprs.specs.Scope.{Scope, the_place, form_at}
 use Rattle.cob_typed_exprs.specs.Kinds.{is_amount}
 use Rattle.cob_typed_exprs.specs.Sizes.{bound_at, quotient_at}
 use Rattle.cob_typed_exprs.specs.Sums.{numeric_operand, whole_sum}
@@ -27,7 +28,7 @@ use Rattle.cob_typed_exprs.specs.Sums.{numeric_operand, whole_sum}
 pub record Worked : Type 0 where
   pub common : Sum
   pub targets : List Target
-  pub remainder : Option ℕ
+  pub remainder : Option Place
 
 -- ---- sums of operands
 
@@ -60,7 +61,7 @@ may_receive how.Whole f = is_amount f
 may_receive _ f = is_number_form f
 
 abbrev pub target : Scope → How → Recv → Judged Target
-target s h r = the_item s r.item >>= λ place. demand Q3 (may_receive h (form_at s place)) (record { item = place; how = h; mode = mode_of r.rounded })
+target s h r = the_place s r.item >>= λ place. demand Q3 (may_receive h (form_at s place.item)) (record { item = place; how = h; mode = mode_of r.rounded })
 
 -- ---- how great the results can be
 
@@ -77,9 +78,9 @@ module _ (s : Scope) where
   -- a receiver's new value, but for a quotient, which is exact until it is stored
   abbrev pub is_small_result : Sum → Target → How → Bool
   is_small_result common t how.Whole = is_small_stored (bound_at s) common
-  is_small_result common t how.Plus = is_small_sum (bound_at s) common && is_small (sum_bound (bound_at s t.item) (sum_most (bound_at s) common))
-  is_small_result common t how.Minus = is_small_sum (bound_at s) common && is_small (sum_bound (bound_at s t.item) (sum_most (bound_at s) common))
-  is_small_result common t how.Times = is_small_sum (bound_at s) common && is_small (product_bound (bound_at s t.item) (sum_most (bound_at s) common))
+  is_small_result common t how.Plus = is_small_sum (bound_at s) common && is_small (sum_bound (bound_at s t.item.item) (sum_most (bound_at s) common))
+  is_small_result common t how.Minus = is_small_sum (bound_at s) common && is_small (sum_bound (bound_at s t.item.item) (sum_most (bound_at s) common))
+  is_small_result common t how.Times = is_small_sum (bound_at s) common && is_small (product_bound (bound_at s t.item.item) (sum_most (bound_at s) common))
   is_small_result common t how.Under = is_small_sum (bound_at s) common
 
   abbrev pub are_small_results : Sum → List Target → Bool
@@ -88,7 +89,7 @@ module _ (s : Scope) where
 
   abbrev pub are_small_remainders : Bound → Bound → List Target → Bool
   are_small_remainders n d [] = true
-  are_small_remainders n d (t ∷ ts) = is_small_remainder_at n d (quotient_at n d (scale_of (form_at s t.item))) && are_small_remainders n d ts
+  are_small_remainders n d (t ∷ ts) = is_small_remainder_at n d (quotient_at n d (scale_of (form_at s t.item.item))) && are_small_remainders n d ts
 
 -- ---- statements
 
@@ -128,8 +129,8 @@ one_receiver _ = false
 abbrev pub with_remainder : Scope → Atom → Atom → List Recv → Worked → Option Ref → Judged Worked
 with_remainder s n d giving w None = sound w
 with_remainder s n d giving w (Some r) =
-    the_item s r >>= λ place.
-    beside (demanded Q3 (is_amount (form_at s place) && one_receiver giving))
+    the_place s r >>= λ place.
+    beside (demanded Q3 (is_amount (form_at s place.item) && one_receiver giving))
     (demand N5 (are_small_remainders s (atom_most (bound_at s) n) (atom_most (bound_at s) d) w.targets) (record { common = w.common; targets = w.targets; remainder = Some place }))
 
 abbrev pub divided : Scope → Atom → Atom → List Recv → Option Ref → Judged Worked

@@ -10,14 +10,16 @@ use Rattle.cob_data.specs.declared.layout.Item.{Item}
 use Rattle.cob_data.specs.declared.layout.Flag.{Flag}
 use Rattle.cob_data.specs.declared.layout.FileDecl.{FileDecl}
 use Rattle.cob_data.specs.declared.layout.Pair.{Pair}
+use Rattle.cob_data.specs.declared.layout.Place.{Place}
 use Rattle.cob_data.specs.declared.layout.Sender.{Sender}
 use Rattle.cob_data.specs.declared.layout.Sender.TheVariants as sender
 use Rattle.cob_data.specs.Extents.{share_extents}
 use Rattle.cob_data.specs.Occurrences.{extent_of, area_of}
+use Rattle.cob_data.specs.Places.{plain}
 use Rattle.cob_program.specs.declared.act.Opening.{Opening}
 use Rattle.cob_program.specs.Act.{Act, move, nothing, open_files, close_files, write, show}
 use Rattle.cob_typed_exprs.specs.Judged.{Judged, sound, demand, each_of, if_there, seen_as, ◌>>=◌}
-use Rattle.cob_typed_exprs.specs.Scope.{Scope, the_item, one_of_kind, means_something, flag_named, file_named, record_named, plain_name, form_at}
+use Rattle.cob_typed_exprs.specs.Scope.{Scope, the_item, the_place, one_of_kind, means_something, flag_named, file_named, record_named, plain_name, form_at}
 use Rattle.cob_typed_exprs.specs.Kinds.{may_move}
 use Rattle.cob_typed_exprs.specs.Sums.{operand}
 
@@ -28,7 +30,7 @@ first_value (p ∷ ps) = p.low
 
 abbrev pub set_flag : Option Flag → Act
 set_flag None = nothing
-set_flag (Some f) = move (first_value f.ranges) (f.item ∷ [])
+set_flag (Some f) = move (first_value f.ranges) (plain f.item ∷ [])
 
 abbrev pub some_of : {A : Type 0} → List (Option A) → List A
 some_of [] = []
@@ -50,8 +52,8 @@ lie_apart _ _ = true
 module _ (s : Scope) where
   -- ---- MOVE, SET, DISPLAY
 
-  abbrev pub receiver : Sender → Ref → Judged ℕ
-  receiver x r = the_item s r >>= λ place. demand Q2 (may_move s x (form_at s place)) place
+  abbrev pub receiver : Sender → Ref → Judged Place
+  receiver x r = the_place s r >>= λ place. demand Q2 (may_move s x (form_at s place.item)) place
 
   abbrev pub move_act : Opnd → List Ref → Judged Act
   move_act from to = operand s from >>= λ x. each_of (receiver x) to >>= λ places. sound (move x places)

@@ -3,11 +3,11 @@ ghost use Rattle.std.specs.Prelude.{◌≡◌};
 ghost use Rattle.cob_program.specs.Act.{move, nothing, open_files, close_files, write, show};
 ghost use Rattle.cob_program.specs.ActView.{plain_act};
 
-use cob_data::Sender;
+use cob_data::{Place, Sender};
 use cob_program::{Act, Opening};
 use cob_tree::Many;
 
-pub fn move_of(from: Sender, to: Vec<u32>) -> Act
+pub fn move_of(from: Sender, to: Vec<Place>) -> Act
     ensures { plain_act result ≡ move from to.items }
 {
     Act::Move {

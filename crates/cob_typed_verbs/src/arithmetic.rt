@@ -13,7 +13,7 @@ ghost use Rattle.cob_typed_exprs.specs.Sizes.{bound_at, plain_size, capped, smal
 ghost use Rattle.cob_typed_verbs.specs.Workings.{plain_worked, atoms_if, remainder};
 ghost use Rattle.cob_typed_verbs.specs.Arithmetic.{atom_part, parts_with, part_if, one_by_other, mode_of, may_receive, target, is_small_result, are_small_results, is_small_remainder_at, scale_of, are_small_remainders, worked, add_to, add_giving, subtract_from, subtract_giving, multiply_by, multiply_giving, divide_into, one_receiver, with_remainder, divided, divide_giving, compute};
 
-use cob_data::Rule;
+use cob_data::{Place, Rule};
 use cob_program::{Atom, Factor, How, Part, Sum, Target};
 use cob_tree::{Expr, Form, Opnd, Recv, Ref, Way};
 use cob_typed_exprs::{
@@ -27,7 +27,7 @@ use std::alloc::{AllocError, Global};
 pub struct Worked {
     pub common: Sum,
     pub targets: Vec<Target>,
-    pub remainder: Option<u32>,
+    pub remainder: Option<Place>,
 }
 
 // ---- sums of operands
@@ -168,8 +168,9 @@ fn target_of(
     ensures value { IfOk result (λ made. made ≡ (target scope.now how receiver.now).value) }
     ensures noted { OnOk result (findings.new.items ≡ noted line findings.old.items (target scope.now how receiver.now).broken) }
 {
-    let item = scope.the_item(findings, line, &receiver.item)?;
-    demand(findings, line, Rule::Q3, may_receive(how, scope.form(item)))?;
+    let item = scope.the_place(findings, line, &receiver.item)?;
+    let form = scope.form(item.item);
+    demand(findings, line, Rule::Q3, may_receive(how, form))?;
     Ok(Target {
         item,
         how,
@@ -208,9 +209,9 @@ fn is_small_result(scope: &Scope, sum: Option<Size>, stored: bool, target: &Targ
         },
         Some(size) => match target.how {
             How::Whole => stored,
-            How::Plus => scope.item_size(target.item).plus(size).is_some(),
-            How::Minus => scope.item_size(target.item).plus(size).is_some(),
-            How::Times => scope.item_size(target.item).by(size).is_some(),
+            How::Plus => scope.item_size(target.item.item).plus(size).is_some(),
+            How::Minus => scope.item_size(target.item.item).plus(size).is_some(),
+            How::Times => scope.item_size(target.item.item).by(size).is_some(),
             How::Under => true,
         },
     }
@@ -233,7 +234,7 @@ fn are_small_remainders(scope: &Scope, n: Size, d: Size, targets: &[Target]) -> 
     ensures { (above below : Bound) → plain_size n ≡ capped above → plain_size d ≡ capped below → result ≡ are_small_remainders scope.now above below targets.now }
 {
     for target in targets {
-        if !is_small_remainder(n, d, scale_of(scope.form(target.item))) {
+        if !is_small_remainder(n, d, scale_of(scope.form(target.item.item))) {
             return false;
         }
     }
@@ -387,12 +388,12 @@ fn remainder_of(
     giving: &[Recv],
     targets: &[Target],
     receiver: &Ref,
-) -> Result<u32, AllocError>
+) -> Result<Place, AllocError>
     ensures value { (above below : sum_spec.Atom) → plain_size n ≡ capped (atom_most (bound_at scope.now) above) → plain_size d ≡ capped (atom_most (bound_at scope.now) below) → IfOk result (λ place. place ≡ (remainder scope.now above below giving.now targets.now receiver.now).value) }
     ensures noted { (above below : sum_spec.Atom) → plain_size n ≡ capped (atom_most (bound_at scope.now) above) → plain_size d ≡ capped (atom_most (bound_at scope.now) below) → OnOk result (findings.new.items ≡ noted line findings.old.items (remainder scope.now above below giving.now targets.now receiver.now).broken) }
 {
-    let place = scope.the_item(findings, line, receiver)?;
-    let fits = is_amount(scope.form(place)) && one_receiver(giving);
+    let place = scope.the_place(findings, line, receiver)?;
+    let fits = is_amount(scope.form(place.item)) && one_receiver(giving);
     demand(findings, line, Rule::Q3, fits)?;
     demand(
         findings,

@@ -8,7 +8,7 @@ ghost use Rattle.cob_typed_exprs.specs.Sums.{operand};
 ghost use Rattle.cob_typed_verbs.specs.Verbs.{receiver, move_act, first_value, set_flag, set_if, set_act, show_act, the_file, some_of, is_output, openings, open_act, close_act, lie_apart, into_of, read_parts, from_of, write_act};
 
 use crate::acts::{close_of, move_of, nothing, open_of, show_of, write_of};
-use cob_data::{FileDecl, Flag, Item, Pair, Rule, Sender, share_extents};
+use cob_data::{FileDecl, Flag, Item, Pair, Place, Rule, Sender, share_extents};
 use cob_program::{Act, Opening};
 use cob_tree::{Many, Mode, Name, OpenPhrase, Opnd, Ref};
 use cob_typed_exprs::{Finding, Scope, demand, one_of_kind};
@@ -36,7 +36,7 @@ fn first_value(alloc: Global, ranges: &[Pair]) -> Result<Sender, AllocError>
 }
 
 /// A list of one place.
-fn one_place(alloc: Global, place: u32) -> Result<Vec<u32>, AllocError>
+fn one_place(alloc: Global, place: Place) -> Result<Vec<Place>, AllocError>
     ensures { IfOk result (λ places. places.items ≡ place ∷ []) }
 {
     let mut places = Vec::new(alloc);
@@ -51,7 +51,7 @@ fn set_flag(alloc: Global, flag: Option<&Flag>) -> Result<Act, AllocError>
     match flag {
         None => Ok(nothing()),
         Some(flag) => {
-            let to = or_leave!(one_place(alloc, flag.item));
+            let to = or_leave!(one_place(alloc, Place::plain(flag.item)));
             let value = or_leave!(first_value(alloc, flag.ranges.get()), to);
             Ok(move_of(value, to))
         }
@@ -85,16 +85,16 @@ fn receiver(
     line: u32,
     value: &Sender,
     to: &Ref,
-) -> Result<u32, AllocError>
+) -> Result<Place, AllocError>
     ensures value { IfOk result (λ place. place ≡ (receiver scope.now value.now to.now).value) }
     ensures noted { OnOk result (findings.new.items ≡ noted line findings.old.items (receiver scope.now value.now to.now).broken) }
 {
-    let place = scope.the_item(findings, line, to)?;
+    let place = scope.the_place(findings, line, to)?;
     demand(
         findings,
         line,
         Rule::Q2,
-        scope.may_move(value, scope.form(place)),
+        scope.may_move(value, scope.form(place.item)),
     )?;
     Ok(place)
 }
@@ -105,7 +105,7 @@ fn receivers(
     line: u32,
     value: &Sender,
     to: &[Ref],
-) -> Result<Vec<u32>, AllocError>
+) -> Result<Vec<Place>, AllocError>
     ensures value { IfOk result (λ places. places.items ≡ (each_of (receiver scope.now value.now) to.now).value) }
     ensures noted { OnOk result (findings.new.items ≡ noted line findings.old.items (each_of (receiver scope.now value.now) to.now).broken) }
 {
