@@ -8,6 +8,7 @@ use Rattle.cob_tree.specs.declared.form.Form.TheVariants.{Group, Text, Number, E
 use Rattle.std.specs.Option.{option_map_or}
 use Rattle.cob_data.specs.declared.layout.Item.{Item}
 use Rattle.cob_data.specs.declared.layout.Layout.{Layout}
+use Rattle.cob_data.specs.declared.layout.Place.{Place}
 use Rattle.cob_runs.specs.Contents.{written, digits_of, item_at, form_at, filled_at}
 use Rattle.cob_store.specs.WellFormed.{IsWellFormedForm, IsWellFormedItem}
 
@@ -27,9 +28,9 @@ few_digits (Number digits scale signed usage) bytes sound = sound.number.at_most
 few_digits (Edited picture digits scale) bytes sound = sound.at_most_18
 
 -- an item's part of storage is written with bytes that its form tells
-pub part-filled : (l : Layout) (xs : List ℕ) (place : ℕ) (i : Item) (bytes : Form → List ℕ) (ys : List ℕ) → item_at l place ≡ Some i →
+pub part-filled : (l : Layout) (xs : List ℕ) (place : Place) (i : Item) (bytes : Form → List ℕ) (ys : List ℕ) → item_at l place.item ≡ Some i →
     length ys ≡ i.offset + i.length - i.offset → ys ≡ bytes i.form →
-    put_mid i.offset (i.offset + i.length - i.offset) xs ys ≡ filled_at l xs place (bytes (form_at l place))
+    put_mid i.offset (i.offset + i.length - i.offset) xs ys ≡ filled_at l xs place (bytes (form_at l place.item))
 part-filled l xs place i bytes ys found whole is =
     put_mid-written xs ys i.offset (i.offset + i.length - i.offset) whole
     ∙ (ap (written xs i.offset) is ∙ sym (ap (λ o. option_map_or (λ (j : Item). written xs j.offset (bytes (option_map_or (λ (k : Item). k.form) o Group))) o xs) found))

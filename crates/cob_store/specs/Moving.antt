@@ -4,6 +4,7 @@ use Rattle.std.specs.List.{AllZip}
 use Rattle.cob_tree.specs.declared.fault.Kind.{Kind}
 use Rattle.cob_tree.specs.declared.fault.Kind.TheVariants as kind
 use Rattle.cob_data.specs.declared.layout.Layout.{Layout}
+use Rattle.cob_data.specs.declared.layout.Place.{Place}
 use Rattle.cob_data.specs.declared.layout.Sender.{Sender}
 use Rattle.cob_data.specs.declared.layout.Sender.TheVariants as sender
 use Rattle.cob_runs.specs.Contents.{fitted, form_at, length_at, filled_at}
@@ -34,13 +35,13 @@ Writes wanted (Err kind) now = wanted ≡ Err kind
 -- ---- all receivers
 
 -- what each receiver gets
-abbrev pub all_moved : Layout → List ℕ → Sender → List ℕ → Result (List (List ℕ)) Kind
+abbrev pub all_moved : Layout → List ℕ → Sender → List Place → Result (List (List ℕ)) Kind
 all_moved l storage x [] = Ok []
 all_moved l storage x (place ∷ places) =
-    moved l storage (form_at l place) (length_at l place) x >>= λ bytes. all_moved l storage x places >>= λ more. Ok (bytes ∷ more)
+    moved l storage (form_at l place.item) (length_at l place.item) x >>= λ bytes. all_moved l storage x places >>= λ more. Ok (bytes ∷ more)
 
 -- storage in which each item holds its bytes, from left to right
-abbrev pub all_filled : Layout → List ℕ → List ℕ → List (List ℕ) → List ℕ
+abbrev pub all_filled : Layout → List ℕ → List Place → List (List ℕ) → List ℕ
 all_filled l now [] values = now
 all_filled l now (place ∷ places) [] = now
 all_filled l now (place ∷ places) (bytes ∷ values) = all_filled l (filled_at l now place bytes) places values
@@ -50,5 +51,5 @@ abbrev pub behind : List (List ℕ) → Result (List (List ℕ)) Kind → Result
 behind values (Ok more) = Ok (values ++ more)
 behind values (Err kind) = Err kind
 
-abbrev pub AreAsLong : Layout → List ℕ → List (List ℕ) → Type 0
-AreAsLong l places values = AllZip (λ place bytes. length bytes ≡ length_at l place) places values
+abbrev pub AreAsLong : Layout → List Place → List (List ℕ) → Type 0
+AreAsLong l places values = AllZip (λ place bytes. length bytes ≡ length_at l place.item) places values

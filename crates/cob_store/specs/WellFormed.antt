@@ -51,7 +51,7 @@ pub record IsShortLiteral (n : Num) : Type 0 where
 
 -- what can be read as a number, where a receiver takes one
 abbrev pub IsCountable : Layout → Sender → Type 0
-IsCountable l (sender.Item place) = IsShort (form_at l place)
+IsCountable l (sender.Item p) = IsShort (form_at l p.item)
 IsCountable l (sender.Number n) = IsShortLiteral n
 IsCountable l (sender.Text text) = length text ≤ 18
 IsCountable l (sender.Fill byte) = Unit {0}

@@ -4,7 +4,7 @@ ghost use Rattle.std.specs.Option.{option_copied};
 ghost use Rattle.cob_runs.specs.Contents.{area, item_at, form_at, bytes_at};
 ghost use Rattle.cob_store.specs.WellFormed.{HasWellFormedItems, IsWellFormedItem, IsWellFormedForm};
 
-use cob_data::{Item, Layout};
+use cob_data::{Item, Layout, Place};
 use cob_tree::Form;
 
 /// The item at a place, if there is one.
@@ -27,13 +27,13 @@ pub(crate) fn area(storage: &[u8], offset: u32, count: u32) -> &[u8]
 
 /// The bytes of the item at a place; none where there is no item.
 #[tactic(auto, using(crate::proofs::Parts::first_within))]
-pub fn bytes_at<'a>(layout: &Layout, storage: &'a [u8], place: u32) -> &'a [u8]
+pub fn bytes_at<'a>(layout: &Layout, storage: &'a [u8], place: Place) -> &'a [u8]
     requires sound { HasWellFormedItems layout.now }
     requires whole { length storage.now ≡ layout.now.storage }
     ensures value { result.now ≡ bytes_at layout.now storage.now place }
-    ensures form { IsWellFormedForm (form_at layout.now place) (length result.now) }
+    ensures form { IsWellFormedForm (form_at layout.now place.item) (length result.now) }
 {
-    match item_at(layout, place) {
+    match item_at(layout, place.item) {
         Some(item) => area(storage, item.offset, item.length),
         None => &[],
     }

@@ -12,7 +12,7 @@ use crate::items::item_at;
 use crate::senders::{is_group_sender, number_of};
 use crate::stores::{fill_bytes, store_at};
 use crate::writes::write_moved;
-use cob_data::{Item, Layout, Sender};
+use cob_data::{Item, Layout, Place, Sender};
 use cob_tree::{Form, Kind, Many};
 use dec_num::Mode;
 use std::alloc::{AllocError, Global};
@@ -54,17 +54,17 @@ fn moved(
     layout: &Layout,
     storage: &[u8],
     sender: &Sender,
-    place: u32,
+    place: Place,
 ) -> Result<Many<u8>, MoveEnd>
     requires sound { HasWellFormedItems layout.now }
     requires whole { HasLayoutLength layout.now storage.now sender.now }
-    requires able { CanMove layout.now sender.now (form_at layout.now place) }
+    requires able { CanMove layout.now sender.now (form_at layout.now place.item) }
     ensures value { MatchResult result
-        (λ bytes. moved layout.now storage.now (form_at layout.now place) (length_at layout.now place) sender.now ≡ Ok bytes)
-        (IsCause (moved layout.now storage.now (form_at layout.now place) (length_at layout.now place) sender.now)) }
-    ensures length { IfOk result (λ bytes. length bytes ≡ length_at layout.now place) }
+        (λ bytes. moved layout.now storage.now (form_at layout.now place.item) (length_at layout.now place.item) sender.now ≡ Ok bytes)
+        (IsCause (moved layout.now storage.now (form_at layout.now place.item) (length_at layout.now place.item) sender.now)) }
+    ensures length { IfOk result (λ bytes. length bytes ≡ length_at layout.now place.item) }
 {
-    match item_at(layout, place) {
+    match item_at(layout, place.item) {
         Some(item) => moved_in(alloc, layout, storage, sender, item),
         None => Ok(Many::of(Vec::new(alloc))),
     }
@@ -83,11 +83,11 @@ fn moved_all(
     layout: &Layout,
     storage: &[u8],
     sender: &Sender,
-    to: &[u32],
+    to: &[Place],
 ) -> Result<Vec<Many<u8>>, MoveEnd>
     requires sound { HasWellFormedItems layout.now }
     requires whole { HasLayoutLength layout.now storage.now sender.now }
-    requires able { All (λ place. CanMove layout.now sender.now (form_at layout.now place)) to.now }
+    requires able { All (λ place. CanMove layout.now sender.now (form_at layout.now place.item)) to.now }
     ensures value { MatchResult result
         (λ values. all_moved layout.now storage.now sender.now to.now ≡ Ok values.items)
         (IsCause (all_moved layout.now storage.now sender.now to.now)) }
@@ -102,7 +102,7 @@ fn moved_all(
 }
 
 // Puts its bytes into each item, from left to right.
-fn fill_all(layout: &Layout, storage: &mut [u8], to: &[u32], values: &[Many<u8>])
+fn fill_all(layout: &Layout, storage: &mut [u8], to: &[Place], values: &[Many<u8>])
     requires sound { HasWellFormedItems layout.now }
     requires whole { length storage.old ≡ layout.now.storage }
     requires lengths { AreAsLong layout.now to.now values.now }
@@ -119,11 +119,11 @@ fn move_to_all(
     layout: &Layout,
     storage: &mut [u8],
     sender: &Sender,
-    to: &[u32],
+    to: &[Place],
 ) -> Result<(), MoveEnd>
     requires sound { HasWellFormedItems layout.now }
     requires whole { length storage.old ≡ layout.now.storage }
-    requires able { All (λ place. CanMove layout.now sender.now (form_at layout.now place)) to.now }
+    requires able { All (λ place. CanMove layout.now sender.now (form_at layout.now place.item)) to.now }
     ensures { MatchResult result
         (λ _. after_move layout.now storage.old sender.now to.now ≡ Ok storage.new)
         (λ end. IsCause (after_move layout.now storage.old sender.now to.now) end × (storage.new ≡ storage.old)) }
@@ -142,15 +142,15 @@ fn move_to_short(
     storage: &mut [u8],
     sender: &Sender,
     item: &Item,
-    place: u32,
+    place: Place,
 ) -> Result<(), MoveEnd>
     requires sound { HasWellFormedItems layout.now }
     requires whole { length storage.old ≡ layout.now.storage }
     requires able { CanMove layout.now sender.now item.now.form }
     requires form { IsWellFormedForm item.now.form item.now.length }
     requires short { item.now.length ≤ 64 }
-    requires its_form { form_at layout.now place ≡ item.now.form }
-    requires its_length { length_at layout.now place ≡ item.now.length }
+    requires its_form { form_at layout.now place.item ≡ item.now.form }
+    requires its_length { length_at layout.now place.item ≡ item.now.length }
     ensures { MatchResult result
         (λ _. after_move layout.now storage.old sender.now (place ∷ []) ≡ Ok storage.new)
         (λ end. IsCause (after_move layout.now storage.old sender.now (place ∷ [])) end
@@ -172,12 +172,12 @@ fn move_amount(
     layout: &Layout,
     storage: &mut [u8],
     sender: &Sender,
-    place: u32,
+    place: Place,
 ) -> Result<(), MoveEnd>
     requires sound { HasWellFormedItems layout.now }
     requires whole { length storage.old ≡ layout.now.storage }
-    requires able { CanMove layout.now sender.now (form_at layout.now place) }
-    requires takes { IsTrue (takes_number (form_at layout.now place)) }
+    requires able { CanMove layout.now sender.now (form_at layout.now place.item) }
+    requires takes { IsTrue (takes_number (form_at layout.now place.item)) }
     requires single { is_group_sender layout.now sender.now ≡ false }
     ensures { MatchResult result
         (λ _. after_move layout.now storage.old sender.now (place ∷ []) ≡ Ok storage.new)
@@ -211,17 +211,17 @@ fn move_to_one(
     layout: &Layout,
     storage: &mut [u8],
     sender: &Sender,
-    place: u32,
+    place: Place,
 ) -> Result<(), MoveEnd>
     requires sound { HasWellFormedItems layout.now }
     requires whole { length storage.old ≡ layout.now.storage }
-    requires able { CanMove layout.now sender.now (form_at layout.now place) }
+    requires able { CanMove layout.now sender.now (form_at layout.now place.item) }
     ensures { MatchResult result
         (λ _. after_move layout.now storage.old sender.now (place ∷ []) ≡ Ok storage.new)
         (λ end. IsCause (after_move layout.now storage.old sender.now (place ∷ [])) end
         × (storage.new ≡ storage.old)) }
 {
-    match item_at(layout, place) {
+    match item_at(layout, place.item) {
         Some(item) => {
             if is_amount(&item.form) && !is_group_sender(layout, storage, sender) {
                 move_amount(layout, storage, sender, place)
@@ -242,11 +242,11 @@ pub fn after_move(
     layout: &Layout,
     storage: &mut [u8],
     sender: &Sender,
-    to: &[u32],
+    to: &[Place],
 ) -> Result<(), MoveEnd>
     requires sound { HasWellFormedItems layout.now }
     requires whole { length storage.old ≡ layout.now.storage }
-    requires able { All (λ place. CanMove layout.now sender.now (form_at layout.now place)) to.now }
+    requires able { All (λ place. CanMove layout.now sender.now (form_at layout.now place.item)) to.now }
     ensures { MatchResult result
         (λ _. after_move layout.now storage.old sender.now to.now ≡ Ok storage.new)
         (λ end. IsCause (after_move layout.now storage.old sender.now to.now) end × (storage.new ≡ storage.old)) }

@@ -6,7 +6,7 @@ ghost use Rattle.cob_runs.specs.Contents.{form_at, scale_of, scaled_by, number_i
 ghost use Rattle.cob_store.specs.WellFormed.{HasWellFormedItems, IsWellFormedForm, IsShort, IsShortLiteral};
 
 use crate::items::{area, item_at};
-use cob_data::Layout;
+use cob_data::{Layout, Place};
 use cob_tree::{Form, Num};
 use dec_num::Scaled;
 use num_bytes::value;
@@ -51,14 +51,14 @@ pub fn number_in(form: &Form, bytes: &[u8]) -> Option<Scaled>
 /// The number that the item at a place holds, if its contents are numeric; a text is read as a whole number, and has at
 /// most 18 bytes (ISO 1989:1985, "Class condition").
 #[inline(always)]
-pub fn number_at(layout: &Layout, storage: &[u8], place: u32) -> Option<Scaled>
+pub fn number_at(layout: &Layout, storage: &[u8], place: Place) -> Option<Scaled>
     requires sound { HasWellFormedItems layout.now }
     requires whole { length storage.now ≡ layout.now.storage }
-    requires short { IsShort (form_at layout.now place) }
+    requires short { IsShort (form_at layout.now place.item) }
     ensures value { result ≡ number_at layout.now storage.now place }
-    ensures bound { IfSome result (λ v. IsWithin v (form_bound (form_at layout.now place))) }
+    ensures bound { IfSome result (λ v. IsWithin v (form_bound (form_at layout.now place.item))) }
 {
-    match item_at(layout, place) {
+    match item_at(layout, place.item) {
         Some(item) => number_in(&item.form, area(storage, item.offset, item.length)),
         None => None,
     }

@@ -56,7 +56,7 @@ pub fn is_group_sender(layout: &Layout, storage: &[u8], sender: &Sender) -> bool
     ensures { result ≡ is_group_sender layout.now sender.now }
 {
     match sender {
-        Sender::Item(place) => match item_at(layout, *place) {
+        Sender::Item(place) => match item_at(layout, place.item) {
             Some(item) => is_group(&item.form),
             None => true,
         },

@@ -8,7 +8,7 @@ ghost use Rattle.cob_data.specs.declared.layout.Sender.TheVariants as sender;
 use crate::items::{bytes_at, item_at};
 use crate::numbers::number_in;
 use crate::texts::spell;
-use cob_data::{Layout, Sender};
+use cob_data::{Layout, Place, Sender};
 use cob_tree::{Form, Num};
 use dec_num::Scaled;
 use std::alloc::AllocError;
@@ -87,7 +87,7 @@ fn push_item(
     line: &mut Vec<u8>,
     layout: &Layout,
     storage: &[u8],
-    place: u32,
+    place: Place,
 ) -> Result<(), AllocError>
     requires sound { HasWellFormedItems layout.now }
     requires whole { length storage.now ≡ layout.now.storage }
@@ -95,7 +95,7 @@ fn push_item(
         ≡ line.old.items ++ shown_sender layout.now storage.now (sender.Item place)) }
 {
     let bytes = bytes_at(layout, storage, place);
-    match item_at(layout, place) {
+    match item_at(layout, place.item) {
         Some(item) => push_contents(line, &item.form, bytes),
         None => Ok(()),
     }

@@ -11,7 +11,7 @@ ghost use Rattle.cob_store.specs.Storing.{filled_if};
 
 use crate::items::item_at;
 use crate::numbers::scale_of;
-use cob_data::Layout;
+use cob_data::{Layout, Place};
 use cob_tree::Form;
 use dec_num::{Fit, Mode, Scaled, fit, pow10};
 use num_bytes::{edit, put};
@@ -53,13 +53,13 @@ pub fn write_units(form: &Form, units: i64, bytes: &mut [u8])
 
 /// Puts the bytes into the item at a place; they are as many as its own.
 #[tactic(auto, using(crate::proofs::Parts::first_within))]
-pub fn fill_bytes(layout: &Layout, storage: &mut [u8], place: u32, bytes: &[u8])
+pub fn fill_bytes(layout: &Layout, storage: &mut [u8], place: Place, bytes: &[u8])
     requires sound { HasWellFormedItems layout.now }
     requires whole { length storage.old ≡ layout.now.storage }
-    requires length { length bytes.now ≡ length_at layout.now place }
+    requires length { length bytes.now ≡ length_at layout.now place.item }
     ensures { storage.new ≡ filled_at layout.now storage.old place bytes.now }
 {
-    if let Some(item) = item_at(layout, place) {
+    if let Some(item) = item_at(layout, place.item) {
         let from = item.offset as usize;
         let to = from + item.length as usize;
         storage[from..to].copy_from_slice(bytes);
@@ -68,14 +68,14 @@ pub fn fill_bytes(layout: &Layout, storage: &mut [u8], place: u32, bytes: &[u8])
 
 // Puts the number into the item at a place.
 #[tactic(auto, using(crate::proofs::Parts::first_within))]
-fn fill_units(layout: &Layout, storage: &mut [u8], place: u32, units: i64)
+fn fill_units(layout: &Layout, storage: &mut [u8], place: Place, units: i64)
     requires sound { HasWellFormedItems layout.now }
     requires whole { length storage.old ≡ layout.now.storage }
-    requires takes { IsTrue (takes_number (form_at layout.now place)) }
-    requires held { unsigned_abs units < 10 ^ digits_of (form_at layout.now place) }
-    ensures { storage.new ≡ filled_at layout.now storage.old place (bytes_of (form_at layout.now place) units) }
+    requires takes { IsTrue (takes_number (form_at layout.now place.item)) }
+    requires held { unsigned_abs units < 10 ^ digits_of (form_at layout.now place.item) }
+    ensures { storage.new ≡ filled_at layout.now storage.old place (bytes_of (form_at layout.now place.item) units) }
 {
-    if let Some(item) = item_at(layout, place) {
+    if let Some(item) = item_at(layout, place.item) {
         let from = item.offset as usize;
         let to = from + item.length as usize;
         write_units(&item.form, units, &mut storage[from..to]);
@@ -90,13 +90,13 @@ fn limit_of(form: &Form) -> u128
 }
 
 // The least number that the item at a place doesn't hold.
-fn ten_of(layout: &Layout, place: u32) -> u128
+fn ten_of(layout: &Layout, place: Place) -> u128
     requires sound { HasWellFormedItems layout.now }
-    requires takes { IsTrue (takes_number (form_at layout.now place)) }
-    ensures value { result ≡ 10 ^ digits_of (form_at layout.now place) }
+    requires takes { IsTrue (takes_number (form_at layout.now place.item)) }
+    ensures value { result ≡ 10 ^ digits_of (form_at layout.now place.item) }
     ensures bound { result ≤ 10 ^ 18 }
 {
-    match item_at(layout, place) {
+    match item_at(layout, place.item) {
         Some(item) => limit_of(&item.form),
         None => 1,
     }
@@ -104,12 +104,12 @@ fn ten_of(layout: &Layout, place: u32) -> u128
 
 /// Puts the number of so many units of the item's scale into the item at a place, where its digits hold it; otherwise
 /// storage stays as it is. An item without a sign gets the absolute value. Answers whether it is held.
-pub fn store_units(layout: &Layout, storage: &mut [u8], place: u32, units: i128) -> bool
+pub fn store_units(layout: &Layout, storage: &mut [u8], place: Place, units: i128) -> bool
     requires sound { HasWellFormedItems layout.now }
     requires whole { length storage.old ≡ layout.now.storage }
-    requires takes { IsTrue (takes_number (form_at layout.now place)) }
-    ensures held { result ≡ is_some (if_held (form_at layout.now place) units) }
-    ensures storage { storage.new ≡ filled_if layout.now storage.old place (if_held (form_at layout.now place) units) }
+    requires takes { IsTrue (takes_number (form_at layout.now place.item)) }
+    ensures held { result ≡ is_some (if_held (form_at layout.now place.item) units) }
+    ensures storage { storage.new ≡ filled_if layout.now storage.old place (if_held (form_at layout.now place.item) units) }
 {
     let limit = ten_of(layout, place);
     if units.unsigned_abs() < limit {
@@ -121,17 +121,17 @@ pub fn store_units(layout: &Layout, storage: &mut [u8], place: u32, units: i128)
 }
 
 // The value in units of the item at a place, if its digits hold it.
-fn fit_in(layout: &Layout, place: u32, value: Scaled, mode: Mode) -> Fit
+fn fit_in(layout: &Layout, place: Place, value: Scaled, mode: Mode) -> Fit
     requires sound { HasWellFormedItems layout.now }
-    requires takes { IsTrue (takes_number (form_at layout.now place)) }
+    requires takes { IsTrue (takes_number (form_at layout.now place.item)) }
     requires small { IsSmall value }
     ensures { MatchFit result
-        (λ z. (z ≡ near mode (value_of value) (pos (scale_of (form_at layout.now place))))
-        × (unsigned_abs z < 10 ^ digits_of (form_at layout.now place)))
-        (10 ^ digits_of (form_at layout.now place)
-        ≤ unsigned_abs (near mode (value_of value) (pos (scale_of (form_at layout.now place))))) }
+        (λ z. (z ≡ near mode (value_of value) (pos (scale_of (form_at layout.now place.item))))
+        × (unsigned_abs z < 10 ^ digits_of (form_at layout.now place.item)))
+        (10 ^ digits_of (form_at layout.now place.item)
+        ≤ unsigned_abs (near mode (value_of value) (pos (scale_of (form_at layout.now place.item))))) }
 {
-    match item_at(layout, place) {
+    match item_at(layout, place.item) {
         Some(item) => fit(value, digits_of(&item.form), scale_of(&item.form), mode),
         None => Fit::TooBig,
     }
@@ -140,14 +140,14 @@ fn fit_in(layout: &Layout, place: u32, value: Scaled, mode: Mode) -> Fit
 /// Stores the value in the item at a place, cut or rounded to its scale, where its digits hold it; otherwise storage stays
 /// as it is (ISO 1989:1985, "The ROUNDED phrase"). Answers whether it is held.
 #[inline(always)]
-pub fn store_at(layout: &Layout, storage: &mut [u8], place: u32, value: Scaled, mode: Mode) -> bool
+pub fn store_at(layout: &Layout, storage: &mut [u8], place: Place, value: Scaled, mode: Mode) -> bool
     requires sound { HasWellFormedItems layout.now }
     requires whole { length storage.old ≡ layout.now.storage }
-    requires takes { IsTrue (takes_number (form_at layout.now place)) }
+    requires takes { IsTrue (takes_number (form_at layout.now place.item)) }
     requires small { IsSmall value }
-    ensures held { result ≡ is_some (stored mode (form_at layout.now place) (value_of value)) }
+    ensures held { result ≡ is_some (stored mode (form_at layout.now place.item) (value_of value)) }
     ensures storage { storage.new
-        ≡ filled_if layout.now storage.old place (stored mode (form_at layout.now place) (value_of value)) }
+        ≡ filled_if layout.now storage.old place (stored mode (form_at layout.now place.item) (value_of value)) }
 {
     match fit_in(layout, place, value, mode) {
         Fit::Stored(units) => {

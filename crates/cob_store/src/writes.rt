@@ -16,7 +16,7 @@ use crate::numbers::{number_in, scale_of};
 use crate::senders::{is_group_sender, number_of};
 use crate::stores::{digits_of, write_units};
 use crate::texts::{write_fill, write_spelled, write_text};
-use cob_data::{Layout, Sender};
+use cob_data::{Layout, Place, Sender};
 use cob_tree::{Form, Kind};
 use dec_num::{Fit, Mode, Scaled, fit};
 
@@ -43,14 +43,14 @@ fn write_contents(form: &Form, contents: &[u8], bytes: &mut [u8]) -> Result<(), 
 }
 
 // Writes the text of the item at a place.
-fn write_item(layout: &Layout, storage: &[u8], place: u32, bytes: &mut [u8]) -> Result<(), Kind>
+fn write_item(layout: &Layout, storage: &[u8], place: Place, bytes: &mut [u8]) -> Result<(), Kind>
     requires sound { HasWellFormedItems layout.now }
     requires whole { length storage.now ≡ layout.now.storage }
     ensures { Writes (moved_text layout.now storage.now (length bytes.old)
         (text_of layout.now storage.now (length bytes.old) (sender.Item place))) result bytes.new }
 {
     let contents = bytes_at(layout, storage, place);
-    match item_at(layout, place) {
+    match item_at(layout, place.item) {
         Some(item) => write_contents(&item.form, contents, bytes),
         None => {
             write_text(contents, bytes);

@@ -5,5 +5,5 @@ use Rattle.cob_store.proofs.senders.number_of.Goals as goal
 
 pub returns-in-Item-clause-small : goal.returns-in-Item-clause-small
 returns-in-Item-clause-small c =
-    all_small_within (form_at c.args.layout.now c.in-Item.place) _ _ (sound_at c.args.layout.now c.in-Item.place c.requires.sound) (search rules)
+    all_small_within (form_at c.args.layout.now c.in-Item.place.item) _ _ (sound_at c.args.layout.now c.in-Item.place.item c.requires.sound) (search rules)
     c.number_at.ensures.bound
