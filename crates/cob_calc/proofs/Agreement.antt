@@ -3,6 +3,7 @@ use Rattle.std.proofs.Common.{◌≡◌, ℕ, ◌==◌, Bool, true, false, List,
 use Rattle.std.specs.Prelude.{unsigned_abs, IfSome, is_some, unwrap_or}
 use Rattle.std.specs.Option.{option_map}
 use Rattle.dec_num.specs.declared.types.Scaled.{Scaled}
+use Rattle.cob_data.specs.declared.layout.Place.{Place}
 use Rattle.cob_program.specs.Sum.{Sum, MkSum, Parts, no_parts, more_parts, MkPart, Factors, no_factors, more_factors, MkFactor, Atom, item, number, group}
 use Rattle.cob_program.specs.Values.{whole_number, negated, plus, with_factor, ◌>>=◌, sum_value, sum_from, part_value, product_from, atom_value, Root, behind_factor, root_in, root_of, exact_quotient, stored_from, stored_value, product}
 use Rattle.cob_program.proofs.Steps.{both}
@@ -24,17 +25,17 @@ pub bind_same : {A B : Type 0} (x y : Option A) (f g : A → Option B) → x ≡
 bind_same None y f g e h = ap (λ o. o >>= g) e
 bind_same (Some a) y f g e h = h a ∙ ap (λ o. o >>= g) e
 
-module _ (f g : ℕ → Scaled) where
+module _ (f g : Place → Scaled) where
   -- the same on each of these items
   abbrev pub Agree : List ℕ → Type 0
   Agree [] = Unit {0}
   Agree (p ∷ ps) = (f p ≡ g p) × Agree ps
 
-  agree_front : (xs ys : List ℕ) → Agree (xs ++ ys) → Agree xs
+  agree_front : (xs ys : List Place) → Agree (xs ++ ys) → Agree xs
   agree_front [] ys h = tt
   agree_front (x ∷ xs) ys h = (h.0, agree_front xs ys h.1)
 
-  agree_back : (xs ys : List ℕ) → Agree (xs ++ ys) → Agree ys
+  agree_back : (xs ys : List Place) → Agree (xs ++ ys) → Agree ys
   agree_back [] ys h = h
   agree_back (x ∷ xs) ys h = agree_back xs ys h.1
 
@@ -71,7 +72,7 @@ module _ (f g : ℕ → Scaled) where
   agree_behind over minus a None h k = tt
   agree_behind over minus a (Some r) h k = (agree_both (items_in_atom a) (items_in_factors r.above) h k.0, k.1)
     where
-      agree_both : (xs ys : List ℕ) → Agree xs → Agree ys → Agree (xs ++ ys)
+      agree_both : (xs ys : List Place) → Agree xs → Agree ys → Agree (xs ++ ys)
       agree_both [] ys h k = k
       agree_both (x ∷ xs) ys h k = (h.0, agree_both xs ys h.1 k)
 
@@ -110,7 +111,7 @@ if_zero : (n d : Scaled) (b : Bool) → option_map fraction_of (if b then None e
 if_zero n d true = refl
 if_zero n d false = refl
 
-same_root : (worth_ : ℕ → Scaled) (s : Sum) (r : Option Root) → option_map fraction_of (exact_from worth_ s r) ≡ stored_from worth_ s r
+same_root : (worth_ : Place → Scaled) (s : Sum) (r : Option Root) → option_map fraction_of (exact_from worth_ s r) ≡ stored_from worth_ s r
 same_root worth_ s None = elim (sum_value worth_ s) as (λ o. option_map fraction_of (o >>= λ v. Some (exact.Number v)) ≡ (o >>= λ v. Some (value_of v))) [ None ↦ refl | Some v ↦ refl ]
 same_root worth_ s (Some r) = go (product_from worth_ (whole_number (pos 1)) r.above) (atom_value worth_ r.below)
   where
@@ -119,7 +120,7 @@ same_root worth_ s (Some r) = go (product_from worth_ (whole_number (pos 1)) r.a
     go (Some n) None = refl
     go (Some n) (Some d) = if_zero n (negated r.minus d) (unsigned_abs (negated r.minus d).units == 0)
 
-pub exact_is_stored : (worth_ : ℕ → Scaled) (s : Sum) → option_map fraction_of (exact_value worth_ s) ≡ stored_value worth_ s
+pub exact_is_stored : (worth_ : Place → Scaled) (s : Sum) → option_map fraction_of (exact_value worth_ s) ≡ stored_value worth_ s
 exact_is_stored worth_ s = same_root worth_ s (root_of s)
 
 -- ---- remainders
@@ -130,7 +131,7 @@ rest_if_zero : (scale : ℕ) (n d : Scaled) (b : Bool) →
 rest_if_zero scale n d true = refl
 rest_if_zero scale n d false = refl
 
-pub rest_is_remainder : (worth_ : ℕ → Scaled) (s : Sum) (scale : ℕ) (r : Option Root) → (rest_of scale (exact_from worth_ s r) >>= λ v. Some (value_of v)) ≡ remainder_of worth_ scale r
+pub rest_is_remainder : (worth_ : Place → Scaled) (s : Sum) (scale : ℕ) (r : Option Root) → (rest_of scale (exact_from worth_ s r) >>= λ v. Some (value_of v)) ≡ remainder_of worth_ scale r
 rest_is_remainder worth_ s scale None = elim (sum_value worth_ s) as (λ o. (rest_of scale (o >>= λ v. Some (exact.Number v)) >>= λ v. Some (value_of v)) ≡ None) [ None ↦ refl | Some v ↦ refl ]
 rest_is_remainder worth_ s scale (Some r) = go (product_from worth_ (whole_number (pos 1)) r.above) (atom_value worth_ r.below)
   where
@@ -153,9 +154,9 @@ same_amount (form.Text k) bytes n h = absurd cc
 same_amount (form.Number digits scale signed kept) bytes n h = same_number digits scale (contents_value (form.Number digits scale signed kept) bytes) h
 same_amount (form.Edited picture digits scale) bytes n h = absurd cc
 
-pub amounts_agree : (c : Contents) (places : List ℕ) → are_numbers c.layout places ≡ true → are_numeric c.layout c.storage places ≡ true → Agree (amount_at c) (worth c.layout c.storage) places
+pub amounts_agree : (c : Contents) (places : List Place) → are_numbers c.layout places ≡ true → are_numeric c.layout c.storage places ≡ true → Agree (amount_at c) (worth c.layout c.storage) places
 amounts_agree c [] n h = tt
 amounts_agree c (p ∷ ps) n h =
-    let a = both (is_number_form (form_at c.layout p)) (are_numbers c.layout ps) n in
+    let a = both (is_number_form (form_at c.layout p.item)) (are_numbers c.layout ps) n in
     let b = both (is_some (number_at c.layout c.storage p)) (are_numeric c.layout c.storage ps) h in
-    (same_amount (form_at c.layout p) (bytes_at c.layout c.storage p) a.0 b.0, amounts_agree c ps a.1 b.1)
+    (same_amount (form_at c.layout p.item) (bytes_at c.layout c.storage p) a.0 b.0, amounts_agree c ps a.1 b.1)

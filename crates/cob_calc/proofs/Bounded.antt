@@ -38,12 +38,12 @@ sound_item l place i sound e =
     subst (IsWellFormedItem l) (get_or_from_slice_get l.items place i i e) (sound.items place i (slice_get_within l.items place i e))
 
 pub bounded : (c : Contents) → IsWellFormed c → IsBounded c
-bounded c sound place = go (slice_get c.layout.items place) refl
+bounded c sound p = go (slice_get c.layout.items p.item) refl
   where
-    go : (o : Option Item) → slice_get c.layout.items place ≡ o → IsWithin (amount_at c place) (bound_at c.layout place)
+    go : (o : Option Item) → slice_get c.layout.items p.item ≡ o → IsWithin (amount_at c p) (bound_at c.layout p.item)
     go None e = rw e (record { most = omega arith; scale = refl })
     go (Some i) e =
-        let h = sound_item c.layout place i sound.items e in
+        let h = sound_item c.layout p.item i sound.items e in
         let bytes = length-area c.storage i.offset i.length (omega (arith, h.within, sound.whole)) in
         rw e (amount_within i.form (area c.storage i.offset i.length) (rw bytes h.form))
 

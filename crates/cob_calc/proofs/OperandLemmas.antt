@@ -6,6 +6,7 @@ use Rattle.std.proofs.lemmas.Int.{ints}
 use Rattle.dec_num.specs.declared.types.Scaled.{Scaled}
 use Rattle.dec_num.specs.Scaled.{units_at, joint_scale}
 use Rattle.cob_data.specs.declared.layout.Layout.{Layout}
+use Rattle.cob_data.specs.declared.layout.Place.{Place}
 use Rattle.cob_program.specs.declared.act.Target.{Target}
 use Rattle.cob_program.specs.Sum.{Sum, Atom, item, number}
 use Rattle.cob_program.specs.Values.{whole_number, plus, product, ◌>>=◌, sum_value, atom_value, literal}
@@ -42,12 +43,12 @@ through : (o : Option Scaled) →
 through None = refl
 through (Some v) = ap Some (ap (plus (whole_number (pos 0))) (one_times v) ∙ none_plus v)
 
-pub only_value : (worth : ℕ → Scaled) (s : Sum) (a : Atom) → s ≡ only a → atom_value worth a ≡ sum_value worth s
+pub only_value : (worth : Place → Scaled) (s : Sum) (a : Atom) → s ≡ only a → atom_value worth a ≡ sum_value worth s
 only_value worth s a is = rw is (sym (through (atom_value worth a)))
 
 -- ---- what is read of a sum
 
-numeric_item : (l : Layout) (storage : List ℕ) (s : Sum) (place : ℕ) → s ≡ only (item place) → is_some (number_at l storage place) ≡ are_numeric l storage (items_in s)
+numeric_item : (l : Layout) (storage : List ℕ) (s : Sum) (place : Place) → s ≡ only (item place) → is_some (number_at l storage place) ≡ are_numeric l storage (items_in s)
 numeric_item l storage s place is = rw is (sym (and-true (is_some (number_at l storage place))))
 
 read_when : (c : Contents) (s : Sum) → are_numeric c.layout c.storage (items_in s) ≡ true → Some (sum_value (amount_at c) s) ≡ read_sum c s
@@ -56,7 +57,7 @@ read_when c s e = rw e refl
 read_unless : (c : Contents) (s : Sum) → are_numeric c.layout c.storage (items_in s) ≡ false → None ≡ read_sum c s
 read_unless c s e = rw e refl
 
-module _ (c : Contents) (s : Sum) (place : ℕ) (is : s ≡ only (item place)) (numbers : are_numbers c.layout (items_in s) ≡ true) where
+module _ (c : Contents) (s : Sum) (place : Place) (is : s ≡ only (item place)) (numbers : are_numbers c.layout (items_in s) ≡ true) where
   item_is : (v : Scaled) → Some v ≡ number_at c.layout c.storage place → Some (Some v) ≡ read_sum c s
   item_is v e =
       let some : is_some (number_at c.layout c.storage place) ≡ true = rw (← e) refl in
@@ -91,7 +92,7 @@ reads_so c s r is = subst (ReadsSo c s) (sym is) (reads_by c s (are_numeric c.la
 
 -- ---- what it is for
 
-pub part_worked : (c : Contents) (s : Sum) (ts : List Target) (remainder : Option ℕ) (r : Option (Option Scaled)) (o : Option Worked) → r ≡ read_sum c s
+pub part_worked : (c : Contents) (s : Sum) (ts : List Target) (remainder : Option Place) (r : Option (Option Scaled)) (o : Option Worked) → r ≡ read_sum c s
     → (is_some remainder || some_whole ts) ≡ false → o ≡ option_map without_whole r → AreWorked c s ts remainder o
 part_worked c s ts remainder None o is part made = subst (AreWorked c s ts remainder) (sym made) (reads_so c s None is)
 part_worked c s ts remainder (Some v) o is part made =

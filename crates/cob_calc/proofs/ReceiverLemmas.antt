@@ -7,6 +7,7 @@ use Rattle.cob_tree.specs.declared.fault.Kind.{Kind}
 use Rattle.cob_tree.specs.declared.fault.Kind.TheVariants as kind
 use Rattle.cob_tree.specs.declared.form.Form.{Form}
 use Rattle.cob_data.specs.declared.layout.Layout.{Layout}
+use Rattle.cob_data.specs.declared.layout.Place.{Place}
 use Rattle.cob_program.specs.declared.act.Target.{Target}
 use Rattle.cob_program.specs.declared.act.How.{How}
 use Rattle.cob_program.specs.declared.act.How.TheVariants as how
@@ -45,14 +46,14 @@ pub ruleset storing = (stored_units, not_stored)
 
 -- ---- one receiver
 
-pub put_is : (l : Layout) (phrase : Bool) (now new : List ℕ) (place : ℕ) (o : Option (List ℕ)) (b : Bool) (r : Result Bool Kind) → b ≡ is_some o → new ≡ filled_if l now place o → r ≡ kept_result phrase b →
+pub put_is : (l : Layout) (phrase : Bool) (now new : List ℕ) (place : Place) (o : Option (List ℕ)) (b : Bool) (r : Result Bool Kind) → b ≡ is_some o → new ≡ filled_if l now place o → r ≡ kept_result phrase b →
     IsReceived r new (received l phrase now place o)
 put_is l true now new place None b r eb en er = subst (λ x. IsReceived x new (Ok (receiving now true))) (sym (er ∙ ap (kept_result true) eb)) (ap (λ s. Ok (receiving s true)) (sym en))
 put_is l false now new place None b r eb en er = subst (λ x. IsReceived x new (Err kind.Size)) (sym (er ∙ ap (kept_result false) eb)) refl
 put_is l phrase now new place (Some bytes) b r eb en er =
     subst (λ x. IsReceived x new (Ok (receiving (filled_at l now place bytes) false))) (sym (er ∙ ap (kept_result phrase) eb)) (ap (λ s. Ok (receiving s false)) (sym en))
 
-pub own_is_read : (l : Layout) (phrase : Bool) (h : How) (now : List ℕ) (place : ℕ) → is_whole h ≡ false → own_worth l phrase h now place ≡ or_fault kind.Class (number_at l now place)
+pub own_is_read : (l : Layout) (phrase : Bool) (h : How) (now : List ℕ) (place : Place) → is_whole h ≡ false → own_worth l phrase h now place ≡ or_fault kind.Class (number_at l now place)
 own_is_read l phrase how.Whole now place e = absurd cc
 own_is_read l phrase how.Plus now place e = refl
 own_is_read l phrase how.Minus now place e = refl
@@ -60,4 +61,4 @@ own_is_read l phrase how.Times now place e = refl
 own_is_read l phrase how.Under now place e = refl
 
 pub whole_room : (l : Layout) (w : Worked) (t : Target) → t.how ≡ how.Whole → HasRoomFor l w t → IfSome w.whole IsSmallExact
-whole_room l w t e room = subst (λ h. CanWork w h (scaled_by (bound_at l t.item).scale (pos 0))) e (room (scaled_by (bound_at l t.item).scale (pos 0)) (record { most = omega arith; scale = refl }))
+whole_room l w t e room = subst (λ h. CanWork w h (scaled_by (bound_at l t.item.item).scale (pos 0))) e (room (scaled_by (bound_at l t.item.item).scale (pos 0)) (record { most = omega arith; scale = refl }))

@@ -11,6 +11,7 @@ use Rattle.cob_tree.specs.declared.form.Form.{Form}
 use Rattle.cob_tree.specs.declared.form.Form.TheVariants as form
 use Rattle.cob_data.specs.declared.layout.Item.{Item}
 use Rattle.cob_data.specs.declared.layout.Layout.{Layout}
+use Rattle.cob_data.specs.declared.layout.Place.{Place}
 use Rattle.cob_program.specs.declared.act.Target.{Target}
 use Rattle.cob_program.specs.declared.act.How.{How}
 use Rattle.cob_program.specs.declared.act.How.TheVariants as how
@@ -38,7 +39,7 @@ bind_same : {A B : Type 0} (x : Result A Kind) (f g : A → Result B Kind) → (
 bind_same (Ok a) f g h = h a
 bind_same (Err k) f g h = refl
 
-module _ (f : ℕ → Scaled) (s : Sum) (w : Worked) where
+module _ (f : Place → Scaled) (s : Sum) (w : Worked) where
   -- the part of what is worked out that a receiver asks for
   pub record Serves (h : How) : Type 0 where
     pub whole : is_whole h ≡ true → w.whole ≡ exact_value f s
@@ -89,14 +90,14 @@ module _ (f : ℕ → Scaled) (s : Sum) (w : Worked) where
         (λ r. receive_all_by l phrase w (receiving r.storage (so_far.failed || r.failed)) ts) (λ r. receive_all l phrase f s (receiving r.storage (so_far.failed || r.failed)) ts)
         (λ r. same_receive_all ts (receiving r.storage (so_far.failed || r.failed)) h.1)
 
-    pub same_remainder : (failed : Bool) (ts : List Target) (remainder : Option ℕ) (now : List ℕ) → (is_some remainder ≡ true → w.whole ≡ exact_value f s) → remainder_by l phrase w failed ts remainder now ≡ remainder_received l phrase failed f s ts remainder now
+    pub same_remainder : (failed : Bool) (ts : List Target) (remainder : Option Place) (now : List ℕ) → (is_some remainder ≡ true → w.whole ≡ exact_value f s) → remainder_by l phrase w failed ts remainder now ≡ remainder_received l phrase failed f s ts remainder now
     same_remainder true ts remainder now h = refl
     same_remainder false [] remainder now h = refl
     same_remainder false (t ∷ []) None now h = refl
-    same_remainder false (t ∷ []) (Some place) now h = ap (λ v. received l phrase now place (stored_result l phrase Trunc place v)) (ap (rest_value (scale_of (form_at l t.item))) (h refl) ∙ rest_is_remainder f s (scale_of (form_at l t.item)) (root_of s))
+    same_remainder false (t ∷ []) (Some place) now h = ap (λ v. received l phrase now place (stored_result l phrase Trunc place v)) (ap (rest_value (scale_of (form_at l t.item.item))) (h refl) ∙ rest_is_remainder f s (scale_of (form_at l t.item.item)) (root_of s))
     same_remainder false (t ∷ u ∷ ts) remainder now h = refl
 
-    same_fine : (storage : List ℕ) (ts : List Target) (remainder : Option ℕ) → ServesAll ts → (is_some remainder ≡ true → w.whole ≡ exact_value f s) →
+    same_fine : (storage : List ℕ) (ts : List Target) (remainder : Option Place) → ServesAll ts → (is_some remainder ≡ true → w.whole ≡ exact_value f s) →
         fault.◌>>=◌ (receive_all_by l phrase w (receiving storage false) ts) (λ r. remainder_by l phrase w r.failed ts remainder r.storage)
         ≡ fault.◌>>=◌ (receive_all l phrase f s (receiving storage false) ts) (λ r. remainder_received l phrase r.failed f s ts remainder r.storage)
     same_fine storage ts remainder h k =
@@ -104,7 +105,7 @@ module _ (f : ℕ → Scaled) (s : Sum) (w : Worked) where
         ∙ bind_same (receive_all l phrase f s (receiving storage false) ts) (λ r. remainder_by l phrase w r.failed ts remainder r.storage) (λ r. remainder_received l phrase r.failed f s ts remainder r.storage)
         (λ r. same_remainder r.failed ts remainder r.storage k)
 
-same_divided : (l : Layout) (phrase : Bool) (storage : List ℕ) (s : Sum) (w : Worked) (ts : List Target) (remainder : Option ℕ) (zero_ : Bool) →
+same_divided : (l : Layout) (phrase : Bool) (storage : List ℕ) (s : Sum) (w : Worked) (ts : List Target) (remainder : Option Place) (zero_ : Bool) →
     ServesAll (worth l storage) s w ts → (is_some remainder ≡ true → w.whole ≡ exact_value (worth l storage) s) →
     receive_unless l phrase w zero_ storage ts remainder ≡ after_divisors l phrase storage s ts remainder zero_
 same_divided l true storage s w ts remainder true h k = refl
@@ -114,7 +115,7 @@ same_divided l false storage s w ts remainder false h k = same_fine (worth l sto
 
 -- ---- by what the operands are worth in storage
 
-agreed : (c : Contents) (s : Sum) (ts : List Target) (remainder : Option ℕ) (w : Worked) → CanCompute c.layout s ts remainder → IsWorked c s ts remainder w → Agree (amount_at c) (worth c.layout c.storage) (items_in s)
+agreed : (c : Contents) (s : Sum) (ts : List Target) (remainder : Option Place) (w : Worked) → CanCompute c.layout s ts remainder → IsWorked c s ts remainder w → Agree (amount_at c) (worth c.layout c.storage) (items_in s)
 agreed c s ts remainder w can has = amounts_agree c (items_in s) can.operands has.numeric
 
 or_right : (a b : Bool) → b ≡ true → (a || b) ≡ true
@@ -125,7 +126,7 @@ or_left : (a b : Bool) → a ≡ true → (a || b) ≡ true
 or_left true b e = refl
 or_left false b e = absurd cc
 
-pub statement_is : (c : Contents) (phrase : Bool) (s : Sum) (ts : List Target) (remainder : Option ℕ) (w : Worked) → CanCompute c.layout s ts remainder → IsWorked c s ts remainder w →
+pub statement_is : (c : Contents) (phrase : Bool) (s : Sum) (ts : List Target) (remainder : Option Place) (w : Worked) → CanCompute c.layout s ts remainder → IsWorked c s ts remainder w →
     receive_unless c.layout phrase w (lacks_result w ts) c.storage ts remainder ≡ after_arithmetic c.layout phrase c.storage s ts remainder
 statement_is c phrase s ts remainder w can has =
     let f = worth c.layout c.storage in
@@ -155,31 +156,31 @@ module _ (c : Contents) (s : Sum) (w : Worked) (sound : IsWellFormed c) (small :
   can_receive_all : (ts : List Target) → are_small_results (bound_at c.layout) s ts ≡ true → take_numbers c.layout ts ≡ true → ServesAll (amount_at c) s w ts → CanReceiveAll c.layout w ts
   can_receive_all [] e n h = tt
   can_receive_all (t ∷ ts) e n h =
-      let results = both (is_small_result (bound_at c.layout) s t.item t.how) (are_small_results (bound_at c.layout) s ts) e in
-      let takes = both (takes_number (form_at c.layout t.item)) (take_numbers c.layout ts) n in (
+      let results = both (is_small_result (bound_at c.layout) s t.item.item t.how) (are_small_results (bound_at c.layout) s ts) e in
+      let takes = both (takes_number (form_at c.layout t.item.item)) (take_numbers c.layout ts) n in (
         record {
           takes = takes.0;
-          room = λ own k. can_work c s (bounded c sound) w t.item t.how own (λ _. small) h.0.value results.0 (receiver_is_small c.layout t.item sound.items takes.0) k;
+          room = λ own k. can_work c s (bounded c sound) w t.item.item t.how own (λ _. small) h.0.value results.0 (receiver_is_small c.layout t.item.item sound.items takes.0) k;
         },
         can_receive_all ts results.1 takes.1 h.1,
       )
 
-pub receivers_can : (c : Contents) (s : Sum) (ts : List Target) (remainder : Option ℕ) (w : Worked) → IsWellFormed c → CanCompute c.layout s ts remainder → IsWorked c s ts remainder w → CanReceiveAll c.layout w ts
+pub receivers_can : (c : Contents) (s : Sum) (ts : List Target) (remainder : Option Place) (w : Worked) → IsWellFormed c → CanCompute c.layout s ts remainder → IsWorked c s ts remainder w → CanReceiveAll c.layout w ts
 receivers_can c s ts remainder w sound can has =
     can_receive_all c s w sound has.small ts can.results can.receivers (serves_all (amount_at c) s w ts (λ e. has.whole (or_right (is_some remainder) (some_whole ts) e)) has.value)
 
-pub rest_can : (c : Contents) (s : Sum) (ts : List Target) (remainder : Option ℕ) (w : Worked) → IsWellFormed c → CanCompute c.layout s ts remainder → IsWorked c s ts remainder w → CanGiveRest c.layout w ts remainder
+pub rest_can : (c : Contents) (s : Sum) (ts : List Target) (remainder : Option Place) (w : Worked) → IsWellFormed c → CanCompute c.layout s ts remainder → IsWorked c s ts remainder w → CanGiveRest c.layout w ts remainder
 rest_can c s [] remainder w sound can has = tt
 rest_can c s (t ∷ []) None w sound can has = tt
 rest_can c s (t ∷ []) (Some place) w sound can has =
     let rests = are_small_rests (bound_at c.layout) c.layout (root_of s) (t ∷ []) in
-    let l = both (takes_number (form_at c.layout place)) (is_small_stored (bound_at c.layout) s && rests) can.rest in
+    let l = both (takes_number (form_at c.layout place.item)) (is_small_stored (bound_at c.layout) s && rests) can.rest in
     let m = both (is_small_stored (bound_at c.layout) s) rests l.1 in
-    let scale = scale_of (form_at c.layout t.item) in
+    let scale = scale_of (form_at c.layout t.item.item) in
     let n = both (is_small_rest (bound_at c.layout) scale (root_of s)) true m.1 in
     let whole = has.whole refl in (
       l.0,
       subst (HasSmallRest scale) (sym whole)
-          (has_small_rest c s (bounded c sound) scale (few_decimals c.layout t.item sound.items) (root_of s) n.0 (subst (λ o. IfSome o IsSmallExact) whole has.small)),
+          (has_small_rest c s (bounded c sound) scale (few_decimals c.layout t.item.item sound.items) (root_of s) n.0 (subst (λ o. IfSome o IsSmallExact) whole has.small)),
     )
 rest_can c s (t ∷ u ∷ ts) remainder w sound can has = tt

@@ -9,6 +9,7 @@ use Rattle.dec_num.specs.declared.types.Mode.TheVariants.{Trunc}
 use Rattle.dec_num.specs.Exact.{ratio_of, near}
 use Rattle.dec_num.proofs.Powers.{ten_monotone}
 use Rattle.dec_num.specs.declared.types.Scaled.{Scaled}
+use Rattle.cob_data.specs.declared.layout.Place.{Place}
 use Rattle.cob_program.specs.Sum.{Parts, more_parts, Part, Factors, no_factors, more_factors, Factor, MkFactor, Atom}
 use Rattle.cob_program.specs.Values.{whole_number, negated, plus, product, quotient_scale, quotient, with_factor, ◌>>=◌, sum_from, part_value, product_from, atom_value}
 use Rattle.cob_program.specs.Bounds.{Bound, exactly, sum_bound, product_bound, quotient_bound, factor_bound, is_small, part_most, atom_most, is_small_sum_from, is_small_part, is_small_product, is_small_atom, IsWithin, IsSmall}
@@ -22,19 +23,19 @@ use Rattle.cob_calc.proofs.Bounded.{bounded}
 
 -- ---- one factor after the other
 
-pub factor_first : (worth : ℕ → Scaled) (a : Scaled) (f : Factor) (fs : Factors) → product_from worth a (more_factors f fs) ≡ (factor_value worth a f >>= λ b. product_from worth b fs)
+pub factor_first : (worth : Place → Scaled) (a : Scaled) (f : Factor) (fs : Factors) → product_from worth a (more_factors f fs) ≡ (factor_value worth a f >>= λ b. product_from worth b fs)
 factor_first worth a (MkFactor over minus atom) fs = bind_bind (atom_value worth atom) (λ b. with_factor over a (negated minus b)) (λ b. product_from worth b fs)
 
-pub product_ends : (worth : ℕ → Scaled) (a : Scaled) (f : Factor) (fs : Factors) → None ≡ factor_value worth a f → None ≡ product_from worth a (more_factors f fs)
+pub product_ends : (worth : Place → Scaled) (a : Scaled) (f : Factor) (fs : Factors) → None ≡ factor_value worth a f → None ≡ product_from worth a (more_factors f fs)
 product_ends worth a f fs none = sym (factor_first worth a f fs ∙ ap (λ o. o >>= λ b. product_from worth b fs) (sym none))
 
-pub product_goes_on : (worth : ℕ → Scaled) (a b : Scaled) (f : Factor) (fs : Factors) → Some b ≡ factor_value worth a f → product_from worth b fs ≡ product_from worth a (more_factors f fs)
+pub product_goes_on : (worth : Place → Scaled) (a b : Scaled) (f : Factor) (fs : Factors) → Some b ≡ factor_value worth a f → product_from worth b fs ≡ product_from worth a (more_factors f fs)
 product_goes_on worth a b f fs some = sym (factor_first worth a f fs ∙ ap (λ o. o >>= λ b. product_from worth b fs) (sym some))
 
-pub sum_ends : (worth : ℕ → Scaled) (a : Scaled) (p : Part) (ps : Parts) → None ≡ part_value worth p → None ≡ sum_from worth a (more_parts p ps)
+pub sum_ends : (worth : Place → Scaled) (a : Scaled) (p : Part) (ps : Parts) → None ≡ part_value worth p → None ≡ sum_from worth a (more_parts p ps)
 sum_ends worth a p ps none = ap (λ o. o >>= λ b. sum_from worth (plus a b) ps) none
 
-pub sum_goes_on : (worth : ℕ → Scaled) (a b next : Scaled) (p : Part) (ps : Parts) → Some b ≡ part_value worth p → next ≡ plus a b → sum_from worth next ps ≡ sum_from worth a (more_parts p ps)
+pub sum_goes_on : (worth : Place → Scaled) (a b next : Scaled) (p : Part) (ps : Parts) → Some b ≡ part_value worth p → next ≡ plus a b → sum_from worth next ps ≡ sum_from worth a (more_parts p ps)
 sum_goes_on worth a b next p ps some made = ap (λ x. sum_from worth x ps) made ∙ ap (λ o. o >>= λ b. sum_from worth (plus a b) ps) some
 
 -- ---- what is left has room
@@ -99,8 +100,8 @@ next_has_room_in_sum c a b p ps sound h some =
 
 -- ---- small results
 
-pub amount_small : (c : Contents) (place : ℕ) (v : Scaled) → IsWellFormed c → is_small (bound_at c.layout place) ≡ true → v ≡ amount_at c place → IsSmall v
-amount_small c place v sound e is = subst IsSmall (sym is) (small_of (amount_at c place) (bound_at c.layout place) (bounded c sound place) e)
+pub amount_small : (c : Contents) (place : Place) (v : Scaled) → IsWellFormed c → is_small (bound_at c.layout place.item) ≡ true → v ≡ amount_at c place → IsSmall v
+amount_small c place v sound e is = subst IsSmall (sym is) (small_of (amount_at c place) (bound_at c.layout place.item) (bounded c sound place) e)
 
 -- ---- a factor can be worked out
 

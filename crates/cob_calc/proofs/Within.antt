@@ -1,12 +1,13 @@
 -- What a part of a sum is worth lies within its bound.
 use Rattle.std.proofs.Common.{◌≡◌, ℕ, pos, Some, subst}
 use Rattle.dec_num.specs.declared.types.Scaled.{Scaled}
+use Rattle.cob_data.specs.declared.layout.Place.{Place}
 use Rattle.cob_program.specs.Sum.{Sum, MkSum, Parts, no_parts, more_parts, Part, MkPart, Factors, no_factors, more_factors, MkFactor, Atom, item, number, group}
 use Rattle.cob_program.specs.Values.{whole_number, negated, plus, literal, with_factor, ◌>>=◌, sum_value, sum_from, part_value, product_from, atom_value}
 use Rattle.cob_program.specs.Bounds.{Bound, exactly, literal_bound, sum_bound, factor_bound, sum_most, sum_most_from, part_most, product_most_from, atom_most, IsWithin}
 use Rattle.cob_program.proofs.Steps.{some_bound, some_same, negated_within, literal_within, whole_within, plus_within, factor_within}
 
-module _ (worth : ℕ → Scaled) (bound : ℕ → Bound) (held : (place : ℕ) → IsWithin (worth place) (bound place)) where
+module _ (worth : Place → Scaled) (bound : ℕ → Bound) (held : (p : Place) → IsWithin (worth p) (bound p.item)) where
   mutual
     pub sum_within : (s : Sum) (v : Scaled) → sum_value worth s ≡ Some v → IsWithin v (sum_most bound s)
     sum_within (MkSum ps) v e = sum_from_within ps (whole_number (pos 0)) (exactly 0) v (whole_within 0) e
@@ -31,6 +32,6 @@ module _ (worth : ℕ → Scaled) (bound : ℕ → Bound) (held : (place : ℕ) 
         product_within fs d.0 (factor_bound over b (atom_most bound atom)) v w d.2
 
     pub atom_within : (a : Atom) (v : Scaled) → atom_value worth a ≡ Some v → IsWithin v (atom_most bound a)
-    atom_within (item place) v e = subst (λ x. IsWithin x (bound place)) (some_same (worth place) v e) (held place)
+    atom_within (item p) v e = subst (λ x. IsWithin x (bound p.item)) (some_same (worth p) v e) (held p)
     atom_within (number n) v e = subst (λ x. IsWithin x (literal_bound n)) (some_same (literal n) v e) (literal_within n)
     atom_within (group s) v e = sum_within s v e

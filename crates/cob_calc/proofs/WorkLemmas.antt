@@ -2,6 +2,7 @@
 use Rattle.std.proofs.Common.{◌≡◌, ℕ, ◌||◌, ◌&&◌, not, Bool, true, false, List, [], ◌∷◌, Option, Some, None, refl}
 use Rattle.std.specs.Prelude.{is_some}
 use Rattle.cob_data.specs.declared.layout.Layout.{Layout}
+use Rattle.cob_data.specs.declared.layout.Place.{Place}
 use Rattle.cob_program.specs.Values.{root_of}
 use Rattle.cob_runs.specs.Contents.{form_at}
 use Rattle.cob_runs.specs.Moves.{takes_number}
@@ -33,21 +34,21 @@ module _ (bound : ℕ → Bound) (s : Sum) where
   pub whole_is_small : (ts : List Target) → are_small_results bound s ts ≡ true → some_whole ts ≡ true → is_small_stored bound s ≡ true
   whole_is_small [] e w = absurd cc
   whole_is_small (t ∷ ts) e w =
-      let parts = both (is_small_result bound s t.item t.how) (are_small_results bound s ts) e in
+      let parts = both (is_small_result bound s t.item.item t.how) (are_small_results bound s ts) e in
       go (is_whole t.how) refl w (whole_is_small ts parts.1) parts.0
     where
-      go : (b : Bool) → is_whole t.how ≡ b → (b || some_whole ts) ≡ true → (some_whole ts ≡ true → is_small_stored bound s ≡ true) → is_small_result bound s t.item t.how ≡ true → is_small_stored bound s ≡ true
-      go true h w later here = small_whole t.item t.how h here
+      go : (b : Bool) → is_whole t.how ≡ b → (b || some_whole ts) ≡ true → (some_whole ts ≡ true → is_small_stored bound s ≡ true) → is_small_result bound s t.item.item t.how ≡ true → is_small_stored bound s ≡ true
+      go true h w later here = small_whole t.item.item t.how h here
       go false h w later here = later w
 
   pub sum_is_small : (ts : List Target) → are_small_results bound s ts ≡ true → some_part ts ≡ true → is_small_sum bound s ≡ true
   sum_is_small [] e w = absurd cc
   sum_is_small (t ∷ ts) e w =
-      let parts = both (is_small_result bound s t.item t.how) (are_small_results bound s ts) e in
+      let parts = both (is_small_result bound s t.item.item t.how) (are_small_results bound s ts) e in
       go (not (is_whole t.how)) refl w (sum_is_small ts parts.1) parts.0
     where
-      go : (b : Bool) → not (is_whole t.how) ≡ b → (b || some_part ts) ≡ true → (some_part ts ≡ true → is_small_sum bound s ≡ true) → is_small_result bound s t.item t.how ≡ true → is_small_sum bound s ≡ true
-      go true h w later here = small_part t.item t.how h here
+      go : (b : Bool) → not (is_whole t.how) ≡ b → (b || some_part ts) ≡ true → (some_part ts ≡ true → is_small_sum bound s ≡ true) → is_small_result bound s t.item.item t.how ≡ true → is_small_sum bound s ≡ true
+      go true h w later here = small_part t.item.item t.how h here
       go false h w later here = later w
 
 pub either_small : (bound : ℕ → Bound) (s : Sum) (ts : List Target) (rest : Bool) → are_small_results bound s ts ≡ true → (rest ≡ true → is_small_stored bound s ≡ true) → (rest || some_whole ts) ≡ true → is_small_stored bound s ≡ true
@@ -56,7 +57,7 @@ either_small bound s ts false e h w = whole_is_small bound s ts e w
 
 pub ruleset wanting = (either_small, sum_is_small)
 
-pub rest_is_small : (l : Layout) (s : Sum) (ts : List Target) (remainder : Option ℕ) → is_sound_remainder l s ts remainder ≡ true → is_some remainder ≡ true → is_small_stored (bound_at l) s ≡ true
+pub rest_is_small : (l : Layout) (s : Sum) (ts : List Target) (remainder : Option Place) → is_sound_remainder l s ts remainder ≡ true → is_some remainder ≡ true → is_small_stored (bound_at l) s ≡ true
 rest_is_small l s ts None e h = absurd cc
 rest_is_small l s ts (Some place) e h =
     let rests = are_small_rests (bound_at l) l (root_of s) ts in

@@ -3,6 +3,7 @@ use Rattle.std.specs.Prelude.{◌≡◌, ℕ, ◌-◌, ◌+◌, ◌*◌, ◌/◌
 use Rattle.std.specs.List.{list_all}
 use Rattle.cob_tree.specs.Forms.{is_number_form}
 use Rattle.cob_data.specs.declared.layout.Layout.{Layout}
+use Rattle.cob_data.specs.declared.layout.Place.{Place}
 use Rattle.cob_program.specs.declared.act.Target.{Target}
 use Rattle.cob_program.specs.declared.act.How.{How}
 use Rattle.cob_program.specs.declared.act.How.TheVariants as how
@@ -36,7 +37,7 @@ module _ (bound : ℕ → Bound) where
 
   abbrev pub are_small_results : Sum → List Target → Bool
   are_small_results s [] = true
-  are_small_results s (t ∷ ts) = is_small_result s t.item t.how && are_small_results s ts
+  are_small_results s (t ∷ ts) = is_small_result s t.item.item t.how && are_small_results s ts
 
   -- the remainder of a quotient that is cut at a scale
   abbrev pub is_small_rest : ℕ → Option Root → Bool
@@ -48,26 +49,26 @@ module _ (bound : ℕ → Bound) where
 
   abbrev pub are_small_rests : Layout → Option Root → List Target → Bool
   are_small_rests l r [] = true
-  are_small_rests l r (t ∷ ts) = is_small_rest (scale_of (form_at l t.item)) r && are_small_rests l r ts
+  are_small_rests l r (t ∷ ts) = is_small_rest (scale_of (form_at l t.item.item)) r && are_small_rests l r ts
 
 -- ---- what typing gives of a statement
 
 -- each of these items is a number
-abbrev pub are_numbers : Layout → List ℕ → Bool
-are_numbers l places = list_all (λ place. is_number_form (form_at l place)) places
+abbrev pub are_numbers : Layout → List Place → Bool
+are_numbers l places = list_all (λ p. is_number_form (form_at l p.item)) places
 
 -- each receiver takes a number
 abbrev pub take_numbers : Layout → List Target → Bool
 take_numbers l [] = true
-take_numbers l (t ∷ ts) = takes_number (form_at l t.item) && take_numbers l ts
+take_numbers l (t ∷ ts) = takes_number (form_at l t.item.item) && take_numbers l ts
 
 -- a remainder's receiver takes a number, and the quotient and the rest are small
-abbrev pub is_sound_remainder : Layout → Sum → List Target → Option ℕ → Bool
+abbrev pub is_sound_remainder : Layout → Sum → List Target → Option Place → Bool
 is_sound_remainder l s ts None = true
 is_sound_remainder l s ts (Some place) =
-    takes_number (form_at l place) && (is_small_stored (bound_at l) s && are_small_rests (bound_at l) l (root_of s) ts)
+    takes_number (form_at l place.item) && (is_small_stored (bound_at l) s && are_small_rests (bound_at l) l (root_of s) ts)
 
-pub record CanCompute (l : Layout) (s : Sum) (ts : List Target) (remainder : Option ℕ) : Type 0 where
+pub record CanCompute (l : Layout) (s : Sum) (ts : List Target) (remainder : Option Place) : Type 0 where
   pub operands : are_numbers l (items_in s) ≡ true
   pub receivers : take_numbers l ts ≡ true
   pub results : are_small_results (bound_at l) s ts ≡ true

@@ -4,6 +4,7 @@ use Rattle.dec_num.specs.declared.types.Mode.{Mode}
 use Rattle.dec_num.specs.declared.types.Scaled.{Scaled}
 use Rattle.dec_num.specs.Exact.{Fraction, ratio_of, near}
 use Rattle.dec_num.specs.Scaled.{value_of}
+use Rattle.cob_data.specs.declared.layout.Place.{Place}
 use Rattle.cob_program.specs.Sum.{Sum}
 use Rattle.cob_program.specs.Values.{whole_number, negated, ◌>>=◌, sum_value, product_from, atom_value, Root, root_of, exact_quotient}
 use Rattle.cob_program.specs.Bounds.{IsSmall}
@@ -38,17 +39,17 @@ units_held digits scale mode v = held digits (near mode v (pos scale))
 
 -- ---- the last operation of a sum, where it is a quotient
 
-abbrev pub root_value : (ℕ → Scaled) → Root → Option Fraction
+abbrev pub root_value : (Place → Scaled) → Root → Option Fraction
 root_value worth r =
     product_from worth (whole_number (pos 1)) r.above >>= λ n. atom_value worth r.below >>= λ d. exact_quotient n (negated r.minus d)
 
 -- what is stored of a sum, before it is cut or rounded
-abbrev pub exact_root : (ℕ → Scaled) → Root → Option Exact
+abbrev pub exact_root : (Place → Scaled) → Root → Option Exact
 exact_root worth r = product_from worth (whole_number (pos 1)) r.above >>= λ n. atom_value worth r.below >>= λ d. quotient_if n (negated r.minus d)
 
-abbrev pub exact_from : (ℕ → Scaled) → Sum → Option Root → Option Exact
+abbrev pub exact_from : (Place → Scaled) → Sum → Option Root → Option Exact
 exact_from worth s None = sum_value worth s >>= λ v. Some (exact.Number v)
 exact_from worth s (Some r) = exact_root worth r
 
-abbrev pub exact_value : (ℕ → Scaled) → Sum → Option Exact
+abbrev pub exact_value : (Place → Scaled) → Sum → Option Exact
 exact_value worth s = exact_from worth s (root_of s)

@@ -7,6 +7,7 @@ use Rattle.dec_num.specs.declared.types.Mode.TheVariants.{Trunc}
 use Rattle.dec_num.specs.Exact.{Fraction, near}
 use Rattle.dec_num.specs.Scaled.{value_of}
 use Rattle.cob_data.specs.declared.layout.Layout.{Layout}
+use Rattle.cob_data.specs.declared.layout.Place.{Place}
 use Rattle.cob_program.specs.declared.act.Target.{Target}
 use Rattle.cob_program.specs.declared.act.How.{How}
 use Rattle.cob_program.specs.declared.act.How.TheVariants as how
@@ -67,7 +68,7 @@ CanWork w how.Under own = IfSome w.value (AreSmall own)
 
 -- whatever the receiver is worth within its picture
 abbrev pub HasRoomFor : Layout → Worked → Target → Type 0
-HasRoomFor l w t = (own : Scaled) → IsWithin own (bound_at l t.item) → CanWork w t.how own
+HasRoomFor l w t = (own : Scaled) → IsWithin own (bound_at l t.item.item) → CanWork w t.how own
 
 -- ---- remainders
 
@@ -119,7 +120,7 @@ module _ (l : Layout) (phrase : Bool) (w : Worked) where
 
 -- a receiver takes a number, and has a result that can be worked out
 pub record CanReceive (l : Layout) (w : Worked) (t : Target) : Type 0 where
-  pub takes : IsTrue (takes_number (form_at l t.item))
+  pub takes : IsTrue (takes_number (form_at l t.item.item))
   pub room : HasRoomFor l w t
 
 abbrev pub CanReceiveAll : Layout → Worked → List Target → Type 0
@@ -136,9 +137,9 @@ lacks_result w ts = list_any (λ t. not (is_some (result_of w t.how (whole_numbe
 
 module _ (l : Layout) (phrase : Bool) (w : Worked) where
   -- a remainder is left alone where the quotient doesn't fit
-  abbrev pub remainder_by : Bool → List Target → Option ℕ → List ℕ → Result Receiving Kind
+  abbrev pub remainder_by : Bool → List Target → Option Place → List ℕ → Result Receiving Kind
   remainder_by false (t ∷ []) (Some place) now =
-      received l phrase now place (stored_result l phrase Trunc place (rest_value (scale_of (form_at l t.item)) w.whole))
+      received l phrase now place (stored_result l phrase Trunc place (rest_value (scale_of (form_at l t.item.item)) w.whole))
   remainder_by failed ts remainder now = Ok (receiving now failed)
 
 -- a zero divisor is a size error of all receivers, or a fault
@@ -151,18 +152,18 @@ module _ (l : Layout) (phrase : Bool) (w : Worked) where
   zero_received true storage = Ok (receiving storage true)
   zero_received false storage = Err kind.Zero
 
-  abbrev pub receive_unless : Bool → List ℕ → List Target → Option ℕ → Result Receiving Kind
+  abbrev pub receive_unless : Bool → List ℕ → List Target → Option Place → Result Receiving Kind
   receive_unless true storage ts remainder = zero_received phrase storage
   receive_unless false storage ts remainder =
       fault.◌>>=◌ (receive_all_by l phrase w (receiving storage false) ts) (λ r. remainder_by l phrase w r.failed ts remainder r.storage)
 
 -- a remainder's receiver takes a number, and the rest can be worked out
-abbrev pub CanGiveRest : Layout → Worked → List Target → Option ℕ → Type 0
-CanGiveRest l w (t ∷ []) (Some place) = IsTrue (takes_number (form_at l place)) × HasSmallRest (scale_of (form_at l t.item)) w.whole
+abbrev pub CanGiveRest : Layout → Worked → List Target → Option Place → Type 0
+CanGiveRest l w (t ∷ []) (Some place) = IsTrue (takes_number (form_at l place.item)) × HasSmallRest (scale_of (form_at l t.item.item)) w.whole
 CanGiveRest l w ts remainder = Unit {0}
 
 -- what the operands give
-pub record IsWorked (c : Contents) (s : Sum) (ts : List Target) (remainder : Option ℕ) (w : Worked) : Type 0 where
+pub record IsWorked (c : Contents) (s : Sum) (ts : List Target) (remainder : Option Place) (w : Worked) : Type 0 where
   pub numeric : are_numeric c.layout c.storage (items_in s) ≡ true
   pub whole : (is_some remainder || some_whole ts) ≡ true → w.whole ≡ exact_value (amount_at c) s
   pub value : some_part ts ≡ true → w.value ≡ sum_value (amount_at c) s
@@ -172,6 +173,6 @@ pub record IsWorked (c : Contents) (s : Sum) (ts : List Target) (remainder : Opt
 abbrev pub without_whole : Option Scaled → Worked
 without_whole v = record { whole = None; value = v }
 
-abbrev pub AreWorked : Contents → Sum → List Target → Option ℕ → Option Worked → Type 0
+abbrev pub AreWorked : Contents → Sum → List Target → Option Place → Option Worked → Type 0
 AreWorked c s ts remainder None = are_numeric c.layout c.storage (items_in s) ≡ false
 AreWorked c s ts remainder (Some w) = IsWorked c s ts remainder w

@@ -3,6 +3,7 @@ use Rattle.std.specs.Prelude.{◌≡◌, ◌≢◌, ◌+◌, ◌-◌, ◌^◌, �
 use Rattle.dec_num.specs.declared.types.Scaled.{Scaled}
 use Rattle.dec_num.specs.declared.types.Mode.TheVariants.{Trunc}
 use Rattle.dec_num.specs.Exact.{ratio_of, near}
+use Rattle.cob_data.specs.declared.layout.Place.{Place}
 use Rattle.cob_program.specs.Sum.{Parts, Factors, Factor, MkFactor}
 use Rattle.cob_program.specs.Values.{negated, product, quotient_scale, with_factor, ◌>>=◌, atom_value}
 use Rattle.cob_program.specs.Bounds.{Bound, is_small, is_small_product, is_small_sum_from, IsWithin, IsSmall}
@@ -23,7 +24,7 @@ CanScale true a b = CanDivide a b
 -- ---- sums
 
 -- a number with one factor more; nothing where the factor is a zero divisor
-abbrev pub factor_value : (ℕ → Scaled) → Scaled → Factor → Option Scaled
+abbrev pub factor_value : (Place → Scaled) → Scaled → Factor → Option Scaled
 factor_value worth a (MkFactor over minus atom) = atom_value worth atom >>= λ b. with_factor over a (negated minus b)
 
 -- A number, with a bound from which on the factors left keep the rule of bounds.

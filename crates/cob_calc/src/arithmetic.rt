@@ -13,7 +13,7 @@ use crate::contents::Contents;
 use crate::exact::Exact;
 use crate::receivers::{put, receive_all};
 use crate::worked::Worked;
-use cob_data::Layout;
+use cob_data::{Layout, Place};
 use cob_program::{Sum, Target};
 use cob_store::{item_at, scale_of};
 use cob_tree::Kind;
@@ -36,11 +36,11 @@ fn put_remainder(
     storage: &mut [u8],
     worked: &Worked,
     scale: u32,
-    place: u32,
+    place: Place,
 ) -> Result<bool, Kind>
     requires sound { HasWellFormedItems layout.now }
     requires whole { length storage.old ≡ layout.now.storage }
-    requires takes { IsTrue (takes_number (form_at layout.now place)) }
+    requires takes { IsTrue (takes_number (form_at layout.now place.item)) }
     requires small { HasSmallRest scale worked.now.whole }
     ensures { IsReceived result storage.new (received layout.now phrase storage.old place
         (stored_result layout.now phrase Mode.Trunc place (rest_value scale worked.now.whole))) }
@@ -66,7 +66,7 @@ fn remainder(
     worked: &Worked,
     failed: bool,
     targets: &[Target],
-    remainder: Option<u32>,
+    remainder: Option<Place>,
 ) -> Result<bool, Kind>
     requires sound { HasWellFormedItems layout.now }
     requires whole { length storage.old ≡ layout.now.storage }
@@ -80,7 +80,7 @@ fn remainder(
             phrase,
             storage,
             worked,
-            scale_at(layout, target.item),
+            scale_at(layout, target.item.item),
             place,
         ),
         _ => Ok(failed),
@@ -100,7 +100,7 @@ fn receive(
     storage: &mut [u8],
     worked: &Worked,
     targets: &[Target],
-    place: Option<u32>,
+    place: Option<Place>,
 ) -> Result<bool, Kind>
     requires sound { HasWellFormedItems layout.now }
     requires whole { length storage.old ≡ layout.now.storage }
@@ -127,7 +127,7 @@ pub fn compute(
     storage: &mut [u8],
     common: &Sum,
     targets: &[Target],
-    remainder: Option<u32>,
+    remainder: Option<Place>,
 ) -> Result<bool, Kind>
     requires sound { HasWellFormedItems layout.now }
     requires whole { length storage.old ≡ layout.now.storage }

@@ -9,7 +9,7 @@ ghost use Rattle.cob_calc.specs.Comparing.{IsShortEnd, AreShortPairs, CanTest, C
 
 use crate::comparing::{holds, number_order};
 use crate::contents::Contents;
-use cob_data::{Pair, Sender};
+use cob_data::{Pair, Place, Sender};
 use cob_program::{Logic, Test};
 use cob_tree::{Kind, Rel};
 
@@ -108,7 +108,9 @@ impl<'a> Contents<'a> {
         match test {
             Test::Number { left, rel, right } => self.compare_sums(left, *rel, right),
             Test::Text { left, rel, right } => self.compare_texts(left, *rel, right),
-            Test::Member { item, ranges } => self.in_some(&Sender::Item(*item), ranges.get()),
+            Test::Member { item, ranges } => {
+                self.in_some(&Sender::Item(Place::plain(*item)), ranges.get())
+            },
             Test::Numeric(item) => Ok(self.is_numeric(*item)),
             Test::Always => Ok(true),
         }

@@ -7,7 +7,7 @@ ghost use Rattle.cob_store.specs.WellFormed.{IsWellFormedForm};
 ghost use Rattle.cob_calc.specs.Contents.{contents, IsWellFormed, amount, amount_at};
 
 use crate::numbers::scaled;
-use cob_data::{Item, Layout};
+use cob_data::{Item, Layout, Place};
 use cob_tree::Form;
 use dec_num::Scaled;
 use std::marker::Model;
@@ -76,22 +76,22 @@ impl<'a> Contents<'a> {
     }
 
     /// What an item is worth in a sum.
-    pub fn amount(&self, place: u32) -> Scaled
+    pub fn amount(&self, place: Place) -> Scaled
         requires { IsWellFormed self.now }
         ensures { result ≡ amount_at self.now place }
     {
-        match self.item(place) {
+        match self.item(place.item) {
             None => scaled(0, 0),
             Some(item) => amount(&item.form, self.bytes(item)),
         }
     }
 
     /// Whether an item can be read as a number.
-    pub fn is_numeric(&self, place: u32) -> bool
+    pub fn is_numeric(&self, place: Place) -> bool
         requires { IsWellFormed self.now }
         ensures { result ≡ is_some (number_at self.now.layout self.now.storage place) }
     {
-        match self.item(place) {
+        match self.item(place.item) {
             None => false,
             Some(item) => is_number(&item.form, self.bytes(item)),
         }

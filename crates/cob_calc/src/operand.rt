@@ -10,6 +10,7 @@ ghost use Rattle.cob_calc.specs.Operand.{plain_operand, only_factor, only, read_
 
 use crate::contents::Contents;
 use crate::numbers::literal;
+use cob_data::Place;
 use cob_program::{Atom, Factor, Part, Sum};
 use cob_tree::Num;
 use dec_num::Scaled;
@@ -17,7 +18,7 @@ use dec_num::Scaled;
 /// An operand that is no sum itself.
 #[derive(Clone, Copy)]
 pub enum Operand<'a> {
-    Item(u32),
+    Item(Place),
     Number(&'a Num),
 }
 

@@ -11,35 +11,35 @@ ghost use Rattle.cob_calc.specs.Receiving.{is_whole, IsReceived, kept_result, re
 
 use crate::exact::Exact;
 use crate::worked::Worked;
-use cob_data::Layout;
+use cob_data::{Layout, Place};
 use cob_program::{How, Target};
 use cob_store::{digits_of, item_at, number_at, scale_of, store_units};
 use cob_tree::Kind;
 use dec_num::Mode;
 
 // A value in units of the item's scale, where its digits hold them.
-fn units_in(layout: &Layout, place: u32, value: Exact, mode: Mode) -> Option<i64>
+fn units_in(layout: &Layout, place: Place, value: Exact, mode: Mode) -> Option<i64>
     requires sound { HasWellFormedItems layout.now }
-    requires takes { IsTrue (takes_number (form_at layout.now place)) }
+    requires takes { IsTrue (takes_number (form_at layout.now place.item)) }
     requires small { IsSmallExact value }
-    ensures { result ≡ units_held (digits_of (form_at layout.now place)) (scale_of
-        (form_at layout.now place)) mode (fraction_of value) }
+    ensures { result ≡ units_held (digits_of (form_at layout.now place.item)) (scale_of
+        (form_at layout.now place.item)) mode (fraction_of value) }
 {
-    match item_at(layout, place) {
+    match item_at(layout, place.item) {
         None => None,
         Some(item) => value.units(digits_of(&item.form), scale_of(&item.form), mode),
     }
 }
 
 // Stores a value, where the item's digits hold it. Answers whether they do.
-fn store(layout: &Layout, storage: &mut [u8], place: u32, value: Exact, mode: Mode) -> bool
+fn store(layout: &Layout, storage: &mut [u8], place: Place, value: Exact, mode: Mode) -> bool
     requires sound { HasWellFormedItems layout.now }
     requires whole { length storage.old ≡ layout.now.storage }
-    requires takes { IsTrue (takes_number (form_at layout.now place)) }
+    requires takes { IsTrue (takes_number (form_at layout.now place.item)) }
     requires small { IsSmallExact value }
-    ensures held { result ≡ is_some (stored mode (form_at layout.now place) (fraction_of value)) }
+    ensures held { result ≡ is_some (stored mode (form_at layout.now place.item) (fraction_of value)) }
     ensures storage { storage.new ≡ filled_if layout.now storage.old place (stored mode
-        (form_at layout.now place) (fraction_of value)) }
+        (form_at layout.now place.item) (fraction_of value)) }
 {
     match units_in(layout, place, value, mode) {
         None => false,
@@ -65,13 +65,13 @@ pub fn put(
     layout: &Layout,
     phrase: bool,
     storage: &mut [u8],
-    place: u32,
+    place: Place,
     mode: Mode,
     value: Option<Exact>,
 ) -> Result<bool, Kind>
     requires sound { HasWellFormedItems layout.now }
     requires whole { length storage.old ≡ layout.now.storage }
-    requires takes { IsTrue (takes_number (form_at layout.now place)) }
+    requires takes { IsTrue (takes_number (form_at layout.now place.item)) }
     requires small { IfSome value IsSmallExact }
     ensures { IsReceived result storage.new (received layout.now phrase storage.old place
         (stored_result layout.now phrase mode place (option_map fraction_of value))) }

@@ -13,7 +13,7 @@ ghost use Rattle.cob_calc.specs.Comparing.{plain_text, IsShortText, IsShortNumbe
 use crate::contents::Contents;
 use crate::numbers::scaled;
 use crate::texts::Text;
-use cob_data::Sender;
+use cob_data::{Place, Sender};
 use cob_store::{literal, number_in};
 use cob_tree::{Form, Num};
 use dec_num::Scaled;
@@ -94,7 +94,7 @@ impl<'a> Contents<'a> {
     {
         match side {
             Sender::Number(_) | Sender::Zero => true,
-            Sender::Item(place) => match self.item(*place) {
+            Sender::Item(place) => match self.item(place.item) {
                 None => false,
                 Some(item) => is_number_form(&item.form),
             },
@@ -104,13 +104,13 @@ impl<'a> Contents<'a> {
 
     /// The number of an item that is one, if it is numeric.
     #[inline(always)]
-    pub(crate) fn item_number(&self, place: u32) -> Option<Scaled>
+    pub(crate) fn item_number(&self, place: Place) -> Option<Scaled>
         requires sound { IsWellFormed self.now }
         requires number { is_number_end self.now.layout self.now.storage (Sender.Item place) ≡ true }
         ensures value { result ≡ number_at self.now.layout self.now.storage place }
         ensures short { IfSome result IsShortNumber }
     {
-        match self.item(place) {
+        match self.item(place.item) {
             None => None,
             Some(item) => number_of(&item.form, self.bytes(item)),
         }
@@ -137,7 +137,7 @@ impl<'a> Contents<'a> {
         ensures { result ≡ side_length self.now.layout self.now.storage side.now other }
     {
         match side {
-            Sender::Item(place) => match self.item(*place) {
+            Sender::Item(place) => match self.item(place.item) {
                 None => 0,
                 Some(item) => form_length(&item.form, item.length) as usize,
             },
@@ -147,13 +147,13 @@ impl<'a> Contents<'a> {
         }
     }
 
-    fn item_text(&self, place: u32) -> Option<Text<'a>>
+    fn item_text(&self, place: Place) -> Option<Text<'a>>
         requires { IsWellFormed self.now }
         ensures value { option_map plain_text result
-            ≡ item_text (form_at self.now.layout place) (bytes_at self.now.layout self.now.storage place) }
+            ≡ item_text (form_at self.now.layout place.item) (bytes_at self.now.layout self.now.storage place) }
         ensures short { IfSome result IsShortText }
     {
-        match self.item(place) {
+        match self.item(place.item) {
             None => Some(Text::Bytes(&[])),
             Some(item) => item_text(&item.form, self.bytes(item)),
         }

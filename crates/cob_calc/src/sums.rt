@@ -9,15 +9,16 @@ ghost use Rattle.cob_calc.specs.Working.{factor_value, HasRoom};
 
 use crate::contents::Contents;
 use crate::numbers::{literal, negated, plus, scaled, with_factor};
+use cob_data::Place;
 use cob_program::{Atom, Factor, Part, Sum};
 use dec_num::Scaled;
 
 impl<'a> Contents<'a> {
     // what an item is worth, where its picture is small
     #[tactic(auto, using(crate::proofs::SumLemmas::amount_small))]
-    fn item_value(&self, place: u32) -> Scaled
+    fn item_value(&self, place: Place) -> Scaled
         requires sound { IsWellFormed self.now }
-        requires small { is_small (bound_at self.now.layout place) ≡ true }
+        requires small { is_small (bound_at self.now.layout place.item) ≡ true }
         ensures value { result ≡ amount_at self.now place }
         ensures small { IsSmall result }
     {

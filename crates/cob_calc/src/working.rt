@@ -11,11 +11,12 @@ ghost use Rattle.cob_calc.specs.Arithmetic.{are_small_results, CanCompute};
 use crate::contents::Contents;
 use crate::exact::Exact;
 use crate::worked::{Worked, some_part, some_whole};
+use cob_data::Place;
 use cob_program::{Sum, Target};
 use dec_num::Scaled;
 
 // Whether a receiver gets the whole, or a remainder asks for it.
-fn wants_whole(remainder: Option<u32>, targets: &[Target]) -> bool
+fn wants_whole(remainder: Option<Place>, targets: &[Target]) -> bool
     ensures { result ≡ (is_some remainder || some_whole targets.now) }
 {
     match remainder {
@@ -54,7 +55,7 @@ impl<'a> Contents<'a> {
 
     // what the receivers of a statement get
     #[tactic(auto, using(crate::proofs::WorkLemmas::wanting))]
-    fn worked(&self, common: &Sum, targets: &[Target], remainder: Option<u32>) -> Worked
+    fn worked(&self, common: &Sum, targets: &[Target], remainder: Option<Place>) -> Worked
         requires sound { IsWellFormed self.now }
         requires results { are_small_results (bound_at self.now.layout) (plain_sum common.now) targets.now ≡ true }
         requires rest { is_some remainder
@@ -76,7 +77,7 @@ impl<'a> Contents<'a> {
         &self,
         common: &Sum,
         targets: &[Target],
-        remainder: Option<u32>,
+        remainder: Option<Place>,
     ) -> Option<Worked>
         requires sound { IsWellFormed self.now }
         requires can { CanCompute self.now.layout (plain_sum common.now) targets.now remainder }
