@@ -27,7 +27,7 @@ bind_same (Some a) y f g e h = h a ∙ ap (λ o. o >>= g) e
 
 module _ (f g : Place → Scaled) where
   -- the same on each of these items
-  abbrev pub Agree : List ℕ → Type 0
+  abbrev pub Agree : List Place → Type 0
   Agree [] = Unit {0}
   Agree (p ∷ ps) = (f p ≡ g p) × Agree ps
 

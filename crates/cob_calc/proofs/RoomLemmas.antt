@@ -147,7 +147,7 @@ module _ (c : Contents) (s : Sum) (held : IsBounded c) (scale : ℕ) (point : sc
   has_small_rest None e = elim (sum_value (amount_at c) s) as (λ o. Holds (o >>= λ v. Some (exact.Number v))) [ None ↦ λ h. tt | Some v ↦ λ h. tt ]
   has_small_rest (Some r) e = go (product_from f (whole_number (pos 1)) r.above) refl (atom_value f r.below) refl
     where
-      f : ℕ → Scaled
+      f : Place → Scaled
       f = amount_at c
 
       a : Bound
