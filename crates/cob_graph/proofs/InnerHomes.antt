@@ -1,6 +1,7 @@
 -- The lists of a statement, by its kind.
 use Rattle.std.proofs.Common.{◌≡◌, ℕ, List, ◌++◌, sym, ap, ◌∙◌, Option, Some, Vec}
 use Rattle.std.specs.declared.alloc.Global.{Global}
+use Rattle.cob_data.specs.declared.layout.Place.{Place}
 use Rattle.cob_program.specs.declared.act.Stmt as declared_stmt
 use Rattle.cob_program.specs.declared.act.When as declared_when
 use Rattle.cob_program.specs.declared.act.Act as declared_act
@@ -32,7 +33,7 @@ module _ (a : declared_act.Act) where
   evaluate_cut whens other is = ap (λ x. inner_homes (plain_act x)) (is ∙ sym (rolls-Evaluate whens other))
       ∙ ap inner_homes (fold-roll-Act _ _ _ _ _ _ _ _ (layer.Evaluate whens other))
 
-  pub arith_cut : (common : declared_sum.Sum) (targets : List Target) (remainder : Option ℕ)
+  pub arith_cut : (common : declared_sum.Sum) (targets : List Target) (remainder : Option Place)
       (size : Option (Vec declared_stmt.Stmt Global)) (fine list : Vec declared_stmt.Stmt Global) →
       a ≡ variant.Arith common targets remainder size fine → size ≡ Some list →
       inner_homes (plain_act a) ≡ block_homes list ++ block_homes fine

@@ -7,8 +7,10 @@ use Rattle.dec_num.specs.declared.types.Scaled.{Scaled}
 use Rattle.dec_num.specs.Scaled.{value_of}
 use Rattle.cob_tree.specs.declared.fault.Kind.{Kind}
 use Rattle.cob_tree.specs.declared.fault.Kind.TheVariants as kind
+use Rattle.cob_data.specs.declared.layout.Place.{Place}
 use Rattle.cob_data.specs.declared.layout.FileDecl.{FileDecl}
 use Rattle.cob_data.specs.declared.layout.Sender.{Sender}
+use Rattle.cob_data.specs.Places.{plain}
 use Rattle.cob_program.specs.declared.act.Opening.{Opening}
 use Rattle.cob_program.specs.Logic.{Test}
 use Rattle.cob_program.specs.Values.{plus}
@@ -63,15 +65,15 @@ module _ (contents : Contents) (place : ℕ) (there : Bool) where
     set_count_kept (Ok n) = kept
     set_count_kept (Err kind) = tt
 
-    moved : (x : Sender) (places : List ℕ) → KeptBy (met (acts.move p.layout x places w))
+    moved : (x : Sender) (places : List Place) → KeptBy (met (acts.move p.layout x places w))
     moved x places = stored_kept (after_move p.layout w.storage x places) (λ storage. storage)
 
     augmented : (at : ℕ) (by : Sender) → KeptBy (met (augment p.layout at by w))
     augmented at by =
         sum_kept (or_fault kind.Class (number_of p.layout w.storage by))
-        (or_fault kind.Class (number_at p.layout w.storage at))
+        (or_fault kind.Class (number_at p.layout w.storage (plain at)))
         (λ v own. or_fault kind.Size (stored Trunc (form_at p.layout at) (value_of (plus own v))))
-        (filled_at p.layout w.storage at)
+        (filled_at p.layout w.storage (plain at))
 
     count_set : (x : Sender) → KeptBy (met (set_count p.layout number x w))
     count_set x = set_count_kept (or_fault kind.Class (number_of p.layout w.storage x))
@@ -167,7 +169,7 @@ module _ (contents : Contents) (place : ℕ) (there : Bool) where
     write_on_kept : (i r : ℕ) (d : Option FileDecl) (o : Option File) → slice_get w.files i ≡ o
         → Kept (write_on p.layout c i r d o w).0
     write_on_kept i r (Some d) (Some f) e =
-        let bytes = fitted d.length (bytes_at p.layout w.storage r) in
+        let bytes = fitted d.length (bytes_at p.layout w.storage (plain r)) in
         let x = with_file p.layout i d (after_write bytes f) w in
         undefined_kept (is_fine x.1) d x.0
         (set_kept contents place there w.files i place f (after_write bytes f).0 e

@@ -6,6 +6,7 @@ use Rattle.dec_num.specs.declared.types.Scaled.{Scaled}
 use Rattle.cob_tree.specs.declared.fault.Kind.{Kind}
 use Rattle.cob_tree.specs.declared.fault.Kind.TheVariants as kind
 use Rattle.cob_data.specs.declared.layout.Layout.{Layout}
+use Rattle.cob_data.specs.declared.layout.Place.{Place}
 use Rattle.cob_program.specs.declared.act.Target.{Target}
 use Rattle.cob_program.specs.Sum.{Sum}
 use Rattle.cob_runs.specs.Faults.{◌>>=◌}
@@ -27,8 +28,8 @@ behind_met : (r : Result Receiving Kind) (f : Receiving → Result Receiving Kin
 behind_met (Ok a) f m h = h a m
 behind_met (Err kind) f m h = tt
 
-module _ (l : Layout) (value : ℕ → Scaled) (s : Sum) where
-  received_met : (now : List ℕ) (place : ℕ) (v : Option (List ℕ)) → IsMet (received l false now place v)
+module _ (l : Layout) (value : Place → Scaled) (s : Sum) where
+  received_met : (now : List ℕ) (place : Place) (v : Option (List ℕ)) → IsMet (received l false now place v)
   received_met now place None = tt
   received_met now place (Some bytes) = refl
 
@@ -43,7 +44,7 @@ module _ (l : Layout) (value : ℕ → Scaled) (s : Sum) where
       (λ x. receive_all l false value s (receiving x.storage (r.failed || x.failed)) ts) (receive_met r.storage t)
       (λ x f. all_met ts (receiving x.storage (r.failed || x.failed)) (ap (λ b. b || x.failed) e ∙ f))
 
-  remainder_met : (failed : Bool) (ts : List Target) (remainder : Option ℕ) (now : List ℕ) → failed ≡ false →
+  remainder_met : (failed : Bool) (ts : List Target) (remainder : Option Place) (now : List ℕ) → failed ≡ false →
       IsMet (remainder_received l false failed value s ts remainder now)
   remainder_met true ts remainder now e = absurd (false≢true (sym e))
   remainder_met false [] remainder now e = refl
@@ -51,7 +52,7 @@ module _ (l : Layout) (value : ℕ → Scaled) (s : Sum) where
   remainder_met false (t ∷ []) (Some place) now e = received_met now place _
   remainder_met false (t ∷ u ∷ ts) remainder now e = refl
 
-divisors_met : (l : Layout) (storage : List ℕ) (s : Sum) (ts : List Target) (remainder : Option ℕ)
+divisors_met : (l : Layout) (storage : List ℕ) (s : Sum) (ts : List Target) (remainder : Option Place)
     (zero_divisor : Bool) → IsMet (after_divisors l false storage s ts remainder zero_divisor)
 divisors_met l storage s ts remainder true = tt
 divisors_met l storage s ts remainder false =
@@ -74,7 +75,7 @@ unfolding has_failed
 computed_met w (Ok a) x h e = sym (ap has_failed e) ∙ h
 computed_met w (Err kind) x h e = cc
 
-pub no_size_error : (l : Layout) (s : Sum) (ts : List Target) (remainder : Option ℕ) (w : World) (x : World × Bool) →
+pub no_size_error : (l : Layout) (s : Sum) (ts : List Target) (remainder : Option Place) (w : World) (x : World × Bool) →
     compute l false s ts remainder w ≡ Ok x → x.1 ≡ false
 no_size_error l s ts remainder w x e =
     computed_met w (after_arithmetic l false w.storage s ts remainder) x

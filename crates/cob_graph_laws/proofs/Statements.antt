@@ -3,6 +3,7 @@ use Rattle.std.proofs.Common.{◌≡◌, ℕ, suc, ◌+◌, Bool, true, false, n
 use Rattle.std.specs.Prelude.{Contains, if◌then◌else◌}
 use Rattle.std.proofs.lemmas.Bool.{false≢true}
 use Rattle.cob_tree.specs.declared.fault.Kind.{Kind}
+use Rattle.cob_data.specs.declared.layout.Place.{Place}
 use Rattle.cob_program.specs.declared.act.Target.{Target}
 use Rattle.cob_program.specs.Sum.{Sum}
 use Rattle.cob_program.specs.Logic.{Logic}
@@ -95,7 +96,7 @@ module _ (s : Setting) where
         (front all at tests (ns ++ ms) stand)
         (subst (λ (n : ℕ). Way s k n w) (sym (begins_at t at tr fa x.whole.0)) way))
 
-    size_leads : (sum : Sum) (ts : List Target) (remainder : Option ℕ) (size : Phrase) (fine : Stmts) (a : LaidPhrase)
+    size_leads : (sum : Sum) (ts : List Target) (remainder : Option Place) (size : Phrase) (fine : Stmts) (a : LaidPhrase)
         (b : LaidList) →
         ActAt s h number (arithmetic sum ts remainder size fine) (computing a b) at next →
         Stand s (at + 1) (phrase_nodes h.c a (at + 1) next) →
@@ -116,7 +117,7 @@ module _ (s : Setting) where
     size_leads sum ts remainder left_out fine (a_phrase xs) b y stand whole laid x e f = absurd laid
     size_leads sum ts remainder (given ss) fine no_phrase b y stand whole laid x e f = absurd laid
 
-    module _ (sum : Sum) (ts : List Target) (remainder : Option ℕ) (size : Phrase) (fine : Stmts) (a : LaidPhrase)
+    module _ (sum : Sum) (ts : List Target) (remainder : Option Place) (size : Phrase) (fine : Stmts) (a : LaidPhrase)
         (b : LaidList)
         (y : ActAt s h number (arithmetic sum ts remainder size fine) (computing a b) at next) where
       failed_leads : (x : World × Bool) → compute s.p.layout (is_given size) sum ts remainder w ≡ Ok x →

@@ -4,6 +4,7 @@ use Rattle.std.specs.Prelude.{slice_get, slice_set}
 use Rattle.batch_io.specs.FilesState.{Contents}
 use Rattle.cob_data.specs.declared.layout.FileDecl.{FileDecl}
 use Rattle.cob_data.specs.declared.layout.Layout.{Layout}
+use Rattle.cob_data.specs.Places.{plain}
 use Rattle.cob_program.specs.declared.act.Opening.{Opening}
 use Rattle.cob_runs.specs.Contents.{fitted, bytes_at}
 use Rattle.cob_runs.specs.Files.{File, reading, opened, after_close, after_read, after_write, with_status}
@@ -136,7 +137,7 @@ module _ (l : Layout) (told : Contents) (paths : List (List ℕ)) (text : List �
   wrote_on place rec_ (Some d) (Some f) None sees = cc
   wrote_on place rec_ (Some d) (Some f) (Some h) sees =
       let h_is : h ≡ seen_file told sees.0 f = cc in
-      let r = fitted d.length (bytes_at l w.storage rec_) in
+      let r = fitted d.length (bytes_at l w.storage (plain rec_)) in
       let follows = write_follows told sees.0 r f sees.3 in
       rw h_is (wrote d _ _ (called l told told paths text apart w s (after_write r) place d f sees.0
       (λ name e. refl) sees.1 follows))

@@ -6,6 +6,7 @@ use Rattle.batch_io.specs.FilesState.{Contents}
 use Rattle.cob_tree.specs.declared.fault.Kind.{Kind}
 use Rattle.cob_tree.specs.declared.fault.Kind.TheVariants as kind
 use Rattle.cob_data.specs.declared.layout.Sender.{Sender}
+use Rattle.cob_data.specs.Places.{plain}
 use Rattle.cob_program.specs.Logic.{Test}
 use Rattle.cob_program.specs.Act.{Turns, once, times, until, varying, Act, arith, if_, evaluate, perform, go, nothing, stop, open_files, close_files, read, write, Body, Program}
 use Rattle.cob_program.specs.Act as act
@@ -207,20 +208,20 @@ module _ (p : Program) (number : ℕ) (told : Contents) (paths : List (List ℕ)
   augmented_by : (r t : Result Scaled Kind) (item : ℕ) → Follows told paths text
       (met (r >>= λ v. t >>= λ own. or_fault kind.Size (stored Trunc (form_at p.layout item) (value_of (plus own v)))
       >>= λ bytes.
-      Ok (with_storage w (filled_at p.layout w.storage item bytes))))
+      Ok (with_storage w (filled_at p.layout w.storage (plain item) bytes))))
       (met (r >>= λ v. t >>= λ own. or_fault kind.Size (stored Trunc (form_at p.layout item) (value_of (plus own v)))
       >>= λ bytes.
-      Ok (with_storage as_seen (filled_at p.layout w.storage item bytes))))
+      Ok (with_storage as_seen (filled_at p.layout w.storage (plain item) bytes))))
   augmented_by (Err kind) t item = refl
   augmented_by (Ok v) (Err kind) item = refl
   augmented_by (Ok v) (Ok own) item =
       ended_storage (or_fault kind.Size (stored Trunc (form_at p.layout item) (value_of (plus own v))))
-      (filled_at p.layout w.storage item)
+      (filled_at p.layout w.storage (plain item))
 
   augmented : (item : ℕ) (by : Sender)
       → Follows told paths text (met (augment p.layout item by w)) (met (augment p.layout item by as_seen))
   augmented item by = augmented_by (or_fault kind.Class (number_of p.layout w.storage by))
-      (or_fault kind.Class (number_at p.layout w.storage item)) item
+      (or_fault kind.Class (number_at p.layout w.storage (plain item))) item
 
   computed_turns : (failed : Bool) (body : Body) (turns : Turns) → Follows told paths text
       (edge_computed p number None w failed (perform body turns)) (edge_computed p number None as_seen failed

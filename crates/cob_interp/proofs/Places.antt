@@ -14,6 +14,7 @@ use Rattle.cob_runs.specs.Deciding.{test_holds}
 use Rattle.cob_runs.specs.Steps.{is_left, is_given}
 use Rattle.cob_data.specs.declared.layout.FileDecl.{FileDecl}
 use Rattle.cob_data.specs.declared.layout.Sender.{Sender}
+use Rattle.cob_data.specs.Places.{plain}
 use Rattle.cob_program.specs.Logic.{Test}
 use Rattle.cob_program.specs.Act.{Turns, once, times, until, varying, Act, arith, if_, evaluate, perform, go, nothing, stop, open_files, close_files, read, write, Body, Program}
 use Rattle.cob_program.specs.Act as act
@@ -149,12 +150,12 @@ module _ (p : Program) (number : ℕ) (w : World) where
 
   augmented_by : (r t : Result Scaled Kind) (item : ℕ) → Keeps w (met (r >>= λ v. t >>= λ own.
       or_fault kind.Size (stored Trunc (form_at p.layout item) (value_of (plus own v))) >>= λ bytes.
-      Ok (with_storage w (filled_at p.layout w.storage item bytes))))
+      Ok (with_storage w (filled_at p.layout w.storage (plain item) bytes))))
   augmented_by (Err kind) t item = tt
   augmented_by (Ok v) (Err kind) item = tt
   augmented_by (Ok v) (Ok own) item =
       ended_keeps (or_fault kind.Size (stored Trunc (form_at p.layout item) (value_of (plus own v))))
-      (filled_at p.layout w.storage item)
+      (filled_at p.layout w.storage (plain item))
 
   computed_turns : (failed : Bool) (body : Body) (turns : Turns)
       → Keeps w (edge_computed p number None w failed (perform body turns))
@@ -164,7 +165,7 @@ module _ (p : Program) (number : ℕ) (w : World) where
   computed_turns false body (until after t) = tt
   computed_turns false body (varying after item start by t) =
       augmented_by (or_fault kind.Class (number_of p.layout w.storage by))
-      (or_fault kind.Class (number_at p.layout w.storage item)) item
+      (or_fault kind.Class (number_at p.layout w.storage (plain item))) item
 
   computed_keeps : (failed : Bool) (b : Act) → Keeps w (edge_computed p number None w failed b)
   computed_keeps failed (act.move x places) = tt
@@ -283,7 +284,7 @@ module _ (p : Program) (number : ℕ) (w : World) where
   wrote_on place rec_ None o has = stays w w refl
   wrote_on place rec_ (Some d) None has = stays w w refl
   wrote_on place rec_ (Some d) (Some f) has =
-      let r = fitted d.length (bytes_at p.layout w.storage rec_) in
+      let r = fitted d.length (bytes_at p.layout w.storage (plain rec_)) in
       let x = with_file p.layout place d (after_write r f) w in
       subst (λ (u : World). KeepsPlaces w.files u.files) (sym (undefined_none (is_fine x.1) d x.0))
       (set_keeps_as w.files place f (after_write r f).0 has (written_mode r f) (written_purpose r f))

@@ -2,6 +2,7 @@
 use Rattle.std.proofs.Common.{◌≡◌, ◌≤◌, ◌<◌, ℕ, zero, suc, ◌+◌, ◌-◌, Bool, true, false, List, [], ◌∷◌, ◌++◌, length, length-append, Some, refl, sym, ap, subst, ◌∙◌, arith}
 use Rattle.std.specs.Prelude.{Option, None, is_some}
 use Rattle.std.proofs.lemmas.Option.{same_Some}
+use Rattle.cob_data.specs.declared.layout.Place.{Place}
 use Rattle.cob_data.specs.declared.layout.Sender.{Sender}
 use Rattle.cob_program.specs.declared.act.Opening.{Opening}
 use Rattle.cob_program.specs.declared.act.Target.{Target}
@@ -210,7 +211,7 @@ module _ (p : Program) where
 
     -- ---- arithmetic
 
-    compute_fits : (lo hi : ℕ) (s : Sum) (targets : List Target) (remainder : Option ℕ) (size : Phrase) (fine : Stmts) →
+    compute_fits : (lo hi : ℕ) (s : Sum) (targets : List Target) (remainder : Option Place) (size : Phrase) (fine : Stmts) →
         act_at p number ≡ Some (arithmetic s targets remainder size fine) → (u : LaidPhrase) → IsLaidPhrase p lo hi size u →
         (fine_to at next : ℕ) → IsFit (node c number true ((action.Done, fine_to) ∷ size_edges c number u at next))
     compute_fits lo hi s targets remainder left_out fine its no_phrase l fine_to at next =

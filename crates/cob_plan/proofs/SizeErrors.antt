@@ -5,6 +5,7 @@ use Rattle.cob_tree.specs.declared.fault.Kind.{Kind}
 use Rattle.cob_tree.specs.declared.fault.Kind.TheVariants as kind
 use Rattle.dec_num.specs.declared.types.Scaled.{Scaled}
 use Rattle.cob_data.specs.declared.layout.Layout.{Layout}
+use Rattle.cob_data.specs.declared.layout.Place.{Place}
 use Rattle.cob_program.specs.declared.act.Target.{Target}
 use Rattle.cob_program.specs.Sum.{Sum}
 use Rattle.cob_program.specs.Act.{once, times, until, varying, Act, move, arith, if_, evaluate, perform, go, nothing, stop, open_files, close_files, read, write, show, Program}
@@ -31,8 +32,8 @@ anything : {A : Type 0} (m : Result A Kind) → IfOk m (λ a. Unit {0})
 anything (Ok a) = tt
 anything (Err k_) = tt
 
-module _ (l : Layout) (worth_ : ℕ → Scaled) (s : Sum) where
-  received_sure : (now : List ℕ) (place : ℕ) (bytes : Option (List ℕ)) → IsSure (received l false now place bytes)
+module _ (l : Layout) (worth_ : Place → Scaled) (s : Sum) where
+  received_sure : (now : List ℕ) (place : Place) (bytes : Option (List ℕ)) → IsSure (received l false now place bytes)
   received_sure now place None = tt
   received_sure now place (Some bytes) = refl
 
@@ -50,7 +51,7 @@ module _ (l : Layout) (worth_ : ℕ → Scaled) (s : Sum) where
       (λ r k. all_sure (receiving r.storage (so_far.failed || r.failed)) ts
       (ap (λ b. b || r.failed) h ∙ k))
 
-  remainder_sure : (failed : Bool) (ts : List Target) (remainder : Option ℕ) (now : List ℕ) → failed ≡ false →
+  remainder_sure : (failed : Bool) (ts : List Target) (remainder : Option Place) (now : List ℕ) → failed ≡ false →
       IsSure (remainder_received l false failed worth_ s ts remainder now)
   remainder_sure true ts remainder now h = absurd cc
   remainder_sure false [] remainder now h = refl
@@ -58,7 +59,7 @@ module _ (l : Layout) (worth_ : ℕ → Scaled) (s : Sum) where
   remainder_sure false (t ∷ []) (Some place) now h = received_sure now place _
   remainder_sure false (t ∷ u ∷ ts) remainder now h = refl
 
-module _ (l : Layout) (storage : List ℕ) (s : Sum) (ts : List Target) (remainder : Option ℕ) where
+module _ (l : Layout) (storage : List ℕ) (s : Sum) (ts : List Target) (remainder : Option Place) where
   divisors_sure : (zero_ : Bool) → IsSure (after_divisors l false storage s ts remainder zero_)
   divisors_sure true = tt
   divisors_sure false =
@@ -77,7 +78,7 @@ module _ (l : Layout) (storage : List ℕ) (s : Sum) (ts : List Target) (remaind
 
 -- ---- statements
 
-compute_sure : (l : Layout) (s : Sum) (ts : List Target) (remainder : Option ℕ) (w : World) →
+compute_sure : (l : Layout) (s : Sum) (ts : List Target) (remainder : Option Place) (w : World) →
     IfOk (compute l false s ts remainder w) (λ x. x.1 ≡ false)
 compute_sure l s ts remainder w =
     bound (λ (x : Receiving). x.failed ≡ false) (λ (x : World × Bool). x.1 ≡ false)

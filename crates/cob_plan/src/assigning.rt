@@ -14,7 +14,7 @@ ghost use Rattle.cob_plan.specs.Doing.{Meets};
 ghost use Rattle.cob_plan.specs.Fitting.{IsVarying, IsTimes, Assigns, Counts, Shows};
 
 use crate::end::DoEnd;
-use cob_data::Sender;
+use cob_data::{Place, Sender};
 use cob_program::{Act, Turns};
 use cob_store::MoveEnd;
 use cob_tree::Kind;
@@ -46,7 +46,7 @@ fn count_outcome(outcome: Result<(), Kind>) -> Result<(), DoEnd>
 
 // ---- what is moved
 
-fn move_all(alloc: Global, from: &Sender, to: &[u32], world: &mut World) -> Result<(), DoEnd>
+fn move_all(alloc: Global, from: &Sender, to: &[Place], world: &mut World) -> Result<(), DoEnd>
     requires able { AllByRecursion (CanMoveTo world.old.program.layout from.now) to.now }
     ensures value { Meets (met (move world.old.program.layout from.now to.now world.old.world)) world.old.world
         world.new.world result }

@@ -15,7 +15,7 @@ ghost use Rattle.cob_plan.specs.Doing.{Forks, without_error, with_error};
 ghost use Rattle.cob_plan.specs.Fitting.{IsVarying, Computes};
 
 use crate::end::DoEnd;
-use cob_data::Sender;
+use cob_data::{Place, Sender};
 use cob_program::{Act, Stmt, Sum, Target, Turns};
 use cob_world::World;
 
@@ -34,7 +34,7 @@ fn compute_all(
     phrase: bool,
     common: &Sum,
     targets: &[Target],
-    remainder: Option<u32>,
+    remainder: Option<Place>,
     world: &mut World,
 ) -> Result<bool, DoEnd>
     requires able { CanCompute world.old.program.layout (plain_sum common.now) targets.now remainder }

@@ -13,6 +13,7 @@ use Rattle.cob_tree.specs.Forms.{is_number_form}
 use Rattle.cob_data.specs.declared.layout.Layout.{Layout}
 use Rattle.cob_data.specs.declared.layout.Sender.{Sender}
 use Rattle.cob_data.specs.declared.layout.Sender.TheVariants as sender
+use Rattle.cob_data.specs.Places.{plain}
 use Rattle.cob_program.specs.Values.{plus}
 use Rattle.cob_program.specs.Bounds.{IsSmall}
 use Rattle.cob_runs.specs.Contents.{form_at}
@@ -29,7 +30,7 @@ is_number_here l storage (sender.Text text) e = e
 is_number_here l storage (sender.Fill byte) e = e
 is_number_here l storage sender.Zero e = e
 
-pub item_is_number : (l : Layout) (place : ℕ) → is_number_form (form_at l place) ≡ true → IsNumber l (sender.Item place)
+pub item_is_number : (l : Layout) (place : ℕ) → is_number_form (form_at l place) ≡ true → IsNumber l (sender.Item (plain place))
 item_is_number l place e = record { number = e; literal = tt }
 
 takes : (f : Form) → is_number_form f ≡ true → IsTrue (takes_number f)

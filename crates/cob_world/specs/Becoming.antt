@@ -7,6 +7,7 @@ use Rattle.cob_tree.specs.declared.fault.Kind.{Kind}
 use Rattle.cob_tree.specs.declared.fault.Kind.TheVariants as kind
 use Rattle.cob_data.specs.declared.layout.Layout.{Layout}
 use Rattle.cob_data.specs.declared.layout.FileDecl.{FileDecl}
+use Rattle.cob_data.specs.Places.{plain}
 use Rattle.cob_runs.specs.Files.{Choice, chosen_in}
 use Rattle.cob_runs.specs.Contents.{form_at, filled_at, stored}
 use Rattle.cob_runs.specs.Faults.{◌>>=◌, or_fault}
@@ -31,7 +32,7 @@ BecomesBy wanted (Err kind) old now = (wanted ≡ Err kind) × (now ≡ old)
 
 -- A value is put into the item at a place, whose digits must hold it.
 abbrev pub put : Layout → ℕ → Scaled → World → Result World Kind
-put l place v w = or_fault kind.Size (stored Trunc (form_at l place) (value_of v)) >>= λ bytes. Ok (with_storage w (filled_at l w.storage place bytes))
+put l place v w = or_fault kind.Size (stored Trunc (form_at l place) (value_of v)) >>= λ bytes. Ok (with_storage w (filled_at l w.storage (plain place) bytes))
 
 -- the world, where nothing was shown
 abbrev pub without_shown : World → World

@@ -3,6 +3,7 @@ use Rattle.std.specs.Prelude.{ℕ, ◌+◌, nat_le, if◌then◌else◌, List, [
 use Rattle.std.specs.Option.{option_map, option_map_or}
 use Rattle.cob_data.specs.declared.layout.FileDecl.{FileDecl}
 use Rattle.cob_data.specs.declared.layout.Layout.{Layout}
+use Rattle.cob_data.specs.Places.{plain}
 use Rattle.cob_runs.specs.Contents.{area, fitted, bytes_at}
 use Rattle.cob_runs.specs.Files.{File, file, Choice, after_read, after_write, with_status}
 use Rattle.cob_runs.specs.Acts.{is_fine, found_in}
@@ -29,7 +30,7 @@ read_by l c d storage f = (
 -- a file and storage behind a WRITE, and its status
 abbrev pub written_by : Layout → Choice → FileDecl → ℕ → List ℕ → File → File × List ℕ × ℕ
 written_by l c d rec_ storage f =
-    let x = after_write (fitted d.length (bytes_at l storage rec_)) f in
+    let x = after_write (fitted d.length (bytes_at l storage (plain rec_))) f in
     (x.0, undefined_by (is_fine x.1) c d (with_status l d x.1 storage), x.1)
 
 -- the files and storage behind such a call, and its status, if there is such a file

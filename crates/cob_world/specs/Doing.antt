@@ -38,7 +38,7 @@ module _ (l : Layout) where
     CanDoPhrase (given ss) = CanDo ss
 
     pub CanDoAct : Act → Type 0
-    CanDoAct (move x places) = AllByRecursion (CanMoveTo x) places
+    CanDoAct (move x places) = AllByRecursion (λ p. CanMoveTo x p.item) places
     CanDoAct (arith s targets remainder size fine) = CanCompute l s targets remainder × CanDoPhrase size × CanDo fine
     CanDoAct (if_ t held other) = CanDecide l t × CanDo held × CanDo other
     CanDoAct (evaluate ws other) = CanDoWhens ws × CanDo other

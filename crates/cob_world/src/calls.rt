@@ -11,7 +11,7 @@ ghost use Rattle.cob_world.specs.Calling.{called, read_by, written_by, acted, re
 use crate::files::File;
 use crate::statuses::{decl_at, is_fine, put_found, put_into, put_status, put_written};
 use crate::world::World;
-use cob_data::{FileDecl, Layout};
+use cob_data::{FileDecl, Layout, Place};
 use cob_program::Opening;
 use cob_store::bytes_at;
 use cob_tree::Bytes;
@@ -114,7 +114,7 @@ fn write_from(
     ensures { IfOk result (λ status. (file.new, storage.new, status)
         ≡ written_by layout.now choice.now decl.now rec storage.old file.old) }
 {
-    let status = file.write(alloc, bytes_at(layout, storage, rec), decl.length)?;
+    let status = file.write(alloc, bytes_at(layout, storage, Place::plain(rec)), decl.length)?;
     put_written(layout, choice, decl, status, storage);
     Ok(status)
 }

@@ -4,6 +4,7 @@ ghost use Rattle.std.specs.Result.{OnOk};
 ghost use Rattle.cob_tree.specs.Forms.{is_number_form};
 ghost use Rattle.cob_program.specs.Bounds.{IsSmall};
 ghost use Rattle.cob_program.specs.Values.{plus};
+ghost use Rattle.cob_data.specs.Places.{plain};
 ghost use Rattle.cob_runs.specs.Contents.{form_at, number_at};
 ghost use Rattle.cob_runs.specs.Moves.{number_of};
 ghost use Rattle.cob_runs.specs.Acts.{count_of, with_count, set_count, count_down, augment};
@@ -14,7 +15,7 @@ ghost use Rattle.cob_world.specs.Needs.{IsNumber};
 
 use crate::world::World;
 use cob_calc::Contents;
-use cob_data::{Layout, Sender};
+use cob_data::{Layout, Place, Sender};
 use cob_store::store_at;
 use cob_tree::Kind;
 use dec_num::{Mode, Scaled, add};
@@ -38,10 +39,10 @@ fn number_at(layout: &Layout, storage: &[u8], item: u32) -> Option<Scaled>
     requires sound { HasWellFormedItems layout.now }
     requires whole { length storage.now ≡ layout.now.storage }
     requires number { is_number_form (form_at layout.now item) ≡ true }
-    ensures value { result ≡ number_at layout.now storage.now item }
+    ensures value { result ≡ number_at layout.now storage.now (plain item) }
     ensures short { IfSome result IsShortNumber }
 {
-    number_of(layout, storage, &Sender::Item(item))
+    number_of(layout, storage, &Sender::Item(Place::plain(item)))
 }
 
 fn sum(own: Scaled, step: Scaled) -> Scaled
@@ -140,7 +141,7 @@ impl<'p> World<'p> {
         if store_at(
             &self.program.layout,
             self.storage.as_mut_slice(),
-            item,
+            Place::plain(item),
             value,
             Mode::Trunc,
         ) {

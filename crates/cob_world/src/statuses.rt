@@ -11,7 +11,7 @@ ghost use Rattle.cob_world.specs.Calling.{as_found};
 
 use crate::areas::{copy_area, write_at, write_text};
 use crate::world::World;
-use cob_data::{FileDecl, Layout};
+use cob_data::{FileDecl, Layout, Place};
 use cob_store::{fill_bytes, item_at};
 use cob_tree::Bytes;
 
@@ -59,7 +59,7 @@ pub fn put_status(layout: &Layout, decl: &FileDecl, status: u8, storage: &mut [u
 {
     match decl.status {
         None => {}
-        Some(place) => fill_bytes(layout, storage, place, &status_bytes(status)),
+        Some(item) => fill_bytes(layout, storage, Place::plain(item), &status_bytes(status)),
     }
 }
 

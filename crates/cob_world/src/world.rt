@@ -14,7 +14,7 @@ ghost use Rattle.cob_world.specs.Views.{plain_mode};
 
 use crate::files::{File, FileMode};
 use cob_calc::compute;
-use cob_data::Sender;
+use cob_data::{Place, Sender};
 use cob_program::{Program, Sum, Target};
 use cob_store::{MoveEnd, after_move, push_line};
 use cob_tree::Kind;
@@ -106,9 +106,9 @@ impl<'p> World<'p> {
     }
 
     /// MOVE (ISO 1989:1985, "The MOVE statement").
-    pub fn move_to(&mut self, alloc: Global, sender: &Sender, to: &[u32]) -> Result<(), MoveEnd>
+    pub fn move_to(&mut self, alloc: Global, sender: &Sender, to: &[Place]) -> Result<(), MoveEnd>
         requires able { All (λ place. CanMove self.old.program.layout sender.now
-            (form_at self.old.program.layout place)) to.now }
+            (form_at self.old.program.layout place.item)) to.now }
         ensures value { Becomes (move self.old.program.layout sender.now to.now self.old.world) result self.old.world
             self.new.world }
         ensures kept { self.new.program ≡ self.old.program }
@@ -127,7 +127,7 @@ impl<'p> World<'p> {
     {
         match from {
             None => Ok(()),
-            Some(sender) => self.move_to(alloc, sender, &[rec]),
+            Some(sender) => self.move_to(alloc, sender, &[Place::plain(rec)]),
         }
     }
 
@@ -138,7 +138,7 @@ impl<'p> World<'p> {
             self.old.world self.new.world }
         ensures kept { self.new.program ≡ self.old.program }
     {
-        self.move_to(alloc, start, &[item])
+        self.move_to(alloc, start, &[Place::plain(item)])
     }
 
     /// An arithmetic statement; answers whether there is a size error that the phrase handles. Of storage behind a fault
@@ -148,7 +148,7 @@ impl<'p> World<'p> {
         phrase: bool,
         common: &Sum,
         targets: &[Target],
-        remainder: Option<u32>,
+        remainder: Option<Place>,
     ) -> Result<bool, Kind>
         requires can { CanCompute self.old.program.layout (plain_sum common.now) targets.now remainder }
         ensures value { MatchResult result
@@ -181,7 +181,7 @@ impl<'p> World<'p> {
         phrase: bool,
         common: &Sum,
         targets: &[Target],
-        remainder: Option<u32>,
+        remainder: Option<Place>,
     ) -> Result<bool, MoveEnd>
         requires can { CanCompute self.old.program.layout (plain_sum common.now) targets.now remainder }
         ensures value { MatchResult result

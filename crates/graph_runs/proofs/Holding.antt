@@ -5,6 +5,7 @@ use Rattle.dec_num.specs.declared.types.Mode.{Mode}
 use Rattle.dec_num.specs.declared.types.Scaled.{Scaled}
 use Rattle.cob_tree.specs.declared.fault.Kind.{Kind}
 use Rattle.cob_data.specs.declared.layout.Layout.{Layout}
+use Rattle.cob_data.specs.declared.layout.Place.{Place}
 use Rattle.cob_data.specs.declared.layout.Sender.{Sender}
 use Rattle.cob_program.specs.Sum.{Atom}
 use Rattle.cob_program.specs.Act.{Program}
@@ -70,7 +71,7 @@ module _ (l : Layout) where
   same_counts : (m n : Moment) → n ≡ m → n.counts ≡ m.counts
   same_counts m n e = ap (λ (k : Moment). k.counts) e
 
-  read_counts : (b : Bool) (place : ℕ) (m n : Moment) → ReadsAt l b place m n → n.counts ≡ m.counts
+  read_counts : (b : Bool) (place : Place) (m n : Moment) → ReadsAt l b place m n → n.counts ≡ m.counts
   read_counts true place m n e = same_counts m n e
   read_counts false place m n (v, f, e) = same_counts (with_own m v) n e
 
@@ -82,16 +83,16 @@ module _ (l : Layout) where
   divide_counts true a m n e = if_zero _ m n e
   divide_counts false a m n (f, e) = same_counts m n e
 
-  if_kept : (o : Option (List ℕ)) (place : ℕ) (m n : Moment) → n ≡ stored_or_kept l m place o → n.counts ≡ m.counts
+  if_kept : (o : Option (List ℕ)) (place : Place) (m n : Moment) → n ≡ stored_or_kept l m place o → n.counts ≡ m.counts
   if_kept None place m n e = same_counts (with_failure m) n e
   if_kept (Some bytes) place m n e = same_counts (with_storage m _) n e
 
-  if_alone : (b : Bool) (o : Option (List ℕ)) (place : ℕ) (m n : Moment) →
+  if_alone : (b : Bool) (o : Option (List ℕ)) (place : Place) (m n : Moment) →
       n ≡ (if b then m else stored_or_kept l m place o) → n.counts ≡ m.counts
   if_alone true o place m n e = same_counts m n e
   if_alone false o place m n e = if_kept o place m n e
 
-  store_counts : (b : Bool) (place : ℕ) (mode : Mode) (a : Amount) (m n : Moment) → Stores l b place mode a m n →
+  store_counts : (b : Bool) (place : Place) (mode : Mode) (a : Amount) (m n : Moment) → Stores l b place mode a m n →
       n.counts ≡ m.counts
   store_counts true place mode a m n e = if_alone _ _ place m n e
   store_counts false place mode a m n (held, f, e) = same_counts (with_storage m _) n e

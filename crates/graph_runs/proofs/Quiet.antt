@@ -7,6 +7,7 @@ use Rattle.cob_tree.specs.declared.form.Form.TheVariants as form
 use Rattle.cob_data.specs.declared.layout.FileDecl.{FileDecl}
 use Rattle.cob_data.specs.declared.layout.Item.{Item}
 use Rattle.cob_data.specs.declared.layout.Layout.{Layout}
+use Rattle.cob_data.specs.declared.layout.Place.{Place}
 use Rattle.cob_data.specs.declared.layout.Pair.{Pair}
 use Rattle.cob_data.specs.declared.layout.Sender.{Sender}
 use Rattle.cob_data.specs.declared.layout.Sender.TheVariants as sender
@@ -56,7 +57,7 @@ module _ (l : Layout) where
 
   -- ---- reads and divisors
 
-  item_reads_none : (places : List ℕ) → NoCounts (item_reads places)
+  item_reads_none : (places : List Place) → NoCounts (item_reads places)
   item_reads_none [] = tt
   item_reads_none (place ∷ places) = ((λ m f. f), item_reads_none places)
 
@@ -72,7 +73,7 @@ module _ (l : Layout) where
   number_reads_none (sender.Fill byte) = ((λ m f. f), tt)
   number_reads_none sender.Zero = tt
 
-  own_reads_none : (h : How) (place : ℕ) → NoCounts (own_reads h place)
+  own_reads_none : (h : How) (place : Place) → NoCounts (own_reads h place)
   own_reads_none how.Whole place = tt
   own_reads_none how.Plus place = ((λ m f. f), tt)
   own_reads_none how.Minus place = ((λ m f. f), tt)
@@ -87,13 +88,13 @@ module _ (l : Layout) where
       both (target_parts s t) (targets_parts s ts)
       (both (own_reads t.how t.item) _ (own_reads_none t.how t.item) ((λ m f. f), tt)) (targets_none s ts)
 
-  remainder_none : (s : Sum) (ts : List Target) (remainder : Option ℕ) → NoCounts (remainder_parts l s ts remainder)
+  remainder_none : (s : Sum) (ts : List Target) (remainder : Option Place) → NoCounts (remainder_parts l s ts remainder)
   remainder_none s (t ∷ []) (Some place) = ((λ m f. f), tt)
   remainder_none s [] remainder = tt
   remainder_none s (t ∷ []) None = tt
   remainder_none s (t ∷ u ∷ ts) remainder = tt
 
-  arith_none : (s : Sum) (ts : List Target) (remainder : Option ℕ) → NoCounts (arith_parts l s ts remainder)
+  arith_none : (s : Sum) (ts : List Target) (remainder : Option Place) → NoCounts (arith_parts l s ts remainder)
   arith_none s ts remainder =
       both (item_reads (items_in s)) _ (item_reads_none (items_in s))
       (both (divides (divisors_of s ts)) _ (divides_none (divisors_of s ts))
@@ -112,14 +113,14 @@ module _ (l : Layout) where
       by_item None = tt
       by_item (Some i) = ((λ m f. f), tt)
 
-  receivers_none : (x : Sender) (places : List ℕ) → NoCounts (receivers_parts l x places)
+  receivers_none : (x : Sender) (places : List Place) → NoCounts (receivers_parts l x places)
   receivers_none x [] = tt
   receivers_none x (place ∷ places) =
       both (receiver_parts l x place) (receivers_parts l x places)
       (either (gets_value l (form_at l place) x) _ (item_bytes l place) ((λ m f. f), tt) (item_bytes_none place))
       (receivers_none x places)
 
-  move_none : (x : Sender) (places : List ℕ) → NoCounts (move_parts l x places)
+  move_none : (x : Sender) (places : List Place) → NoCounts (move_parts l x places)
   move_none x places =
       both _ (receivers_parts l x places)
       (either (list_any (λ place. is_read_for l (form_at l place) x) places) (number_reads x) [] (number_reads_none x) tt)
