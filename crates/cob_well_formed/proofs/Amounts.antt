@@ -8,6 +8,7 @@ use Rattle.cob_tree.specs.declared.operand.Opnd.{Opnd}
 use Rattle.cob_tree.specs.Expr.{Expr, MkExpr, Terms, no_terms, more_terms, Term, MkTerm, Facts, no_facts, more_facts, Fact, MkFact, Primary}
 use Rattle.cob_tree.specs.Expr as expr
 use Rattle.cob_tree.specs.Forms.{is_number_form}
+use Rattle.cob_data.specs.declared.layout.Place.{Place}
 use Rattle.cob_data.specs.declared.end.Rule.TheVariants.{Q3}
 use Rattle.cob_data.specs.declared.layout.Item.{Item}
 use Rattle.cob_data.specs.declared.layout.Sender.{Sender}
@@ -37,24 +38,24 @@ module _ (s : Scope) where
   abbrev pub IsNumber : ℕ → Type 0
   IsNumber place = is_number_form (form_at s.layout place) ≡ true
 
-  abbrev pub AreNumbers : List ℕ → Type 0
-  AreNumbers places = AllByRecursion IsNumber places
+  abbrev pub AreNumbers : List Place → Type 0
+  AreNumbers places = AllByRecursion (λ p. IsNumber p.item) places
 
   pub number_item : (place : ℕ) → is_number_form (scope.form_at s place) ≡ true → IsNumber place
   number_item place is = ap is_number_form (sym (same_form s place)) ∙ is
 
-  pub are_all : (places : List ℕ) → AreNumbers places → are_numbers s.layout places ≡ true
+  pub are_all : (places : List Place) → AreNumbers places → are_numbers s.layout places ≡ true
   are_all [] all = refl
   are_all (place ∷ places) all =
-      and_from (is_number_form (form_at s.layout place)) (are_numbers s.layout places) all.0 (are_all places all.1)
+      and_from (is_number_form (form_at s.layout place.item)) (are_numbers s.layout places) all.0 (are_all places all.1)
 
-  pub both_numbers : (xs ys : List ℕ) → AreNumbers xs → AreNumbers ys → AreNumbers (xs ++ ys)
-  both_numbers xs ys first second = all_append IsNumber xs ys first second
+  pub both_numbers : (xs ys : List Place) → AreNumbers xs → AreNumbers ys → AreNumbers (xs ++ ys)
+  both_numbers xs ys first second = all_append (λ p. IsNumber p.item) xs ys first second
 
   -- ---- operands
 
   pub atom_numbers : (x : Sender) → kinds.is_number s x ≡ true → AreNumbers (items_in_atom (atom_of x))
-  atom_numbers (sender.Item place) is = (number_item place is, tt)
+  atom_numbers (sender.Item place) is = (number_item place.item is, tt)
   atom_numbers (sender.Number n) is = tt
   atom_numbers (sender.Text text) is = tt
   atom_numbers (sender.Fill byte) is = tt

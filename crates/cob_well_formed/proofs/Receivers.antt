@@ -79,7 +79,7 @@ module _ (s : Scope) where
   same_bounds = fun_ext (λ place. ap form_bound (same_form s place))
 
   result_same : (common : Sum) (t : Target) (h : How) →
-      typed.is_small_result s common t h ≡ calc.is_small_result (sizes.bound_at s) common t.item h
+      typed.is_small_result s common t h ≡ calc.is_small_result (sizes.bound_at s) common t.item.item h
   result_same common t how.Whole = refl
   result_same common t how.Plus = refl
   result_same common t how.Minus = refl
@@ -99,7 +99,7 @@ module _ (s : Scope) where
   -- ---- receivers
 
   target_takes : (h : How) (r : Recv) → IsKept (target s h r).broken →
-      takes_number (form_at s.layout (target s h r).value.item) ≡ true
+      takes_number (form_at s.layout (target s h r).value.item.item) ≡ true
   target_takes h r is =
       let place = (the_item s r.item).value in
       ap takes_number (sym (same_form s place)) ∙ received_takes h (scope.form_at s place) (met Q3 (may_receive h (scope.form_at s place)) (omega arith) is.1)
@@ -108,7 +108,7 @@ module _ (s : Scope) where
       take_numbers s.layout (each_of (target s h) rs).value ≡ true
   targets_take h [] is = refl
   targets_take h (r ∷ rs) is =
-      and_from (takes_number (form_at s.layout (target s h r).value.item)) (take_numbers s.layout (each_of (target s h) rs).value) (target_takes h r is.0) (targets_take h rs is.1)
+      and_from (takes_number (form_at s.layout (target s h r).value.item.item)) (take_numbers s.layout (each_of (target s h) rs).value) (target_takes h r is.0) (targets_take h rs is.1)
 
   abbrev pub CanWork : Worked → Type 0
   CanWork w = CanCompute s.layout w.common w.targets w.remainder
@@ -155,10 +155,10 @@ module _ (s : Scope) where
   -- ---- remainders
 
   rest_same : (n d : Bound) (t : Target) →
-      typed.is_small_remainder_at n d (sizes.quotient_at n d (typed.scale_of (scope.form_at s t.item))) ≡ is_small_rest_at n d (calc.quotient_at n d (scale_of (form_at s.layout t.item)))
+      typed.is_small_remainder_at n d (sizes.quotient_at n d (typed.scale_of (scope.form_at s t.item.item))) ≡ is_small_rest_at n d (calc.quotient_at n d (scale_of (form_at s.layout t.item.item)))
   rest_same n d t =
-      let q = calc.quotient_at n d (scale_of (form_at s.layout t.item)) in
-      let scale : typed.scale_of (scope.form_at s t.item) ≡ scale_of (form_at s.layout t.item) = same_scale (scope.form_at s t.item) ∙ ap scale_of (same_form s t.item) in
+      let q = calc.quotient_at n d (scale_of (form_at s.layout t.item.item)) in
+      let scale : typed.scale_of (scope.form_at s t.item.item) ≡ scale_of (form_at s.layout t.item.item) = same_scale (scope.form_at s t.item.item) ∙ ap scale_of (same_form s t.item.item) in
       ap (λ k. typed.is_small_remainder_at n d (sizes.quotient_at n d k)) scale
       ∙ and_right_first (is_small q) (is_small (product_bound d q)) (is_small (sum_bound n (product_bound d q)))
 
@@ -168,8 +168,8 @@ module _ (s : Scope) where
   rests_same n d (t ∷ ts) =
       let a = atom_most (sizes.bound_at s) n in
       let b = atom_most (sizes.bound_at s) d in
-      let scale = scale_of (form_at s.layout t.item) in
-      let here : typed.is_small_remainder_at a b (sizes.quotient_at a b (typed.scale_of (scope.form_at s t.item))) ≡ is_small_rest (sizes.bound_at s) scale (root_of (one_by_other true n d)) =
+      let scale = scale_of (form_at s.layout t.item.item) in
+      let here : typed.is_small_remainder_at a b (sizes.quotient_at a b (typed.scale_of (scope.form_at s t.item.item))) ≡ is_small_rest (sizes.bound_at s) scale (root_of (one_by_other true n d)) =
       rest_same a b t ∙ ap (λ x. is_small_rest_at x b (calc.quotient_at x b scale)) (sym (once a)) in
       rw (here, rests_same n d ts) refl
 

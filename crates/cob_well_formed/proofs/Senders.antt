@@ -95,8 +95,8 @@ module _ (s : Scope) where
 
   moved_countable : (x : Sender) (to : Form) → IsShortSender x → takes_number to ≡ true → may_move s x to ≡ true →
       IsCountable s.layout x
-  moved_countable (sender.Item place) to short takes may =
-      subst IsShort (same_form s place) (moved_short (scope.form_at s place) to takes may)
+  moved_countable (sender.Item p) to short takes may =
+      subst IsShort (same_form s p.item) (moved_short (scope.form_at s p.item) to takes may)
   moved_countable (sender.Number n) to short takes may = short
   moved_countable (sender.Text text) to short takes may = short_text text to takes may
   moved_countable (sender.Fill byte) to short takes may = tt
