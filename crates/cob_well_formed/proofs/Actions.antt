@@ -37,7 +37,7 @@ module _ (s : Scope) (flags : HasWellFormedFlags s.layout) where
   -- ---- MOVE, SET, WRITE
 
   pub able_moves : (x : Sender) (to : List Ref) → IsShortSender x → IsKept (each_of (receiver s x) to).broken →
-      AllByRecursion (CanMoveTo s.layout x) (each_of (receiver s x) to).value
+      AllByRecursion (λ p. CanMoveTo s.layout x p.item) (each_of (receiver s x) to).value
   able_moves x [] short is = tt
   able_moves x (r ∷ rs) short is =
       let place = (the_item s r).value in

@@ -70,7 +70,7 @@ form_number (Number digits scale signed usage) is = refl
 form_number (Edited picture digits scale) is = absurd (cc)
 
 side_number : (s : Scope) (x : Sender) → is_number_side (side_of s x) ≡ true → is_number s x ≡ true
-side_number s (sender.Item place) is = form_number (scope.form_at s place) is
+side_number s (sender.Item p) is = form_number (scope.form_at s p.item) is
 side_number s (sender.Number n) is = refl
 side_number s (sender.Text text) is = absurd (cc)
 side_number s (sender.Fill byte) is = absurd (cc)

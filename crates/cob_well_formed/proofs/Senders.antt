@@ -63,14 +63,14 @@ module _ (s : Scope) where
   short_operand d (opnd.Const c) short = short_sender c (short_const d c short)
 
   pub countable_number : (x : Sender) → IsShortSender x → is_number s x ≡ true → IsCountable s.layout x
-  countable_number (sender.Item place) short is = number_short (form_at s.layout place) (number_item s place is)
+  countable_number (sender.Item p) short is = number_short (form_at s.layout p.item) (number_item s p.item is)
   countable_number (sender.Number n) short is = short
   countable_number (sender.Text text) short is = absurd (cc)
   countable_number (sender.Fill byte) short is = tt
   countable_number sender.Zero short is = tt
 
   counts : (x : Sender) → is_number s x ≡ true → is_number_end s.layout [] x ≡ true
-  counts (sender.Item place) is = number_item s place is
+  counts (sender.Item p) is = number_item s p.item is
   counts (sender.Number n) is = refl
   counts (sender.Text text) is = absurd (cc)
   counts (sender.Fill byte) is = absurd (cc)
@@ -87,7 +87,7 @@ module _ (s : Scope) where
   is_number_operand x short is = record { number = counts x is; literal = sound_end x short }
 
   pub whole_number : (x : Sender) → is_whole s x ≡ true → is_number s x ≡ true
-  whole_number (sender.Item place) is = whole_form (scope.form_at s place) is
+  whole_number (sender.Item p) is = whole_form (scope.form_at s p.item) is
   whole_number (sender.Number n) is = refl
   whole_number (sender.Text text) is = absurd (cc)
   whole_number (sender.Fill byte) is = absurd (cc)
