@@ -187,6 +187,6 @@ module _ (f : ℕ) (cell : ℕ → Option ℕ) (narrow wide : ℕ → Ranged) (w
         (next_narrower f front (whole_factor over minus atom) over d.0 q before earlier (atom_form f cell narrow atom >>= turned_form minus) (atom_form f cell wide atom >>= turned_form minus) l h own) d.2))
 
     pub atom_form_narrower : (a : Atom) (r : Ranged) → atom_range narrow a ≡ Some r → IsNarrowerIfAny (atom_form f cell narrow a) (atom_form f cell wide a)
-    atom_form_narrower (item place) r e = item_narrower f (cell place) (narrow place) (wide place) (within place)
+    atom_form_narrower (item place) r e = item_narrower f (cell place.item) (narrow place.item) (wide place.item) (within place.item)
     atom_form_narrower (number n) r e = range_narrower f (point (literal n)) (point (literal n)) (point_narrower (literal n))
     atom_form_narrower (group s) r e = sum_form_narrower s r e

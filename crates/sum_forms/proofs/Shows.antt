@@ -7,6 +7,7 @@ use Rattle.std.proofs.Math.IntN.{zero-*ℤ}
 use Rattle.dec_num.specs.declared.types.Scaled.{Scaled}
 use Rattle.dec_num.proofs.Powers.{ten_positive}
 use Rattle.interval_domain.specs.declared.bounds.Interval.{Interval}
+use Rattle.cob_data.specs.declared.layout.Place.{Place}
 use Rattle.cob_program.specs.Sum.{Atom, item, number, group}
 use Rattle.cob_program.specs.Values.{whole_number, negated, literal, atom_value}
 use Rattle.cob_program.proofs.Steps.{some_same}
@@ -106,12 +107,12 @@ cell_shows f k v cells h e =
     spans_value _ (cells k) v.units v.scale f (dot_of_one (coef (cell_form k)) cells k 8 h (coef_of_cell k h) (λ j l ne. coef_of_other k j l ne)) e
 
 -- an item's number is one of its form
-pub item_shows : (f : ℕ) (cell : ℕ → Option ℕ) (range : ℕ → Ranged) (worth : ℕ → Scaled) (cells : ℕ → ℤ) → AreHeld f cell range worth cells → (place : ℕ) → IfSome (item_form f (cell place) (range place)) (λ g. Shows f cells g (worth place))
-item_shows f cell range worth cells are place = by_cell (cell place) refl
+pub item_shows : (f : ℕ) (cell : ℕ → Option ℕ) (range : ℕ → Ranged) (worth : Place → Scaled) (cells : ℕ → ℤ) → AreHeld f cell range worth cells → (p : Place) → IfSome (item_form f (cell p.item) (range p.item)) (λ g. Shows f cells g (worth p))
+item_shows f cell range worth cells are p = by_cell (cell p.item) refl
   where
-    by_cell : (o : Option ℕ) → cell place ≡ o → IfSome (item_form f o (range place)) (λ g. Shows f cells g (worth place))
-    by_cell (Some k) e = cell_shows f k (worth place) cells (are.few place k e) (are.values place k e)
-    by_cell None e = range_shows f (range place) (worth place) cells (are.held place)
+    by_cell : (o : Option ℕ) → cell p.item ≡ o → IfSome (item_form f o (range p.item)) (λ g. Shows f cells g (worth p))
+    by_cell (Some k) e = cell_shows f k (worth p) cells (are.few p k e) (are.values p k e)
+    by_cell None e = range_shows f (range p.item) (worth p) cells (are.held p)
 
 -- ---- whole literals
 
@@ -128,7 +129,7 @@ whole_is v k e = by_test (int_le v.units (whole_part v *ℤ pos (10 ^ v.scale)))
     by_test false t is = absurd cc
 
 -- what a whole literal multiplies by
-pub whole_factor_is : (worth : ℕ → Scaled) (over minus : Bool) (atom : Atom) (c : Scaled) (k : ℤ) → atom_value worth atom ≡ Some c → whole_factor over minus atom ≡ Some k → (over ≡ false) × ((negated minus c).units ≡ k *ℤ pos (10 ^ (negated minus c).scale))
+pub whole_factor_is : (worth : Place → Scaled) (over minus : Bool) (atom : Atom) (c : Scaled) (k : ℤ) → atom_value worth atom ≡ Some c → whole_factor over minus atom ≡ Some k → (over ≡ false) × ((negated minus c).units ≡ k *ℤ pos (10 ^ (negated minus c).scale))
 whole_factor_is worth true minus atom c k e is = absurd cc
 whole_factor_is worth false minus (item place) c k e is = absurd cc
 whole_factor_is worth false minus (number n) c k e is =

@@ -6,6 +6,7 @@ use Rattle.std.proofs.Math.IntN.{*ℤ_comm}
 use Rattle.dec_num.specs.declared.types.Scaled.{Scaled}
 use Rattle.dec_num.specs.Scaled.{units_at, joint_scale}
 use Rattle.interval_domain.specs.Corners.{interval}
+use Rattle.cob_data.specs.declared.layout.Place.{Place}
 use Rattle.cob_program.specs.Sum.{Sum, MkSum, Parts, no_parts, more_parts, Part, MkPart, Factors, no_factors, more_factors, MkFactor, Atom, item, number, group}
 use Rattle.cob_program.specs.Values.{whole_number, negated, plus, product, literal, with_factor, ◌>>=◌, sum_value, sum_from, part_value, product_from, atom_value}
 use Rattle.cob_program.proofs.Steps.{some_bound, some_same}
@@ -146,7 +147,7 @@ module _ (f : ℕ) (cells : ℕ → ℤ) where
   ranged_shown : (o : Option Ranged) (v : Scaled) → IsSomeAnd o (IsIn v) → Shown (o >>= range_form f) v
   ranged_shown o v h = some_then o (IsIn v) (λ g. Shows f cells g v) (range_form f) h (λ r l. range_shows f r v cells l)
 
-module _ (f : ℕ) (cell : ℕ → Option ℕ) (range : ℕ → Ranged) (worth : ℕ → Scaled) (cells : ℕ → ℤ) (are : AreHeld f cell range worth cells) where
+module _ (f : ℕ) (cell : ℕ → Option ℕ) (range : ℕ → Ranged) (worth : Place → Scaled) (cells : ℕ → ℤ) (are : AreHeld f cell range worth cells) where
   mutual
     pub sum_shown : (s : Sum) (v : Scaled) → sum_value worth s ≡ Some v → IfSome (sum_form f cell range s) (λ g. Shows f cells g v)
     sum_shown (MkSum ps) v e = sum_from_shown ps (whole_number (pos 0)) (constant_form (interval (pos 0) (pos 0))) v (zero_shows f cells) e

@@ -93,6 +93,6 @@ module _ (f : ℕ) (cell : ℕ → Option ℕ) (range : ℕ → Ranged) (size : 
         (next_within size f front (whole_factor over minus atom) over q before (atom_form f cell range atom >>= turned_form minus) h own)))
 
     pub atom_within : (a : Atom) → IfSome (atom_form f cell range a) (IsWithin size)
-    atom_within (item place) = item_within place (cell place) refl
+    atom_within (item p) = item_within p.item (cell p.item) refl
     atom_within (number n) = range_within size f (point (literal n))
     atom_within (group s) = sum_form_within s

@@ -79,7 +79,7 @@ module _ (f : ℕ) (cell : ℕ → Option ℕ) (range : ℕ → Ranged) where
         (next_form f front (whole_factor over minus atom) over c before (atom_form atom >>= turned_form minus)) fs
 
     pub atom_form : Atom → Option Lin
-    atom_form (item place) = item_form f (cell place) (range place)
+    atom_form (item p) = item_form f (cell p.item) (range p.item)
     atom_form (number n) = range_form f (point (literal n))
     atom_form (group s) = sum_form s
 

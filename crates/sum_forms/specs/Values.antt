@@ -4,6 +4,7 @@ use Rattle.dec_num.specs.declared.types.Scaled.{Scaled}
 use Rattle.diff_bounds.specs.declared.form.lin.Lin.{Lin}
 use Rattle.diff_bounds.specs.Forms.{coef, dot, IsSmallForm}
 use Rattle.diff_bounds.specs.Results.{IsNarrower}
+use Rattle.cob_data.specs.declared.layout.Place.{Place}
 use Rattle.sum_ranges.specs.declared.ranged.Ranged.{Ranged}
 use Rattle.sum_ranges.specs.Ranged.{IsIn}
 use Rattle.diff_bounds.specs.Scales.{Spans}
@@ -13,9 +14,9 @@ abbrev pub Shows : ℕ → (ℕ → ℤ) → Lin → Scaled → Type 0
 Shows f cells form v = Spans (dot (coef form) cells 8) form.constant v f
 
 -- Each item's number lies in its range, and that of an item that has a cell in the pack is the cell's value.
-pub record AreHeld (f : ℕ) (cell : ℕ → Option ℕ) (range : ℕ → Ranged) (worth : ℕ → Scaled) (cells : ℕ → ℤ) : Type 0 where
-  pub held : (place : ℕ) → IsIn (worth place) (range place)
-  pub values : (place k : ℕ) → cell place ≡ Some k → cells k *ℤ pos (10 ^ (worth place).scale) ≡ (worth place).units *ℤ pos (10 ^ f)
+pub record AreHeld (f : ℕ) (cell : ℕ → Option ℕ) (range : ℕ → Ranged) (worth : Place → Scaled) (cells : ℕ → ℤ) : Type 0 where
+  pub held : (p : Place) → IsIn (worth p) (range p.item)
+  pub values : (p : Place) (k : ℕ) → cell p.item ≡ Some k → cells k *ℤ pos (10 ^ (worth p).scale) ≡ (worth p).units *ℤ pos (10 ^ f)
   pub few : (place k : ℕ) → cell place ≡ Some k → k < 8
 
 -- Where there is a form of what is wider, there is one of what is narrower, with the same coefficients and a constant

@@ -1,6 +1,7 @@
 //! What follows for all sums.
 ghost use Rattle.std.specs.Prelude.{◌≡◌, ◌<◌, ℕ, ℤ, Option, Some, IfSome};
 ghost use Rattle.dec_num.specs.declared.types.Scaled.{Scaled};
+ghost use Rattle.cob_data.specs.declared.layout.Place.{Place};
 ghost use Rattle.cob_program.specs.Sum.{Sum};
 ghost use Rattle.cob_program.specs.Values.{sum_value};
 ghost use Rattle.sum_ranges.specs.declared.ranged.Ranged.{Ranged};
@@ -12,7 +13,7 @@ ghost use Rattle.sum_forms.specs.Values.{Shows, AreHeld, IsNarrowerIfAny, IsWith
 /// Where each item's number lies in its range, and the pack's cells have the values of their items, what a sum is worth
 /// is one of the numbers that its form can be.
 pub fn sums_are_shown_by_their_forms()
-    ensures { (f : ℕ) (cell : ℕ → Option ℕ) (range : ℕ → Ranged) (worth : ℕ → Scaled) (cells : ℕ → ℤ) → AreHeld f cell range worth cells
+    ensures { (f : ℕ) (cell : ℕ → Option ℕ) (range : ℕ → Ranged) (worth : Place → Scaled) (cells : ℕ → ℤ) → AreHeld f cell range worth cells
         → (s : Sum) (v : Scaled) → sum_value worth s ≡ Some v → IfSome (sum_form f cell range s) (λ form. Shows f cells form v) }
 {}
 

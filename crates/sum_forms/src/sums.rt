@@ -94,7 +94,7 @@ pub fn atom_form<R: Ranges, C: PackCells>(ranges: &R, pack: &C, atom: &Atom) -> 
     ensures good { IfSome result IsForm }
 {
     match atom {
-        Atom::Item(place) => item_form(ranges, pack, *place),
+        Atom::Item(place) => item_form(ranges, pack, place.item),
         Atom::Number(number) => literal_form(pack, number),
         Atom::Group(sum) => sum_form(ranges, pack, sum),
     }

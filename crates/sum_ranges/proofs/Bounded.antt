@@ -75,7 +75,7 @@ module _ (range : ℕ → Ranged) (bound : ℕ → Bound) (held : (place : ℕ) 
         product_range_within fs d.0 (factor_bound over b (atom_most bound atom)) r w d.2
 
     pub atom_range_within : (a : Atom) (r : Ranged) → atom_range range a ≡ Some r → IsRangeWithin r (atom_most bound a)
-    atom_range_within (item place) r e = subst (λ x. IsRangeWithin x (bound place)) (some_same (range place) r e) (held place)
+    atom_range_within (item p) r e = subst (λ x. IsRangeWithin x (bound p.item)) (some_same (range p.item) r e) (held p.item)
     atom_range_within (number n) r e = subst (λ x. IsRangeWithin x (literal_bound n)) (some_same (point (literal n)) r e) (point_within (literal n) (literal_bound n) (literal_within n))
     atom_range_within (group s) r e = sum_range_within s r e
 
@@ -112,7 +112,7 @@ module _ (range : ℕ → Ranged) (bound : ℕ → Bound) (held : (place : ℕ) 
         )
 
     pub each_in_atom : (a : Atom) → is_small_atom bound a ≡ true → EachRangeInAtom IsSmallRange range a
-    each_in_atom (item place) e = small_range_of (range place) (bound place) (held place) e
+    each_in_atom (item p) e = small_range_of (range p.item) (bound p.item) (held p.item) e
     each_in_atom (number n) e = small_range_of (point (literal n)) (literal_bound n) (point_within (literal n) (literal_bound n) (literal_within n)) e
     each_in_atom (group s) e = each_in_sum s e
 

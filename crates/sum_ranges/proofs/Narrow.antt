@@ -64,7 +64,7 @@ module _ (narrow wide : ℕ → Ranged) (within : (place : ℕ) → IsNarrower (
         (product_below fs))
 
     pub atom_below : (a : Atom) → IsBelow (atom_range narrow a) (atom_range wide a)
-    atom_below (item place) = within place
+    atom_below (item p) = within p.item
     atom_below (number n) = point_narrower (literal n)
     atom_below (group s) = sum_below s
 

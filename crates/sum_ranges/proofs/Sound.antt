@@ -2,6 +2,7 @@
 use Rattle.std.proofs.Common.{◌≡◌, ℕ, pos, Bool, Some, refl, subst}
 use Rattle.std.specs.Prelude.{IsSomeAnd}
 use Rattle.dec_num.specs.declared.types.Scaled.{Scaled}
+use Rattle.cob_data.specs.declared.layout.Place.{Place}
 use Rattle.cob_program.specs.Sum.{Sum, MkSum, Parts, no_parts, more_parts, Part, MkPart, Factors, no_factors, more_factors, MkFactor, Atom, item, number, group}
 use Rattle.cob_program.specs.Values.{whole_number, negated, plus, literal, with_factor, ◌>>=◌, sum_value, sum_from, part_value, product_from, atom_value}
 use Rattle.cob_program.proofs.Steps.{some_bound, some_same}
@@ -23,7 +24,7 @@ factor_in : (over : Bool) (v w x : Scaled) (a b : Ranged) → IsIn v a → IsIn 
 factor_in over v w x a b h k e =
     result_in (IsResult (with_factor over) a b) (factor_range over a b) x (factors_least over a b (ordered_of v a h) (ordered_of w b k)) (v, w, h, k, e)
 
-module _ (worth : ℕ → Scaled) (range : ℕ → Ranged) (held : (place : ℕ) → IsIn (worth place) (range place)) where
+module _ (worth : Place → Scaled) (range : ℕ → Ranged) (held : (p : Place) → IsIn (worth p) (range p.item)) where
   mutual
     pub sum_in : (s : Sum) (v : Scaled) → sum_value worth s ≡ Some v → IsSomeAnd (sum_range range s) (IsIn v)
     sum_in (MkSum ps) v e = sum_from_in ps (whole_number (pos 0)) (point (whole_number (pos 0))) v (point_in (whole_number (pos 0))) e
@@ -53,7 +54,7 @@ module _ (worth : ℕ → Scaled) (range : ℕ → Ranged) (held : (place : ℕ)
         (λ q l. product_in fs d.0 q v l d.2))
 
     pub atom_in : (a : Atom) (v : Scaled) → atom_value worth a ≡ Some v → IsSomeAnd (atom_range range a) (IsIn v)
-    atom_in (item place) v e = subst (λ x. IsIn x (range place)) (some_same (worth place) v e) (held place)
+    atom_in (item p) v e = subst (λ x. IsIn x (range p.item)) (some_same (worth p) v e) (held p)
     atom_in (number n) v e = subst (λ x. IsIn x (point (literal n))) (some_same (literal n) v e) (point_in (literal n))
     atom_in (group s) v e = sum_in s v e
 

@@ -4,6 +4,7 @@ use Rattle.std.specs.Prelude.{IsSomeAnd, unsigned_abs, int_le}
 use Rattle.std.proofs.lemmas.Int.{ints}
 use Rattle.std.proofs.lemmas.Bool.Decides.{nat_tests}
 use Rattle.dec_num.specs.declared.types.Scaled.{Scaled}
+use Rattle.cob_data.specs.declared.layout.Place.{Place}
 use Rattle.cob_program.specs.Sum.{Sum, MkSum, Parts, no_parts, more_parts, Part, MkPart, Factors, no_factors, more_factors, MkFactor, Atom, item, number, group}
 use Rattle.cob_program.specs.Values.{whole_number, negated, plus, with_factor, ◌>>=◌, sum_value, sum_from, part_value, product_from, atom_value}
 use Rattle.sum_ranges.specs.declared.ranged.Ranged.{Ranged}
@@ -123,7 +124,7 @@ no_range true a b h k e = (refl, go (unsigned_abs b.units.low == 0) refl)
 
 -- ---- a divisor that is 0 may be 0
 
-module _ (worth : ℕ → Scaled) (range : ℕ → Ranged) (held : (place : ℕ) → IsIn (worth place) (range place)) where
+module _ (worth : Place → Scaled) (range : ℕ → Ranged) (held : (p : Place) → IsIn (worth p) (range p.item)) where
   mutual
     pub sum_zero : (s : Sum) → sum_value worth s ≡ None → may_vanish range s ≡ true
     sum_zero (MkSum ps) e = sum_from_zero ps (whole_number (pos 0)) e

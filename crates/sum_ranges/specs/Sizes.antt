@@ -40,6 +40,6 @@ module _ (P : Ranged → Type 0) (range : ℕ → Ranged) where
         EachRangeInAtom atom × IfSome (atom_range range atom) (λ b. IfSome (factor_range over a (turned minus b)) (λ c. P c × EachRangeInProduct c fs))
 
     pub EachRangeInAtom : Atom → Type 0
-    EachRangeInAtom (item place) = P (range place)
+    EachRangeInAtom (item p) = P (range p.item)
     EachRangeInAtom (number n) = P (point (literal n))
     EachRangeInAtom (group s) = EachRangeInSum s

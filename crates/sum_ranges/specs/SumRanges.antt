@@ -71,6 +71,6 @@ module _ (range : ℕ → Ranged) where
         atom_range atom >>= λ b. factor_range over a (turned minus b) >>= λ c. product_range_from c fs
 
     pub atom_range : Atom → Option Ranged
-    atom_range (item place) = Some (range place)
+    atom_range (item p) = Some (range p.item)
     atom_range (number n) = Some (point (literal n))
     atom_range (group s) = sum_range s

@@ -1,6 +1,7 @@
 //! Laws of the ranges of sums.
 ghost use Rattle.std.specs.Prelude.{◌≡◌, ℕ, pos, Bool, true, Option, Some, None, IsSomeAnd};
 ghost use Rattle.dec_num.specs.declared.types.Scaled.{Scaled};
+ghost use Rattle.cob_data.specs.declared.layout.Place.{Place};
 ghost use Rattle.cob_program.specs.Sum.{Sum, Factors, Atom};
 ghost use Rattle.cob_program.specs.Values.{whole_number, plus, with_factor, sum_value, product_from, atom_value};
 ghost use Rattle.cob_program.specs.Bounds.{Bound, exactly, sum_most, product_most_from, atom_most, is_small_sum, is_small_product, is_small_atom};
@@ -21,9 +22,9 @@ pub fn ranges_of_operations_are_least()
 
 /// A law: where each item's number lies in its range, what a sum is worth lies in the sum's.
 pub fn sums_lie_in_their_ranges()
-    ensures sum { (worth : ℕ → Scaled) (range : ℕ → Ranged) → ((place : ℕ) → IsIn (worth place) (range place)) → (s : Sum) (v : Scaled) → sum_value worth s ≡ Some v → IsSomeAnd (sum_range range s) (IsIn v) }
-    ensures product { (worth : ℕ → Scaled) (range : ℕ → Ranged) → ((place : ℕ) → IsIn (worth place) (range place)) → (fs : Factors) (v : Scaled) → product_from worth (whole_number (pos 1)) fs ≡ Some v → IsSomeAnd (product_range_from range (point (whole_number (pos 1))) fs) (IsIn v) }
-    ensures atom { (worth : ℕ → Scaled) (range : ℕ → Ranged) → ((place : ℕ) → IsIn (worth place) (range place)) → (a : Atom) (v : Scaled) → atom_value worth a ≡ Some v → IsSomeAnd (atom_range range a) (IsIn v) }
+    ensures sum { (worth : Place → Scaled) (range : ℕ → Ranged) → ((p : Place) → IsIn (worth p) (range p.item)) → (s : Sum) (v : Scaled) → sum_value worth s ≡ Some v → IsSomeAnd (sum_range range s) (IsIn v) }
+    ensures product { (worth : Place → Scaled) (range : ℕ → Ranged) → ((p : Place) → IsIn (worth p) (range p.item)) → (fs : Factors) (v : Scaled) → product_from worth (whole_number (pos 1)) fs ≡ Some v → IsSomeAnd (product_range_from range (point (whole_number (pos 1))) fs) (IsIn v) }
+    ensures atom { (worth : Place → Scaled) (range : ℕ → Ranged) → ((p : Place) → IsIn (worth p) (range p.item)) → (a : Atom) (v : Scaled) → atom_value worth a ≡ Some v → IsSomeAnd (atom_range range a) (IsIn v) }
 {}
 
 /// A law: where items have narrower ranges, so has a sum, or none.
@@ -49,10 +50,10 @@ pub fn ranges_of_intermediates_are_small()
 
 /// A law: where a divisor is 0, the ranges of items that hold their numbers tell that one may be.
 pub fn zero_divisors_are_told()
-    ensures sum { (worth : ℕ → Scaled) (range : ℕ → Ranged) → ((place : ℕ) → IsIn (worth place) (range place)) → (s : Sum) → sum_value worth s ≡ None → may_vanish range s ≡ true }
-    ensures product { (worth : ℕ → Scaled) (range : ℕ → Ranged) → ((place : ℕ) → IsIn (worth place) (range place)) → (fs : Factors) → product_from worth (whole_number (pos 1)) fs ≡ None → may_vanish_in_product range fs ≡ true }
-    ensures inner { (worth : ℕ → Scaled) (range : ℕ → Ranged) → ((place : ℕ) → IsIn (worth place) (range place)) → (a : Atom) → atom_value worth a ≡ None → may_be_zero range a ≡ true }
-    ensures divisor { (worth : ℕ → Scaled) (range : ℕ → Ranged) → ((place : ℕ) → IsIn (worth place) (range place)) → (a : Atom) (v : Scaled) → atom_value worth a ≡ Some v → v.units ≡ pos 0 → may_be_zero range a ≡ true }
+    ensures sum { (worth : Place → Scaled) (range : ℕ → Ranged) → ((p : Place) → IsIn (worth p) (range p.item)) → (s : Sum) → sum_value worth s ≡ None → may_vanish range s ≡ true }
+    ensures product { (worth : Place → Scaled) (range : ℕ → Ranged) → ((p : Place) → IsIn (worth p) (range p.item)) → (fs : Factors) → product_from worth (whole_number (pos 1)) fs ≡ None → may_vanish_in_product range fs ≡ true }
+    ensures inner { (worth : Place → Scaled) (range : ℕ → Ranged) → ((p : Place) → IsIn (worth p) (range p.item)) → (a : Atom) → atom_value worth a ≡ None → may_be_zero range a ≡ true }
+    ensures divisor { (worth : Place → Scaled) (range : ℕ → Ranged) → ((p : Place) → IsIn (worth p) (range p.item)) → (a : Atom) (v : Scaled) → atom_value worth a ≡ Some v → v.units ≡ pos 0 → may_be_zero range a ≡ true }
 {}
 
 /// A law: a sum without a range has a divisor that may be 0.

@@ -34,7 +34,7 @@ pub fn atom_range<R: Ranges>(ranges: &R, atom: &Atom) -> Option<Ranged>
     ensures small { IfSome result IsSmallRange }
 {
     match atom {
-        Atom::Item(place) => Some(item_range(ranges, *place)),
+        Atom::Item(place) => Some(item_range(ranges, place.item)),
         Atom::Number(number) => Some(literal_range(number)),
         Atom::Group(sum) => sum_range(ranges, sum),
     }
