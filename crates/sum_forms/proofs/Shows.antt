@@ -111,7 +111,7 @@ pub item_shows : (f : ℕ) (cell : ℕ → Option ℕ) (range : ℕ → Ranged) 
 item_shows f cell range worth cells are p = by_cell (cell p.item) refl
   where
     by_cell : (o : Option ℕ) → cell p.item ≡ o → IfSome (item_form f o (range p.item)) (λ g. Shows f cells g (worth p))
-    by_cell (Some k) e = cell_shows f k (worth p) cells (are.few p k e) (are.values p k e)
+    by_cell (Some k) e = cell_shows f k (worth p) cells (are.few p.item k e) (are.values p k e)
     by_cell None e = range_shows f (range p.item) (worth p) cells (are.held p)
 
 -- ---- whole literals
