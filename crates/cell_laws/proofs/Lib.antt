@@ -1,4 +1,5 @@
 pub mod Entry
+pub mod FirstBytes
 pub mod Flow
 pub mod Clears
 pub mod Meaning
@@ -27,6 +28,7 @@ pub mod ResultLaws
 pub mod ItemRanges
 pub mod OperandsRise
 pub mod ResultsFit
+pub mod Meetings
 pub mod PartsRise
 pub mod ClearsFall
 pub mod ResultLawsHold
@@ -41,6 +43,7 @@ pub mod AmountsHold
 pub mod WalkLaws
 pub mod PartsDone
 pub mod QuietParts
+pub mod Subscripts
 pub mod StoresKeep
 pub mod StoreOutcomes
 pub mod PartsKeep

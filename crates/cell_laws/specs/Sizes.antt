@@ -7,7 +7,7 @@ use Rattle.cob_runs.specs.declared.action.Action.{Action}
 use Rattle.cob_runs.specs.Contents.{form_at}
 use Rattle.cob_runs.specs.Effects.{act_at}
 use Rattle.cob_calc.specs.Contents.{bound_at}
-use Rattle.cob_edge_parts.specs.Parts.{Amount, moved, augmented, Part, divide, store, bytes_in, guard, set_count, parts_of}
+use Rattle.cob_edge_parts.specs.Parts.{Amount, moved, augmented, Part, index, divide, store, bytes_in, guard, set_count, parts_of}
 use Rattle.cob_graph.specs.declared.graph.Graph.{Graph}
 use Rattle.graph_runs.specs.Sources.{IsSourceGraph}
 use Rattle.sum_ranges.specs.declared.ranged.Ranged.{Ranged}
@@ -47,6 +47,8 @@ IsSmallPart p a x (divide d) = is_small_atom (bound_at p.layout) d ≡ true
 IsSmallPart p a x (store place mode y) = IsSmallStore p a x place y
 IsSmallPart p a x (bytes_in offset count) = has_small_sum (bound_at p.layout) a ≡ true
 IsSmallPart p a x (set_count n y) = (has_small_sum (bound_at p.layout) a ≡ true) × (sends_small p a x ≡ true)
+-- the numbers of a subscript's item are compared with the table's
+IsSmallPart p a x (index last k count) = is_small (bound_at p.layout k) ≡ true
 IsSmallPart p a x (guard t wanted) = is_small_test (bound_at p.layout) p.layout t ≡ true
 IsSmallPart p a x _ = Unit {0}
 

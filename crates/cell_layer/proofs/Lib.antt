@@ -1,5 +1,6 @@
 pub mod CellNumbers
 pub mod Forgotten
+pub mod MarkedCells
 pub mod Digits
 pub mod ShortBounds
 pub mod SumsAgree
@@ -7,6 +8,7 @@ pub mod ShortAnswers
 pub mod SmallHomes
 pub mod Reading
 pub mod CounterRanges
+pub mod Tables
 pub mod TestsAgree
 pub mod Cuts
 pub mod SmallEdges

@@ -8,4 +8,5 @@ pub(crate) mod faults;
 pub(crate) mod kept;
 pub(crate) mod row_walk;
 pub(crate) mod stores;
+pub(crate) mod subscripts;
 pub(crate) mod walking;

@@ -332,3 +332,51 @@ count_may_exceed = refl
 
 count_fits : clears_edge program 1 loop action.Down (cells any any any any any (to (pos 1) (pos 9))) kind.Size ≡ true
 count_fits = refl
+
+-- ---- A PIC 9, a table of three rows with E PIC 9 and F PIC 9 in each, and R PIC 99 over its second row
+
+abbrev digit : Form
+digit = form.Number 1 0 false usage.Display
+
+abbrev in_row : ℕ → Item
+in_row offset =
+    record { name = Some (69 ∷ []); offset = offset; length = 1; times = 3; stride = 2; form = digit; parent = None; line = 5; value = None }
+
+abbrev tables : Program
+tables = record {
+  layout = record {
+    items = item_of 0 1 digit ∷ in_row 1 ∷ in_row 2 ∷ item_of 3 2 (form.Number 2 0 false usage.Display) ∷ [];
+    flags = [];
+    files = [];
+    storage = 7;
+  };
+  paras = [];
+  statements = 1;
+}
+
+-- MOVE A TO E: one occurrence is new, and the others stay; F lies beside it, and R over one of them
+stored_in_one : post_cells tables 1 (act.move (sender.Item 0) (1 ∷ [])) action.Assign (to (pos 5) (pos 5) ∷ to (pos 1) (pos 2) ∷ to (pos 3) (pos 3) ∷ to (pos 10) (pos 10) ∷ [])
+    ≡ Some (to (pos 5) (pos 5) ∷ to (pos 1) (pos 5) ∷ to (pos 3) (pos 3) ∷ any ∷ [])
+stored_in_one = refl
+
+stored_beside_unknown : post_cells tables 1 (act.move (sender.Item 0) (1 ∷ [])) action.Assign (to (pos 5) (pos 5) ∷ any ∷ any ∷ any ∷ [])
+    ≡ Some (to (pos 5) (pos 5) ∷ any ∷ any ∷ any ∷ [])
+stored_beside_unknown = refl
+
+-- MOVE A TO R: both columns have bytes of it
+stored_over_a_row : post_cells tables 1 (act.move (sender.Item 0) (3 ∷ [])) action.Assign (to (pos 5) (pos 5) ∷ to (pos 1) (pos 2) ∷ to (pos 3) (pos 3) ∷ any ∷ [])
+    ≡ Some (to (pos 5) (pos 5) ∷ any ∷ any ∷ to (pos 5) (pos 5) ∷ [])
+stored_over_a_row = refl
+
+-- ADD E TO A: one occurrence is read
+read_of_one : post_cells tables 1 (worked (alone (item 1)) (target 0 how.Plus Trunc ∷ []) None left_out) action.Done (to (pos 1) (pos 2) ∷ any ∷ any ∷ any ∷ [])
+    ≡ Some (to (pos 1) (pos 9) ∷ any ∷ any ∷ any ∷ [])
+read_of_one = refl
+
+-- E < 5, and E NUMERIC
+below_in_one : post_cells tables 1 (when (numbers (alone (item 1)) rel.Less (alone (number (numeral (53 ∷ [])))))) (action.True 0) (any ∷ to (pos 1) (pos 8) ∷ any ∷ any ∷ [])
+    ≡ Some (any ∷ to (pos 1) (pos 8) ∷ any ∷ any ∷ [])
+below_in_one = refl
+
+numeric_in_one : post_cells tables 1 (when (numeric 1)) (action.True 0) (any ∷ any ∷ any ∷ any ∷ []) ≡ Some (any ∷ any ∷ any ∷ any ∷ [])
+numeric_in_one = refl

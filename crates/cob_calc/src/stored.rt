@@ -17,8 +17,8 @@ impl<'a> Contents<'a> {
     fn quotient(&self, root: Root) -> Option<Exact>
         requires sound { IsWellFormed self.now }
         requires small { is_small_quotient (bound_at self.now.layout) (plain_root root) ≡ true }
-        ensures value { option_map fraction_of result ≡ root_value (amount_at self.now) (plain_root root) }
-        ensures exact { result ≡ exact_root (amount_at self.now) (plain_root root) }
+        ensures value { option_map fraction_of result ≡ root_value (amount_at self.now) (plain_root root.entry) }
+        ensures exact { result ≡ exact_root (amount_at self.now) (plain_root root.entry) }
         ensures small { IfSome result IsSmallExact }
     {
         match self.product(root.dividend) {

@@ -1,10 +1,10 @@
 -- Items one behind the other lie apart in all their occurrences.
-use Rattle.std.proofs.Common.{◌≡◌, ◌<◌, ◌≤◌, ◌⊎◌, inl, inr, ℕ, suc, ◌+◌, ◌*◌, Bool, true, false, ap, refl, subst, ◌∙◌, arith}
+use Rattle.std.proofs.Common.{◌≡◌, ◌<◌, ◌≤◌, inl, inr, ℕ, suc, ◌+◌, ◌*◌, Bool, true, false, ap, refl, subst, ◌∙◌, arith}
 use Rattle.std.specs.Prelude.{nat_le}
 use Rattle.std.proofs.Math.Nat.{mul-le-mul_right}
 use Rattle.std.proofs.lemmas.Bool.Decides.{nat_tests}
 use Rattle.cob_data.specs.declared.extent.Extent.{Extent}
-use Rattle.cob_data.specs.Extents.{start_of, AreApart, LiesBetween, IsColumn, ColumnsLieApart, ColumnsLieInBlocks, BlocksLieApart}
+use Rattle.cob_data.specs.Extents.{start_of, AreApart, ColumnsLieApart, ColumnsLieInBlocks, BlocksLieApart}
 use Rattle.cob_data.proofs.ExtentStarts.{start_is}
 
 start_by : (e : Extent) (stride n : ℕ) → e.stride ≡ stride → start_of e n ≡ e.offset + n * stride

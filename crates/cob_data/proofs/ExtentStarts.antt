@@ -3,7 +3,7 @@ use Rattle.std.proofs.Common.{◌≡◌, ◌<◌, ◌≤◌, ◌⊎◌, inl, inr
 use Rattle.std.proofs.Math.Nat.{mul-le-mul_right}
 use Rattle.std.proofs.lemmas.Nat.{mul-le}
 use Rattle.cob_data.specs.declared.extent.Extent.{Extent}
-use Rattle.cob_data.specs.Extents.{start_of, any_below, IsExtent, LiesWithin, StridesSetApart, TablesLieWithin}
+use Rattle.cob_data.specs.Extents.{start_of, any_below, StridesSetApart, TablesLieWithin}
 
 -- ---- starts
 

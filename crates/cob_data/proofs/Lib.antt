@@ -1,4 +1,5 @@
 pub mod Blocks
+mod Examples
 pub mod OneOccurrence
 pub mod Overlapping
 pub mod ExtentStarts

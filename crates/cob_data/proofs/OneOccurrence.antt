@@ -1,7 +1,7 @@
 -- What is no table's has one occurrence: what holds of this holds of all.
-use Rattle.std.proofs.Common.{◌≡◌, ◌<◌, ◌≤◌, ◌⊎◌, ℕ, zero, suc, ◌+◌, arith}
+use Rattle.std.proofs.Common.{◌≡◌, ◌≤◌, ℕ, zero, suc, ◌+◌, arith}
 use Rattle.cob_data.specs.declared.extent.Extent.{Extent}
-use Rattle.cob_data.specs.Extents.{start_of, AreApart, LieApart, IsExtent, LiesWithin}
+use Rattle.cob_data.specs.Extents.{AreApart, LieApart, IsExtent, LiesWithin}
 
 pub one_within : (e : Extent) (bytes : ℕ) → e.times ≡ 1 → e.offset + e.length ≤ bytes → LiesWithin e bytes
 one_within e bytes one within zero less = within

@@ -3,9 +3,9 @@ use Rattle.std.proofs.Common.{◌≡◌, ◌<◌, ◌≤◌, ◌⊎◌, inl, inr
 use Rattle.std.specs.Prelude.{◌↔◌, nat_le, IsTrue}
 use Rattle.std.proofs.lemmas.Bool.Decides.{nat_tests}
 use Rattle.cob_data.specs.declared.layout.Item.{Item}
-use Rattle.cob_data.specs.Extents.{start_of, any_below, share_bytes, meets_range, share_extents}
+use Rattle.cob_data.specs.Extents.{start_of, share_bytes, meets_range, share_extents}
 use Rattle.cob_data.specs.Occurrences.{extent_of}
-use Rattle.cob_data.specs.Overlaps.{IsByteOf, Meet}
+use Rattle.cob_data.specs.Overlaps.{Meet}
 use Rattle.cob_data.proofs.Meeting.{some_below, any_is, share_is, share_for}
 
 -- the later start of two ranges that share a byte lies in both

@@ -1,5 +1,4 @@
 -- The bytes of items, in all their occurrences, and of record areas.
-use Rattle.std.specs.Prelude.{ℕ}
 use Rattle.cob_data.specs.declared.layout.FileDecl.{FileDecl}
 use Rattle.cob_data.specs.declared.layout.Item.{Item}
 use Rattle.cob_data.specs.declared.extent.Extent.{Extent}

@@ -86,7 +86,6 @@ fn have_some(shared: bool, count: u32, many: u32) -> bool
 }
 
 /// Whether some byte lies in both items, in whichever of their occurrences.
-#[tactic(auto, using(crate::proofs::Overlapping::meets_is))]
 pub fn overlaps(a: &Item, b: &Item) -> bool
     ensures { IsTrue result ↔ Meet a.now b.now }
 {

@@ -57,8 +57,8 @@ homes_of p = item_homes 0 p.layout.items ++ count_homes (program_statements p)
 -- ---- cells
 
 abbrev pub cell : Option ℕ → ℕ → ℕ → Bool → ℕ → Cell
-cell item digits scale signed times =
-    record { item = item; digits = digits; scale = scale; signed = signed; times = times }
+cell item digits scale signed many =
+    record { item = item; digits = digits; scale = scale; signed = signed; times = many }
 
 -- the digits of what an item is read as: a text is read as a number without sign
 abbrev pub digits_read : Form → ℕ
@@ -76,7 +76,7 @@ abbrev pub counter : Cell
 counter = cell None 18 0 true 1
 
 abbrev pub cell_of_form : ℕ → Form → ℕ → Cell
-cell_of_form place f times = cell (Some place) (digits_read f) (scale_of f) (is_signed f) times
+cell_of_form place f many = cell (Some place) (digits_read f) (scale_of f) (is_signed f) many
 
 abbrev pub cell_of_home : Layout → Home → Cell
 cell_of_home l (of_item place) = cell_of_form place (form_at l place) (times_at l place)

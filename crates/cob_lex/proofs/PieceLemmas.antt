@@ -6,7 +6,9 @@ use Rattle.cob_lex.specs.declared.cut.Cut.{Cut}
 use Rattle.cob_lex.specs.declared.piece.Piece.{Piece}
 use Rattle.cob_lex.specs.declared.piece.Place.{Place}
 use Rattle.cob_lex.specs.Cuts.{cut, after}
-use Rattle.cob_lex.specs.Pieces.{place_of, first, piece_list, prefixed, begun, read, raw_tokens}
+use Rattle.cob_lex.specs.Pieces.{prefixed, begun, read, raw_tokens}
+use Rattle.cob_lex.specs.Characters.{first}
+use Rattle.cob_lex.specs.Spelled.{place_of, piece_list}
 
 pub prefixed_nil : (r : Result (List Piece) Place) → prefixed [] r ≡ r
 prefixed_nil (Ok ps) = refl

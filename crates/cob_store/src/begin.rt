@@ -15,7 +15,7 @@ use cob_runs::Outcome;
 use std::alloc::{AllocError, Global};
 
 // Puts the bytes into an occurrence.
-#[tactic(auto, using(crate::proofs::Parts::put_mid-written))]
+#[tactic(auto, using(crate::proofs::Parts::put_mid_written))]
 fn fill_occurrence(extent: &Extent, number: u32, bytes: &[u8], storage: &mut [u8])
     requires within { start_of extent.now number + extent.now.length ≤ length storage.old }
     requires whole { length bytes.now ≡ extent.now.length }
@@ -81,8 +81,8 @@ fn put_value(
     }
 }
 
-// Puts each VALUE, in the order of the items.
-fn put_values(alloc: Global, layout: &Layout, storage: &mut [u8]) -> Result<(), AllocError>
+/// Puts each VALUE, in the order of the items, over what stood in storage.
+pub fn put_values(alloc: Global, layout: &Layout, storage: &mut [u8]) -> Result<(), AllocError>
     requires sound { HasWellFormedItems layout.now }
     requires whole { length storage.old ≡ layout.now.storage }
     ensures { OnOk result (storage.new ≡ with_values layout.now layout.now.items storage.old) }

@@ -1,5 +1,5 @@
 -- A record that begins with values, worked out, and why the laws ask what they ask.
-use Rattle.std.specs.Prelude.{◌≡◌, ℕ, true, false, List, [], ◌∷◌, replicate, Option, Some, None, negsuc, pos}
+use Rattle.std.specs.Prelude.{◌≡◌, ℕ, false, List, [], ◌∷◌, replicate, Option, Some, None, negsuc, pos}
 use Rattle.std.proofs.Common.{refl}
 use Rattle.cob_tree.specs.declared.form.Form.{Form}
 use Rattle.cob_tree.specs.declared.form.Form.TheVariants as form
@@ -9,8 +9,6 @@ use Rattle.cob_data.specs.declared.layout.Layout.{Layout}
 use Rattle.cob_data.specs.declared.layout.Sender.{Sender}
 use Rattle.cob_data.specs.declared.layout.Sender.TheVariants as sender
 use Rattle.num_bytes.specs.Reading.{contents_value}
-use Rattle.cob_data.specs.Extents.{share_extents}
-use Rattle.cob_data.specs.Occurrences.{extent_of}
 use Rattle.cob_runs.specs.Contents.{number_at, occurrence_filled, occurrence_number, scaled_by}
 use Rattle.cob_runs.specs.Runs.{first_storage}
 
@@ -77,13 +75,6 @@ third_number = refl
 -- what is written into one leaves the others
 second_filled : occurrence_filled table (48 ∷ 49 ∷ 50 ∷ 51 ∷ 52 ∷ 53 ∷ 54 ∷ []) 2 1 (57 ∷ []) ≡ 48 ∷ 49 ∷ 57 ∷ 51 ∷ 52 ∷ 53 ∷ 54 ∷ []
 second_filled = refl
-
--- columns have no byte in common, and a row has those of each
-columns_apart : share_extents (extent_of number) (extent_of letter) ≡ false
-columns_apart = refl
-
-rows_have_both : share_extents (extent_of row) (extent_of letter) ≡ true
-rows_have_both = refl
 
 -- ---- signs
 

@@ -111,3 +111,13 @@ laid_once (d ∷ ds) (s ∷ ss) (suc place) i at = laid_once ds ss place i at
 
 pub items_once : (t : Tree) (place : ℕ) (i : Item) → slice_get (layout t).items place ≡ Some i → i.times ≡ 1
 items_once t = let f = facts_of t in laid_once f.items f.spots
+
+laid_plain : (ds : List Description) (ss : List Spot) (place : ℕ) (i : Item) → slice_get (laid_items ds ss) place ≡ Some i → i.stride ≡ 0
+laid_plain [] ss place i at = absurd (cc)
+laid_plain (d ∷ ds) [] place i at = absurd (cc)
+laid_plain (d ∷ ds) (s ∷ ss) zero i at = ap (λ (x : Item). x.stride) (sym (same_Some (item_at d s) i at))
+laid_plain (d ∷ ds) (s ∷ ss) (suc place) i at = laid_plain ds ss place i at
+
+-- and none is a table's
+pub items_plain : (t : Tree) (place : ℕ) (i : Item) → slice_get (layout t).items place ≡ Some i → i.stride ≡ 0
+items_plain t = let f = facts_of t in laid_plain f.items f.spots

@@ -7,6 +7,7 @@ use Rattle.std.proofs.lemmas.Int.{ints}
 use Rattle.std.proofs.Props.{props}
 use Rattle.std.proofs.Math.Logic.{∥∥₁_elim}
 use Rattle.dec_num.specs.declared.types.Mode.{Mode}
+use Rattle.cob_data.specs.declared.extent.Extent.{Extent}
 use Rattle.cob_data.specs.declared.layout.Sender.{Sender}
 use Rattle.dec_num.specs.declared.types.Mode.TheVariants.{Trunc}
 use Rattle.interval_domain.specs.declared.bounds.Interval.{Interval}
@@ -49,7 +50,7 @@ use Rattle.cell_layer.specs.Walks.{if_sent_small, with_taken_small, clears_small
 use Rattle.cell_layer.proofs.SmallEdges.{all_is_taken}
 use Rattle.cell_layer.proofs.Stepping.{taken_can, taken_written}
 use Rattle.diff_steps.specs.Packs.{Pack, size_of, pack_decimals}
-use Rattle.diff_steps.specs.Moments.{Bytes, is_written}
+use Rattle.diff_steps.specs.Moments.{is_written}
 use Rattle.diff_steps.specs.Forms.{amount_form, set_form, lowered_form, has_operands, kept_form, cell_at}
 use Rattle.diff_steps.specs.Stores.{upper_negated}
 use Rattle.diff_steps.specs.Clearing.{some_pack, high_fits, low_fits, ends_fit, high_shown, low_shown, is_apart_in, amounts_fit, store_fits, clears_part2}
@@ -131,7 +132,7 @@ some_none f none (pack ∷ packs) (m ∷ ms) = ap (λ b. b || some_pack f packs 
 
 module _ (p : Program) (packs : List Pack) (ms : List (List ℤ)) (form : Pack → Option Lin) (mode : Mode) (r : Receiver) where
   -- a range is shown by the ends of the forms of a part
-  pub range_is : (known : List Known) (common : Option Taken) (wrote : List Bytes) (y : Part) → ((pack : Pack) → part_form p known common wrote y pack ≡ form pack) → (i : Interval) →
+  pub range_is : (known : List Known) (common : Option Taken) (wrote : List Extent) (y : Part) → ((pack : Pack) → part_form p known common wrote y pack ≡ form pack) → (i : Interval) →
       range_shown p known common wrote y mode r packs ms i ≡ ends_fit p packs ms form mode r i
   range_is known common wrote y same i =
       (λ k. (int_le i.high (most r.digits) || high k) && (int_le (neg_ℤ (most r.digits)) i.low || low k))
@@ -231,7 +232,7 @@ module _ (p : Program) (a : Act) (x : Action) (t : Seen) where
   rooted (remaining s scale) can w sent of_edge = tt
   rooted (augmented z) can w sent of_edge = tt
 
-module _ (p : Program) (t : Seen) (wrote : List Bytes) (place : ℕ) where
+module _ (p : Program) (t : Seen) (wrote : List Extent) (place : ℕ) where
   abbrev own : Ranged
   own = range_at p t.cells place
 
@@ -320,7 +321,7 @@ or_more true b c d more e = refl
 or_more false true c d more e = refl
 or_more false false c d more e = more e
 
-module _ (p : Program) (packs : List Pack) (a : Act) (x : Action) (t : Seen) (wrote : List Bytes) (ms : List (List ℤ)) (place : ℕ) (mode : Mode) where
+module _ (p : Program) (packs : List Pack) (a : Act) (x : Action) (t : Seen) (wrote : List Extent) (ms : List (List ℤ)) (place : ℕ) (mode : Mode) where
   abbrev receives : Receiver
   receives = receiver_of (form_at p.layout place)
 
@@ -394,7 +395,7 @@ module _ (p : Program) (packs : List Pack) (a : Act) (x : Action) (t : Seen) (wr
 
 -- ---- parts
 
-module _ (p : Program) (packs : List Pack) (a : Act) (x : Action) (s : Seen) (wrote : List Bytes) (ms : List (List ℤ)) where
+module _ (p : Program) (packs : List Pack) (a : Act) (x : Action) (s : Seen) (wrote : List Extent) (ms : List (List ℤ)) where
   abbrev moment : Seen
   moment = with_taken p a x s
 

@@ -4,6 +4,7 @@ use Rattle.std.specs.List.{AllByRecursion}
 use Rattle.std.specs.Option.{option_map, option_map_or}
 use Rattle.cob_tree.specs.declared.fault.Kind.{Kind}
 use Rattle.cob_tree.specs.declared.fault.Kind.TheVariants as kind
+use Rattle.cob_data.specs.declared.extent.Extent.{Extent}
 use Rattle.cob_program.specs.Values.{◌>>=◌}
 use Rattle.cob_program.specs.Logic.{Test, numbers, texts, member, numeric, always}
 use Rattle.cob_program.specs.Act.{Act, Program}
@@ -17,7 +18,7 @@ use Rattle.cell_laws.specs.Sizes.{sends_small, IsSmallPart}
 use Rattle.cell_layer.specs.Walks.{with_common, trimmed}
 use Rattle.cell_layer.proofs.SmallEdges.{step_same}
 use Rattle.diff_steps.specs.Packs.{Pack}
-use Rattle.diff_steps.specs.Moments.{Bytes, Seen2, with_packs}
+use Rattle.diff_steps.specs.Moments.{Seen2, with_packs}
 use Rattle.diff_steps.specs.Steps.{each_pack, all_closed, guarded_pack, changed_pack, changed, written_by, step2}
 use Rattle.diff_steps.specs.Edges.{steps2, finished2}
 use Rattle.diff_steps.specs.Clearing.{clears_part2, clears_parts2}
@@ -50,7 +51,7 @@ module _ (p : Program) (a : Act) (x : Action) where
   guard_same s (numeric place) wanted pack m = refl
   guard_same s always wanted pack m = refl
 
-  change_same : (y : Part) (s : Seen) (wrote : List Bytes) (pack : Pack) (m : List ℤ) → IsSmallPart p a x y → changed_pack p a x y (trim s) wrote pack m ≡ changed_pack p a x y s wrote pack m
+  change_same : (y : Part) (s : Seen) (wrote : List Extent) (pack : Pack) (m : List ℤ) → IsSmallPart p a x y → changed_pack p a x y (trim s) wrote pack m ≡ changed_pack p a x y s wrote pack m
   change_same (read place) s wrote pack m h = refl
   change_same unread s wrote pack m h = refl
   change_same (divide d) s wrote pack m h = refl

@@ -3,6 +3,7 @@ use Rattle.std.proofs.Common.{◌≡◌, Bool, true, false, if◌then◌else◌,
 use Rattle.std.specs.Prelude.{IfSome}
 use Rattle.std.proofs.Props.{props}
 use Rattle.std.proofs.Math.Logic.{∥∥₁_elim}
+use Rattle.cob_data.specs.declared.extent.Extent.{Extent}
 use Rattle.cob_program.specs.Values.{◌>>=◌}
 use Rattle.cob_program.specs.Act.{Act, Program}
 use Rattle.cob_runs.specs.declared.action.Action.{Action}
@@ -18,7 +19,7 @@ use Rattle.cell_layer.specs.Latest.{Latest, latest_behind}
 use Rattle.cell_layer.specs.Walks.{trimmed, with_taken_small, step_small, CanStep}
 use Rattle.cell_layer.proofs.Stepping.{taken_can, taken_written, can_work}
 use Rattle.diff_steps.specs.Packs.{Pack}
-use Rattle.diff_steps.specs.Moments.{Bytes, Seen2, with_packs}
+use Rattle.diff_steps.specs.Moments.{Seen2, with_packs}
 use Rattle.diff_steps.specs.Steps.{each_pack, all_closed, changed_pack, changed, written_by}
 use Rattle.diff_layer.specs.Sizes.{HasSmallTop}
 use Rattle.diff_layer.specs.PackWriting.{amount_items, are_written}
@@ -39,7 +40,7 @@ module _ (p : Program) (a : Act) (x : Action) where
   operand_items (remaining s scale) = refl
   operand_items (augmented z) = refl
 
-  pub written_to : (y : Part) (wrote : List Bytes) (written : Bool) → IsOfEdge p a x y → written ≡ are_written p.layout wrote (edge_items a x) → IsWrittenTo p.layout wrote written y
+  pub written_to : (y : Part) (wrote : List Extent) (written : Bool) → IsOfEdge p a x y → written ≡ are_written p.layout wrote (edge_items a x) → IsWrittenTo p.layout wrote written y
   written_to (read place) wrote written of_edge e = tt
   written_to unread wrote written of_edge e = tt
   written_to (divide d) wrote written of_edge e = tt
@@ -102,7 +103,7 @@ module _ (p : Program) (a : Act) (x : Action) where
   bytes_same (guard_count n wanted) = refl
 
   module _ (packs : List Pack) where
-    pub stepped : (y : Part) (s t : Seen) (known : List Known) (latest before : Latest) (wrote : List Bytes) (ms out : List (List ℤ)) (b : Bool) →
+    pub stepped : (y : Part) (s t : Seen) (known : List Known) (latest before : Latest) (wrote : List Extent) (ms out : List (List ℤ)) (b : Bool) →
         IsSmallPart p a x y → step_small p a x y s ≡ Some t → latest ≡ latest_behind p a x y s before → known ≡ s.cells →
         all_closed p t.cells packs (each_pack (plan_changed p known t.common latest wrote y) packs ms) ≡ (if b then Some out else None) →
         step2_small p packs a x y s (seen2 wrote ms) ≡ passed_to b t (seen2 (part_bytes (keeps_receiver a x) p.layout y ++ wrote) out)

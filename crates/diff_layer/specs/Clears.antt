@@ -3,6 +3,7 @@ use Rattle.std.specs.Prelude.{ℕ, ◌||◌, ◌&&◌, not, if◌then◌else◌,
 use Rattle.std.specs.Option.{option_map_or}
 use Rattle.dec_num.specs.declared.types.Mode.{Mode}
 use Rattle.dec_num.specs.declared.types.Mode.TheVariants.{Trunc}
+use Rattle.cob_data.specs.declared.extent.Extent.{Extent}
 use Rattle.interval_domain.specs.declared.bounds.Interval.{Interval}
 use Rattle.cob_tree.specs.declared.fault.Kind.{Kind}
 use Rattle.cob_tree.specs.declared.fault.Kind.TheVariants as kind
@@ -28,7 +29,7 @@ use Rattle.cell_steps.specs.Stores.{range_at}
 use Rattle.cell_layer.specs.Walks.{with_taken_small}
 use Rattle.diff_steps.specs.Clearing.{some_pack, is_apart_in}
 use Rattle.diff_steps.specs.Forms.{has_operands}
-use Rattle.diff_steps.specs.Moments.{Bytes, Seen2}
+use Rattle.diff_steps.specs.Moments.{Seen2}
 use Rattle.diff_steps.specs.Packs.{Pack}
 use Rattle.diff_layer.specs.Views.{taken_at}
 use Rattle.diff_layer.specs.Ends.{some_end}
@@ -39,7 +40,7 @@ divisor_apart p known d pack m = is_apart_in p (taken_at known None) d pack m
 
 -- ---- ends
 
-module _ (p : Program) (known : List Known) (common : Option Taken) (wrote : List Bytes) (y : Part) (mode : Mode) (r : Receiver) where
+module _ (p : Program) (known : List Known) (common : Option Taken) (wrote : List Extent) (y : Part) (mode : Mode) (r : Receiver) where
   -- each end fits by what the first layer shows or by a matrix
   abbrev pub both_shown : Bool → Bool → List Pack → List (List ℤ) → Bool
   both_shown high low packs ms =
@@ -54,7 +55,7 @@ module _ (p : Program) (known : List Known) (common : Option Taken) (wrote : Lis
   amount_shown packs ms (Some (range.Decimal i)) = range_shown packs ms (near_range mode r.scale i)
   amount_shown packs ms _ = false
 
-module _ (p : Program) (known : List Known) (common : Option Taken) (wrote : List Bytes) where
+module _ (p : Program) (known : List Known) (common : Option Taken) (wrote : List Extent) where
   abbrev pub store_shown : ℕ → Mode → Amount → List Pack → List (List ℤ) → Bool
   store_shown place mode y packs ms =
       not (has_operands p (taken_at known common) wrote y)

@@ -10,7 +10,7 @@ use Rattle.cob_program.specs.Act.{Act, Stmt, MkStmt, Program}
 use Rattle.cob_runs.specs.declared.action.Action.{Action}
 use Rattle.cob_runs.specs.declared.action.Action.TheVariants as action
 use Rattle.cob_runs.specs.Effects.{tests_in_act}
-use Rattle.cob_edge_parts.specs.Parts.{Part, read, unread, divide, store, bytes_in, guard, read_count, set_count, count_down, guard_count, parts_of}
+use Rattle.cob_edge_parts.specs.Parts.{Part, read, unread, subscript, index, divide, store, bytes_in, guard, read_count, set_count, count_down, guard_count, parts_of}
 use Rattle.edge_parts.specs.declared.part.Divisor as declared_divisor
 use Rattle.edge_parts.specs.declared.part.Divisor.TheVariants as divisor
 use Rattle.transfer_ranges.specs.AmountView.{plain_amount}
@@ -24,6 +24,8 @@ plain_divisor (divisor.Whole s) = group (plain_sum s.now)
 abbrev pub plain_part : EdgePart → Part
 plain_part (part.Read place) = read place
 plain_part part.Unread = unread
+plain_part (part.Subscript last item) = subscript last item
+plain_part (part.Index last item count) = index last item count
 plain_part (part.Divide d) = divide (plain_divisor d)
 plain_part (part.Store place mode a) = store place mode (plain_amount a)
 plain_part (part.Bytes offset count) = bytes_in offset count

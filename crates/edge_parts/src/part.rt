@@ -18,6 +18,17 @@ pub enum EdgePart<'a> {
     Read(u32),
     /// A constant that is no number is asked for one; no program of the profile has this.
     Unread,
+    /// A subscript's item is a number. `last` tells a remainder's, whose turn may not come.
+    Subscript {
+        last: bool,
+        item: u32,
+    },
+    /// The number is that of an occurrence of a table, which has so many.
+    Index {
+        last: bool,
+        item: u32,
+        count: u32,
+    },
     /// A divisor isn't 0.
     Divide(Divisor<'a>),
     /// An item gets a value.

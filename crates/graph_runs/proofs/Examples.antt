@@ -2,7 +2,7 @@
 use Rattle.std.specs.Prelude.{◌≡◌, ◌<◌, ◌≤◌, ◌^◌, ◌==◌, if◌then◌else◌, slice_index_or, ℕ, zero, suc, Bool, true, false, List, [], ◌∷◌, map, slice_get, Option, Some, None, ℤ, pos, negsuc}
 use Rattle.std.specs.List.{All}
 use Rattle.std.proofs.Common.{refl, sym, ap, ◌∙◌, inl, inr, arith as plain}
-use Rattle.std.proofs.lemmas.Option.{none-some}
+use Rattle.std.proofs.lemmas.Option.{none-some, same_Some}
 use Rattle.std.proofs.lemmas.Bool.Decides.{nat_tests}
 use Rattle.dec_num.specs.declared.types.Mode.TheVariants.{Trunc}
 use Rattle.dec_num.specs.declared.types.Scaled.{Scaled}
@@ -36,7 +36,7 @@ use Rattle.graph_runs.specs.Places.{edge_at, DoesAt}
 use Rattle.cob_edge_parts.specs.Counters.{PassesParts, MeetsAmong}
 use Rattle.graph_runs.specs.Doing.{start}
 use Rattle.graph_runs.specs.Following.{Reaches}
-use Rattle.graph_runs.specs.Sources.{HasValue, SeparateItemsHaveSigns, IsSourceGraph}
+use Rattle.graph_runs.specs.Sources.{HasValue, SeparateItemsHaveSigns, HasNoTables, IsSourceGraph}
 
 abbrev after : Program → ℕ → State
 after p n = run p [] [] [] n
@@ -172,6 +172,7 @@ adding_is_source = record {
   graph = is_graph adding laid_adding adding_is_laid;
   values = alone;
   signs = only_sign;
+  tables = only_flat;
   numbers = λ n a its. number_in_order n a (n == 1) (n == 2) refl refl its;
   order = refl;
 }
@@ -183,6 +184,10 @@ adding_is_source = record {
     only_sign : SeparateItemsHaveSigns adding.layout
     only_sign zero d l = tt
     only_sign (suc k) d l = absurd (omega (plain, l))
+
+    only_flat : HasNoTables adding.layout
+    only_flat zero i at = ap (λ (j : Item). j.stride) (sym (same_Some its_only i at))
+    only_flat (suc k) i at = absurd (none-some i at)
 
 adding_does : DoesAt adding graph_of_adding 1 1 add_one
 adding_does = record {

@@ -41,6 +41,10 @@ HasSignIfSeparate _ = Unit {0}
 abbrev pub SeparateItemsHaveSigns : Layout → Type 0
 SeparateItemsHaveSigns l = All (λ i. HasSignIfSeparate i.form) l.items
 
+-- no item is a table's
+abbrev pub HasNoTables : Layout → Type 0
+HasNoTables l = (place : ℕ) (i : Item) → item_at l place ≡ Some i → i.stride ≡ 0
+
 -- ---- statements
 
 abbrev pub number_of : Stmt → ℕ
@@ -67,5 +71,6 @@ pub record IsSourceGraph (p : Program) (g : Graph) : Type 0 where
   pub graph : IsGraph p g
   pub values : ValuesStandApart p.layout
   pub signs : SeparateItemsHaveSigns p.layout
+  pub tables : HasNoTables p.layout
   pub numbers : StatementsAreCounted p
   pub order : AreNumberedInOrder p

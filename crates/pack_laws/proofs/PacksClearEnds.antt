@@ -102,7 +102,7 @@ module _ (size : ℕ) (m : List ℤ) (cells : ℕ → Option ℤ) (few : size �
 
 -- ---- some pack
 
-some_shows : (p : Program) (s : Storage) (shows : Pack → List ℤ → Bool) (C : Type 0) → ((pack : Pack) (m : List ℤ) → IsPackOf p pack → size_of pack ≤ 8 → PackStands p.layout pack m s → shows pack m ≡ true → C)
+pub some_shows : (p : Program) (s : Storage) (shows : Pack → List ℤ → Bool) (C : Type 0) → ((pack : Pack) (m : List ℤ) → IsPackOf p pack → size_of pack ≤ 8 → PackStands p.layout pack m s → shows pack m ≡ true → C)
     → (packs : List Pack) (ms : List (List ℤ)) → ArePacksOf p packs → AreMatrices packs ms → PacksStand p.layout packs ms s → some_pack shows packs ms ≡ true → C
 some_shows p s shows C one [] ms of are stand e = absurd cc
 some_shows p s shows C one (pack ∷ packs) [] of are stand e = absurd cc

@@ -63,7 +63,7 @@ module _ (p : Program) (statement : ℕ) (a : Act) (x : Action) (sound : IsSound
 
   -- other cells keep their values
   elsewhere : (bytes : List ℕ) (counts : List (Option ℤ)) (k : ℕ) (v : ℤ) → 1 ≤ k → (j : ℕ) (h : Home) → slice_get pack j ≡ Some h → is_home h (of_count k) ≡ false
-      → values.value_at p.layout (storage bytes (slice_set counts (k - 1) (Some v))) h ≡ values.value_at p.layout (storage bytes counts) h
+      → values.value_at p.layout (storage bytes (slice_set counts (k - 1) (Some v))) h 0 ≡ values.value_at p.layout (storage bytes counts) h 0
   elsewhere bytes counts k v first j (of_item place) e ne = refl
   elsewhere bytes counts k v first j (of_count n) e ne =
       count_elsewhere counts n k v (differs n k (sound.counts n (of.homes j (of_count n) e)).first first (apart n k ne))

@@ -63,7 +63,7 @@ pub fn stored_values_stand()
 /// Lowered to what is known of its cells, a matrix keeps the storages of which that is true.
 pub fn known_cells_stand()
     ensures { (l : Layout) (homes : List Home) (known : List KnownCell) (pack : Pack) (s : Storage)
-        → ((h : Home) → KnownStands (known_of homes known h) (value_at l s h)) → (m : List ℤ) → PackStands l pack m s
+        → ((h : Home) → KnownStands (known_of homes known h) (value_at l s h 0)) → (m : List ℤ) → PackStands l pack m s
         → StandsIn (size_of pack + 1) (word (size_of pack + 1) (with_words (size_of pack) (put_word l homes known pack (word (size_of pack + 1) m)))) (cells_in l pack s) }
 {}
 

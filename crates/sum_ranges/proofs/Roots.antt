@@ -2,7 +2,6 @@
 use Rattle.std.proofs.Common.{◌≡◌, subst, ℕ, Bool, true, false, Option, Some, None, ◌&&◌, ◌||◌, refl, sym, ap, ◌∙◌}
 use Rattle.cob_program.specs.Sum.{Sum, MkSum, no_parts, more_parts, MkPart, Factors, no_factors, more_factors, Factor, MkFactor}
 use Rattle.cob_program.specs.Values.{Root, behind_factor, root_in, root_of}
-pub use Rattle.cob_program.proofs.Roots.{root_unless_one, root_over, root_not_over}
 use Rattle.cob_program.proofs.Roots.{root_more, root_many}
 use Rattle.sum_ranges.specs.declared.ranged.Ranged.{Ranged}
 use Rattle.sum_ranges.specs.SumRanges.{atom_range}

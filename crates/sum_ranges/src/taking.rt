@@ -23,7 +23,7 @@ pub struct Taken {
 fn taken_quotient<R: Ranges>(ranges: &R, root: Root) -> Option<Taken>
     requires bounded { AreBounded (R.range_at ranges.now) (R.bound_at ranges.now) }
     requires small { is_small_quotient (R.bound_at ranges.now) (plain_root root) ≡ true }
-    ensures { result ≡ root_range (R.range_at ranges.now) (plain_root root) }
+    ensures { result ≡ root_range (R.range_at ranges.now) (plain_root root.entry) }
 {
     match product_range(ranges, root.dividend) {
         None => None,
@@ -75,7 +75,7 @@ pub fn taken_sum<R: Ranges>(ranges: &R, sum: &Sum, whole: bool) -> Option<Taken>
 fn quotient_may_vanish<R: Ranges>(ranges: &R, root: Root) -> bool
     requires bounded { AreBounded (R.range_at ranges.now) (R.bound_at ranges.now) }
     requires small { is_small_quotient (R.bound_at ranges.now) (plain_root root) ≡ true }
-    ensures { result ≡ may_vanish_in_root (R.range_at ranges.now) (plain_root root) }
+    ensures { result ≡ may_vanish_in_root (R.range_at ranges.now) (plain_root root.entry) }
 {
     may_vanish_in_product(ranges, root.dividend) || may_be_zero(ranges, &root.divisor.atom)
 }

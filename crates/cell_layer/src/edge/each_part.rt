@@ -21,7 +21,8 @@ ghost use Rattle.cell_layer.specs.RowWalks.{program_in, act_done, moment, latest
 use crate::edge::kept::{Kept, taken};
 use crate::edge::row_walk::Walk;
 use crate::row::counters;
-use crate::row::forgetting::forget_bytes;
+use crate::row::forgetting::{bytes_from, forget_extent};
+use crate::row::pictures::is_table;
 use crate::row::reads::read_item;
 use crate::row::tests_of::guard_row;
 use cob_program::Test;
@@ -49,7 +50,7 @@ impl<'a> Walk<'a> {
         )
     }
 
-    // An item is read. Behind a divisor that may have been 0 it may not have been.
+    // An item is read. Behind a divisor that may have been 0 it may not have been; of a table one occurrence alone is.
     fn read(&mut self, place: u32)
         requires can { CanGoOn self.old }
         requires small_cells { has_small_cells (program_in self.old) ≡ true }
@@ -57,9 +58,10 @@ impl<'a> Walk<'a> {
         ensures same { after_read (program_in self.old) place (moment self.old) ≡ moment self.new }
         ensures latest { latest_in self.new ≡ latest_in self.old }
     {
-        if !self.kept.may_zero {
-            read_item(self.program, self.cells, self.row, place);
+        if self.kept.may_zero || is_table(&self.program.layout, place) {
+            return;
         }
+        read_item(self.program, self.cells, self.row, place);
     }
 
     fn read_count(&mut self, statement: u32)
@@ -94,7 +96,12 @@ impl<'a> Walk<'a> {
         ensures latest { latest_in self.new ≡ latest_in self.old }
     {
         self.kept = self.with_operands();
-        forget_bytes(self.program, self.cells, self.row, offset, length);
+        forget_extent(
+            self.program,
+            self.cells,
+            self.row,
+            &bytes_from(offset, length),
+        );
     }
 
     fn put(&mut self, place: u32, mode: Mode, amount: Amount) -> bool
@@ -175,6 +182,11 @@ impl<'a> Walk<'a> {
                 true
             }
             EdgePart::Unread => false,
+            EdgePart::Subscript { last, item } => {
+                self.subscript(last, item);
+                true
+            }
+            EdgePart::Index { last, item, count } => self.index(last, item, count),
             EdgePart::Divide(divisor) => self.divide(divisor),
             EdgePart::Store { item, mode, amount } => self.put(item, mode, amount),
             EdgePart::Bytes { offset, length } => {

@@ -32,6 +32,7 @@ use crate::edge::dividing::divisor_clears;
 use crate::edge::kept::{Kept, taken};
 use crate::row::counters::count_is_known;
 use crate::row::items::{item_is_numeric, item_range};
+use crate::row::subscripts::lies_in_table;
 use cob_runs::Cell;
 use cob_tree::{Kind, Kinds};
 use dec_num::Mode;
@@ -169,6 +170,14 @@ impl<'a> Before<'a> {
                 item_is_numeric(self.program, self.cells, self.row, place),
             ),
             EdgePart::Unread => all.put(Kind::Class, false),
+            EdgePart::Subscript { item, .. } => all.put(
+                Kind::Class,
+                item_is_numeric(self.program, self.cells, self.row, item),
+            ),
+            EdgePart::Index { item, count, .. } => all.put(
+                Kind::Subscript,
+                lies_in_table(self.program, self.cells, self.row, item, count),
+            ),
             EdgePart::Divide(divisor) => all.put(
                 Kind::Zero,
                 divisor_clears(self.program, self.cells, self.row, self.act, divisor),

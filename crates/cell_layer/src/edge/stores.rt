@@ -18,9 +18,11 @@ ghost use Rattle.cob_graph.specs.Homes.{homes_of};
 ghost use Rattle.cob_graph.specs.declared.homes.Home.TheVariants.{Item as of_item};
 ghost use Rattle.cell_steps.specs.Storages.{known_of};
 ghost use Rattle.transfer_ranges.specs.EdgeOperands.{is_remainder};
-ghost use Rattle.cell_steps.specs.Stores.{range_at, keeps_receiver, stored, stored_known, stored_cells, stored_element};
+ghost use Rattle.cell_steps.specs.Cells.{is_table};
+ghost use Rattle.cell_steps.specs.Stores.{range_at, keeps_receiver, stored, stored_known, receiver_known, stored_cells, stored_element};
 ghost use Rattle.cell_laws.specs.Sizes.{IsSmallStore};
 ghost use Rattle.cell_layer.specs.ProgramRows.{IsRowOf};
+ghost use Rattle.cell_layer.specs.Forgetting.{AreMarks};
 ghost use Rattle.cell_layer.specs.Kept.{kept_or_new};
 ghost use Rattle.cell_layer.specs.Latest.{ranges_of, outcome};
 ghost use Rattle.cell_layer.specs.RowWalks.{program_in, act_done, moment, latest_in, CanGoOn, GoesOn};
@@ -29,7 +31,7 @@ use crate::edge::kept::Kept;
 use crate::edge::row_walk::Walk;
 use crate::row::forgetting::forget_beside;
 use crate::row::items::item_range;
-use crate::row::knowing::{known_of_item, set_item};
+use crate::row::knowing::{joined_known, known_of_item, set_item};
 use crate::row::pictures::item_at;
 use cob_data::Layout;
 use cob_program::{Act, Program};
@@ -37,41 +39,59 @@ use cob_runs::{Action, Cell};
 use cob_tree::Form;
 use dec_num::Mode;
 use edge_parts::{is_handled, keeps_receiver};
-use interval_domain::{Interval, hull};
+use interval_domain::Interval;
 use transfer_ranges::{
     Amount, AmountRange, Stored, Taken, amount_from, may_keep, receiver_at, store_range,
 };
 
 // ---- the receiver's cell
 
-fn known_by_form(form: &Form, units: Interval) -> Option<Interval>
-    ensures { result ≡ stored_known form.now units }
+// One occurrence is new; of a table the others stay.
+fn known_by_kind(table: bool, old: Option<Interval>, units: Interval) -> Option<Interval>
+    requires old { IsOrdered old }
+    requires ordered { units.low ≤ℤ units.high }
+    ensures value { result ≡ (if table then joined_known old (Some units) else Some units) }
+    ensures ordered { IsOrdered result }
+{
+    if table {
+        joined_known(old, Some(units))
+    } else {
+        Some(units)
+    }
+}
+
+fn known_by_form(
+    form: &Form,
+    table: bool,
+    old: Option<Interval>,
+    units: Interval,
+) -> Option<Interval>
+    requires old { IsOrdered old }
+    requires ordered { units.low ≤ℤ units.high }
+    ensures value { result ≡ stored_known table form.now old units }
+    ensures ordered { IsOrdered result }
 {
     match form {
-        Form::Number { .. } => Some(units),
+        Form::Number { .. } => known_by_kind(table, old, units),
         Form::Group | Form::Text { .. } | Form::Edited { .. } => None,
     }
 }
 
-// What is known of an item that got a value.
-fn stored_known(layout: &Layout, place: u32, units: Interval) -> Option<Interval>
-    ensures { result ≡ stored_known (form_at layout.now place) units }
+// What is known of an item of which one occurrence got a value.
+fn stored_known(
+    layout: &Layout,
+    place: u32,
+    old: Option<Interval>,
+    units: Interval,
+) -> Option<Interval>
+    requires old { IsOrdered old }
+    requires ordered { units.low ≤ℤ units.high }
+    ensures value { result ≡ stored_known (is_table layout.now place) (form_at layout.now place) old units }
+    ensures ordered { IsOrdered result }
 {
     match item_at(layout, place) {
         None => None,
-        Some(item) => known_by_form(&item.form, units),
-    }
-}
-
-fn joined_known(a: Option<Interval>, b: Option<Interval>) -> Option<Interval>
-    requires a { IsOrdered a }
-    requires b { IsOrdered b }
-    ensures value { result ≡ joined_known a b }
-    ensures ordered { IsOrdered result }
-{
-    match (a, b) {
-        (Some(a), Some(b)) => Some(hull(a, b)),
-        _ => None,
+        Some(item) => known_by_form(&item.form, item.stride != 0, old, units),
     }
 }
 
@@ -97,11 +117,11 @@ fn receiver_known(
     requires ordered { units.low ≤ℤ units.high }
     ensures value { result ≡ kept_or_new keeps
         (known_of (homes_of (plain_program program.now)) (cells_of row.now) (of_item place))
-        (stored_known (form_at program.now.layout place) units) }
+        (receiver_known (plain_program program.now) place (cells_of row.now) units) }
     ensures ordered { IsOrdered result }
 {
     let old = known_of_item(program, cells, row, place);
-    kept_or_new(keeps, old, stored_known(&program.layout, place, units))
+    kept_or_new(keeps, old, stored_known(&program.layout, place, old, units))
 }
 
 // ---- the row
@@ -110,31 +130,35 @@ fn receiver_known(
 fn put_units(
     program: &Program,
     cells: &[Cell],
+    marks: &[Vec<bool>],
     row: &mut [i128],
     place: u32,
     keeps: bool,
     units: Interval,
 )
     requires row { IsRowOf (plain_program program.now) cells.now row.old }
+    requires marks { AreMarks (plain_program program.now) cells.now marks.now }
     requires ordered { units.low ≤ℤ units.high }
     ensures cells { stored_element keeps (cells_of row.old) (Some (stored_cells (plain_program program.now) place (cells_of row.old) units))
         ≡ Some (cells_of row.new) }
     ensures row { IsRowOf (plain_program program.now) cells.now row.new }
 {
     let known = receiver_known(program, cells, row, place, keeps, units);
-    forget_beside(program, cells, row, place);
+    forget_beside(program, cells, marks, row, place);
     set_item(program, cells, row, place, known);
 }
 
 fn put(
     program: &Program,
     cells: &[Cell],
+    marks: &[Vec<bool>],
     row: &mut [i128],
     place: u32,
     keeps: bool,
     units: Option<Interval>,
 ) -> bool
     requires row { IsRowOf (plain_program program.now) cells.now row.old }
+    requires marks { AreMarks (plain_program program.now) cells.now marks.now }
     requires ordered { IsOrdered units }
     ensures on { result ≡ true → stored_element keeps (cells_of row.old) (option_map (stored_cells (plain_program program.now) place (cells_of row.old)) units)
         ≡ Some (cells_of row.new) }
@@ -145,7 +169,7 @@ fn put(
     match units {
         None => keeps,
         Some(units) => {
-            put_units(program, cells, row, place, keeps, units);
+            put_units(program, cells, marks, row, place, keeps, units);
             true
         }
     }
@@ -247,6 +271,14 @@ impl<'a> Walk<'a> {
         self.kept.may_fail = keeps;
         self.kept.may_fit = units.is_some();
         self.kept.any_fail = kept.any_fail || keeps;
-        put(self.program, self.cells, self.row, place, keeps, units)
+        put(
+            self.program,
+            self.cells,
+            self.marks,
+            self.row,
+            place,
+            keeps,
+            units,
+        )
     }
 }

@@ -5,6 +5,7 @@ ghost use Rattle.cob_program.specs.ActView.{plain_stmt, plain_program};
 ghost use Rattle.edge_parts.specs.PartView.{plain_part, edge_parts};
 ghost use Rattle.cell_laws.specs.Sizes.{IsSmallPart};
 ghost use Rattle.cell_layer.specs.SmallCells.{has_small_cells};
+ghost use Rattle.cell_layer.specs.Forgetting.{AreMarks};
 ghost use Rattle.cell_layer.specs.ProgramRows.{IsRowOf};
 ghost use Rattle.cell_layer.specs.Kept.{seen, step_at, latest_of, latest_at};
 ghost use Rattle.cell_layer.specs.Latest.{latest_behind};
@@ -30,6 +31,7 @@ pub fn parts(program: &Program, statement: &Stmt, action: Action) -> u32
 pub fn walk(
     program: &Program,
     cells: &[Cell],
+    marks: &[Vec<bool>],
     statement: &Stmt,
     action: Action,
     part: u32,
@@ -37,6 +39,7 @@ pub fn walk(
     kept: &mut Kept,
 ) -> bool
     requires row { IsRowOf (plain_program program.now) cells.now row.old }
+    requires marks { AreMarks (plain_program program.now) cells.now marks.now }
     requires small { AllByRecursion (IsSmallPart (plain_program program.now) (act_in (plain_stmt statement.now)) action)
         (edge_parts (plain_program program.now) (plain_stmt statement.now) action) }
     requires small_cells { has_small_cells (plain_program program.now) ≡ true }
@@ -54,6 +57,7 @@ pub fn walk(
             let mut walk = Walk {
                 program,
                 cells,
+                marks,
                 act: &statement.act,
                 action,
                 row,
@@ -70,12 +74,14 @@ pub fn walk(
 /// then isn't told. What is kept of the latest store is that of the moment before it.
 pub fn walk_part(
     cells: &[Cell],
+    marks: &[Vec<bool>],
     work: &EdgeWork,
     part: EdgePart,
     row: &mut [i128],
     kept: &mut Kept,
 ) -> bool
     requires row { IsRowOf (program_of work.now) cells.now row.old }
+    requires marks { AreMarks (program_of work.now) cells.now marks.now }
     requires small { IsSmallPart (program_of work.now) (act_of work.now) work.now.action (plain_part part) }
     requires small_cells { has_small_cells (program_of work.now) ≡ true }
     requires can { CanStep (program_of work.now) (act_of work.now) work.now.action (seen row.old kept.old) }
@@ -91,6 +97,7 @@ pub fn walk_part(
     let mut walk = Walk {
         program: work.program,
         cells,
+        marks,
         act: &work.statement.act,
         action: work.action,
         row,

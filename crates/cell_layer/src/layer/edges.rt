@@ -10,6 +10,7 @@ ghost use Rattle.graph_runs.specs.Places.{no_edge};
 ghost use Rattle.cell_steps.specs.OwnRanges.{owns};
 ghost use Rattle.cell_laws.specs.Layer.{row_for, edge_cells, edge_clears};
 ghost use Rattle.cell_laws.specs.Sizes.{IsSmallPart};
+ghost use Rattle.cell_layer.specs.Forgetting.{AreMarks};
 ghost use Rattle.cell_layer.specs.ProgramRows.{IsRowOf};
 ghost use Rattle.cell_layer.specs.SmallCells.{has_small_cells};
 ghost use Rattle.cell_layer.specs.Kept.{seen};
@@ -56,8 +57,15 @@ fn finish(work: &EdgeWork, any_fail: bool, row: &mut [i128])
 }
 
 // leads a row over all parts of an edge; answers false where no run passes them
-fn walk_parts(cells: &[Cell], work: &EdgeWork, row: &mut [i128], kept: &mut Kept) -> bool
+fn walk_parts(
+    cells: &[Cell],
+    marks: &[Vec<bool>],
+    work: &EdgeWork,
+    row: &mut [i128],
+    kept: &mut Kept,
+) -> bool
     requires row { IsRowOf (program_of work.now) cells.now row.old }
+    requires marks { AreMarks (program_of work.now) cells.now marks.now }
     requires small_cells { has_small_cells (program_of work.now) ≡ true }
     requires small { AllByRecursion (IsSmallPart (program_of work.now) (act_of work.now) work.now.action) (parts_in work.now) }
     requires can { CanStep (program_of work.now) (act_of work.now) work.now.action (seen row.old kept.old) }
@@ -68,7 +76,7 @@ fn walk_parts(cells: &[Cell], work: &EdgeWork, row: &mut [i128], kept: &mut Kept
     ensures row { IsRowOf (program_of work.now) cells.now row.new }
 {
     for part in work.parts.as_slice() {
-        if !walk_part(cells, work, *part, row, kept) {
+        if !walk_part(cells, marks, work, *part, row, kept) {
             return false;
         }
     }
@@ -76,13 +84,14 @@ fn walk_parts(cells: &[Cell], work: &EdgeWork, row: &mut [i128], kept: &mut Kept
 }
 
 // makes of a row what an edge makes of it
-fn walk_edge(cells: &[Cell], work: &EdgeWork, row: &mut [i128])
-    requires { CanWalk (program_of work.now) cells.now (statement_of work.now) work.now.action row.old }
+fn walk_edge(cells: &[Cell], marks: &[Vec<bool>], work: &EdgeWork, row: &mut [i128])
+    requires marks { AreMarks (program_of work.now) cells.now marks.now }
+    requires can { CanWalk (program_of work.now) cells.now (statement_of work.now) work.now.action row.old }
     ensures { row.new ≡ row_from (width_of (owns (program_of work.now)))
         (statement_post (program_of work.now) (statement_of work.now) work.now.action (cells_of row.old)) }
 {
     let mut kept = Kept::new();
-    if walk_parts(cells, work, row, &mut kept) {
+    if walk_parts(cells, marks, work, row, &mut kept) {
         finish(work, kept.any_fail, row);
     } else {
         set_unreached(row);
@@ -90,8 +99,15 @@ fn walk_edge(cells: &[Cell], work: &EdgeWork, row: &mut [i128])
 }
 
 // the kinds of faults that no part of an edge meets, each on what those before it left
-fn parts_cleared(cells: &[Cell], work: &EdgeWork, row: &mut [i128], kept: &mut Kept) -> Kinds
+fn parts_cleared(
+    cells: &[Cell],
+    marks: &[Vec<bool>],
+    work: &EdgeWork,
+    row: &mut [i128],
+    kept: &mut Kept,
+) -> Kinds
     requires row { IsRowOf (program_of work.now) cells.now row.old }
+    requires marks { AreMarks (program_of work.now) cells.now marks.now }
     requires small_cells { has_small_cells (program_of work.now) ≡ true }
     requires small { AllByRecursion (IsSmallPart (program_of work.now) (act_of work.now) work.now.action) (parts_in work.now) }
     requires can { CanStep (program_of work.now) (act_of work.now) work.now.action (seen row.old kept.old) }
@@ -101,7 +117,7 @@ fn parts_cleared(cells: &[Cell], work: &EdgeWork, row: &mut [i128], kept: &mut K
     let mut cleared = Kinds::all();
     for part in work.parts.as_slice() {
         cleared = cleared.both(cleared_by_part(cells, work, *part, row, kept));
-        if !walk_part(cells, work, *part, row, kept) {
+        if !walk_part(cells, marks, work, *part, row, kept) {
             return cleared;
         }
     }
@@ -109,13 +125,20 @@ fn parts_cleared(cells: &[Cell], work: &EdgeWork, row: &mut [i128], kept: &mut K
 }
 
 /// The kinds of faults that no part of an edge meets. What the lent row holds is lost.
-pub fn cleared_by_edge(cells: &[Cell], work: &EdgeWork, row: &[i128], lent: &mut [i128]) -> Kinds
+pub fn cleared_by_edge(
+    cells: &[Cell],
+    marks: &[Vec<bool>],
+    work: &EdgeWork,
+    row: &[i128],
+    lent: &mut [i128],
+) -> Kinds
+    requires marks { AreMarks (program_of work.now) cells.now marks.now }
     requires can { CanWalk (program_of work.now) cells.now (statement_of work.now) work.now.action row.now }
     requires lent { length lent.old ≡ length row.now }
     ensures { result ≡ kinds_of (statement_clears (program_of work.now) (statement_of work.now) work.now.action (cells_of row.now)) }
 {
     lent.copy_from_slice(row);
-    parts_cleared(cells, work, lent, &mut Kept::new())
+    parts_cleared(cells, marks, work, lent, &mut Kept::new())
 }
 
 // ---- edges of a graph, by their numbers, which count from 0
@@ -130,7 +153,7 @@ pub(crate) fn post_edge(works: &EdgeWorks, at: usize, row: &mut [i128])
         (slice_index_or works.now.graph.now.edges at no_edge) (cells_of row.old)) }
 {
     match works.at(at) {
-        Some(work) => walk_edge(works.graph.cells.get(), work, row),
+        Some(work) => walk_edge(works.graph.cells.get(), works.marks.as_slice(), work, row),
         None => {}
     }
 }
@@ -145,7 +168,13 @@ pub(crate) fn edge_cleared(works: &EdgeWorks, at: usize, row: &[i128], lent: &mu
         (slice_index_or works.now.graph.now.edges at no_edge)) }
 {
     match works.at(at) {
-        Some(work) => cleared_by_edge(works.graph.cells.get(), work, row, lent),
+        Some(work) => cleared_by_edge(
+            works.graph.cells.get(),
+            works.marks.as_slice(),
+            work,
+            row,
+            lent,
+        ),
         None => Kinds::all(),
     }
 }

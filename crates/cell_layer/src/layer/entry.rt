@@ -7,7 +7,7 @@ ghost use Rattle.cob_store.specs.WellFormed.{HasWellFormedItems};
 ghost use Rattle.interval_domain.specs.Rows.{row_of};
 ghost use Rattle.cell_laws.specs.Entry.{entry_cells};
 
-use crate::layer::firsts::first;
+use crate::layer::firsts::{first, values_over};
 use cob_program::Program;
 use cob_runs::Cell;
 use std::alloc::{AllocError, Global};
@@ -26,7 +26,15 @@ pub fn entry_row(alloc: Global, program: &Program, cells: &[Cell]) -> Result<Vec
     requires few { length cells.now ≤ most_cells }
     ensures { IfOk result (λ row. row.items ≡ row_of (entry_cells (plain_program program.now))) }
 {
+    let zeros = values_over(alloc, &program.layout, 0)?;
+    let ones = values_over(alloc, &program.layout, 1)?;
     let mut row = vec![in alloc; 0; word_count(cells)]?;
-    first(program, cells, row.as_mut_slice());
+    first(
+        program,
+        zeros.as_slice(),
+        ones.as_slice(),
+        cells,
+        row.as_mut_slice(),
+    );
     Ok(row)
 }

@@ -3,9 +3,11 @@ ghost use Rattle.std.specs.Prelude.{◌≡◌, ◌<◌, length, slice_index_or, 
 ghost use Rattle.cob_program.specs.ActView.{plain_program};
 ghost use Rattle.graph_runs.specs.Places.{no_edge};
 ghost use Rattle.graph_runs.specs.Sources.{IsSourceGraph};
+ghost use Rattle.cell_layer.specs.Forgetting.{AreMarks};
 ghost use Rattle.cell_layer.specs.Works.{IsWorkOf, ArePlaces};
 
 use crate::layer::sharing::Sharing;
+use crate::row::beside::marks_of_cells;
 use cob_graph::Graph;
 use cob_program::Program;
 use edge_parts::EdgeWork;
@@ -16,9 +18,12 @@ use std::alloc::{AllocError, Global};
 pub struct EdgeWorks<'a> {
     pub program: &'a Program,
     pub graph: &'a Graph,
+    /// For each cell the cells that have bytes of its item.
+    pub marks: Vec<Vec<bool>>,
     works: Vec<EdgeWork<'a>>,
     // for each edge the place of its work, if the program has the statement that it leaves
     places: Vec<Option<usize>>,
+    pub ghost marked: { AreMarks (plain_program program.now) graph.now.cells marks.items },
     ghost source: { ∥ IsSourceGraph (plain_program program.now) graph.now ∥₁ },
     ghost placed: { ∥ ArePlaces (plain_program program.now) graph.now works.items places.items ∥₁ },
 }
@@ -34,6 +39,7 @@ impl<'a> EdgeWorks<'a> {
         ensures program { IfOk result (λ works. works.program.now ≡ program.now) }
         ensures graph { IfOk result (λ works. works.graph.now ≡ graph.now) }
     {
+        let marks = marks_of_cells(alloc, program, graph.cells.get())?;
         let mut sharing = Sharing::new(alloc, program, graph)?;
         let mut places = Vec::new(alloc);
         for edge in graph.edges.get() {
@@ -43,6 +49,7 @@ impl<'a> EdgeWorks<'a> {
         Ok(EdgeWorks {
             program,
             graph,
+            marks,
             works: sharing.works,
             places,
         })

@@ -4,7 +4,7 @@ ghost use Rattle.cob_program.specs.ActView.{plain_program};
 ghost use Rattle.cob_graph.specs.declared.homes.Home.TheVariants.{Item as of_item, Count as of_count};
 ghost use Rattle.cob_graph.specs.Homes.{homes_of};
 ghost use Rattle.cell_steps.specs.Storages.{known_of};
-ghost use Rattle.interval_domain.specs.Known.{IsOrdered};
+ghost use Rattle.interval_domain.specs.Known.{IsOrdered, joined_known};
 ghost use Rattle.interval_domain.specs.Rows.{IsReached, cells_of};
 ghost use Rattle.cell_steps.specs.Cells.{with_known};
 ghost use Rattle.cell_layer.specs.ProgramRows.{known_in, set_in, IsCellNumber, IsRowOf};
@@ -12,7 +12,7 @@ ghost use Rattle.cell_layer.specs.ProgramRows.{known_in, set_in, IsCellNumber, I
 use cob_graph::{cell_of, cell_of_count};
 use cob_program::Program;
 use cob_runs::Cell;
-use interval_domain::{Interval, known_at, set_known};
+use interval_domain::{Interval, hull, known_at, set_known};
 
 // ---- by a number
 
@@ -38,6 +38,20 @@ fn set_in(row: &mut [i128], cell: Option<usize>, known: Option<Interval>)
     match cell {
         None => {}
         Some(k) => set_known(row, k, known),
+    }
+}
+
+// ---- of two
+
+pub(crate) fn joined_known(a: Option<Interval>, b: Option<Interval>) -> Option<Interval>
+    requires a { IsOrdered a }
+    requires b { IsOrdered b }
+    ensures value { result ≡ joined_known a b }
+    ensures ordered { IsOrdered result }
+{
+    match (a, b) {
+        (Some(a), Some(b)) => Some(hull(a, b)),
+        _ => None,
     }
 }
 

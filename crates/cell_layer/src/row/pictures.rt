@@ -4,6 +4,7 @@ ghost use Rattle.std.specs.Option.{option_copied};
 ghost use Rattle.cob_program.specs.Bounds.{of_digits, form_bound, literal_bound, is_small};
 ghost use Rattle.cob_runs.specs.Contents.{item_at, form_at, scale_of};
 ghost use Rattle.cob_calc.specs.Contents.{bound_at};
+ghost use Rattle.cell_steps.specs.Cells.{is_table};
 ghost use Rattle.cell_steps.specs.OwnRanges.{largest, picture_range, form_range};
 
 use cob_data::{Item, Layout};
@@ -57,6 +58,16 @@ pub(crate) fn item_at(layout: &Layout, place: u32) -> Option<&Item>
     ensures { option_copied result ≡ item_at layout.now place }
 {
     layout.items.get().get(place as usize)
+}
+
+/// Whether an item is a table's. Of such an item a test or a read tells of one occurrence alone.
+pub fn is_table(layout: &Layout, place: u32) -> bool
+    ensures { result ≡ is_table layout.now place }
+{
+    match item_at(layout, place) {
+        None => false,
+        Some(item) => item.stride != 0,
+    }
 }
 
 /// The picture of an item; a text is read as a number without a sign.

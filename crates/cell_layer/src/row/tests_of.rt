@@ -7,6 +7,7 @@ ghost use Rattle.cob_calc.specs.Contents.{bound_at};
 ghost use Rattle.transfer_ranges.specs.Guards.{guarded};
 ghost use Rattle.transfer_ranges.specs.Small.{is_small_test};
 ghost use Rattle.interval_domain.specs.Elements.{CellsFit};
+ghost use Rattle.interval_domain.specs.Known.{IsOrdered};
 ghost use Rattle.interval_domain.specs.Rows.{cells_of};
 ghost use Rattle.cob_graph.specs.Homes.{homes_of};
 ghost use Rattle.cell_steps.specs.OwnRanges.{owns};
@@ -19,7 +20,8 @@ ghost use Rattle.cell_layer.specs.Tests.{class_item, IsOrderedCut, AreOrderedCut
 
 use crate::row::items::{KnownItems, item_is_numeric};
 use crate::row::knowing::know_item;
-use crate::row::reads::read_item;
+use crate::row::pictures::is_table;
+use crate::row::reads::read_one;
 use cob_program::{Program, Test};
 use cob_runs::Cell;
 use transfer_ranges::{Cut, Cuts, guarded};
@@ -51,7 +53,7 @@ fn guard_class(
     ensures row { IsRowOf (plain_program program.now) cells.now row.new }
 {
     if wanted {
-        read_item(program, cells, row, place);
+        read_one(program, cells, row, place);
         return true;
     }
     !item_is_numeric(program, cells, row, place)
@@ -82,6 +84,18 @@ fn cuts_of(
     guarded(&items, &program.layout, test, wanted)
 }
 
+// Of a table's item a test tells of one occurrence alone.
+fn cut_item(program: &Program, cells: &[Cell], row: &mut [i128], cut: Cut)
+    requires row { IsRowOf (plain_program program.now) cells.now row.old }
+    requires ordered { IsOrdered (Some cut.units) }
+    ensures cells { cells_of row.new ≡ cut_cells (plain_program program.now) (cells_of row.old) (Some cut) }
+    ensures row { IsRowOf (plain_program program.now) cells.now row.new }
+{
+    if !is_table(&program.layout, cut.item) {
+        know_item(program, cells, row, cut.item, cut.units);
+    }
+}
+
 fn cut(program: &Program, cells: &[Cell], row: &mut [i128], cut: Option<Cut>)
     requires row { IsRowOf (plain_program program.now) cells.now row.old }
     requires ordered { IsOrderedCut cut }
@@ -90,7 +104,7 @@ fn cut(program: &Program, cells: &[Cell], row: &mut [i128], cut: Option<Cut>)
 {
     match cut {
         None => {}
-        Some(cut) => know_item(program, cells, row, cut.item, cut.units),
+        Some(cut) => cut_item(program, cells, row, cut),
     }
 }
 

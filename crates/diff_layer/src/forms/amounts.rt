@@ -1,5 +1,6 @@
 //! Forms of what receivers get.
 ghost use Rattle.std.specs.Prelude.{◌≡◌, length, ◌≤◌, true, false, List, Some, None, IfSome};
+ghost use Rattle.cob_data.specs.declared.extent.Extent.{Extent};
 ghost use Rattle.cob_program.specs.Bounds.{is_small};
 ghost use Rattle.cob_program.specs.SumView.{plain_sum};
 ghost use Rattle.cob_calc.specs.Contents.{bound_at};
@@ -18,7 +19,6 @@ ghost use Rattle.interval_domain.specs.Elements.{CellsFit};
 ghost use Rattle.cell_steps.specs.OwnRanges.{owns};
 ghost use Rattle.cell_steps.specs.Stores.{range_at};
 ghost use Rattle.diff_steps.specs.Forms as forms;
-ghost use Rattle.diff_steps.specs.Moments.{Bytes};
 ghost use Rattle.diff_layer.specs.Forms.{IsFormOf};
 ghost use Rattle.diff_layer.specs.Sizes.{HasSmallTop};
 ghost use Rattle.diff_layer.specs.Views.{plain_pack, item_cell, HasUnit, program_of, known_in, taken_at};
@@ -218,7 +218,7 @@ pub fn amount_form(
     requires kept { IfSome common HasSmallTop }
     requires can { IfSome common (CanWork (plain_amount amount)
         (range_at (program_of items.now) (known_in items.now) place)) }
-    ensures value { (wrote : List Bytes) → written ≡ are_written (program_of items.now).layout wrote
+    ensures value { (wrote : List Extent) → written ≡ are_written (program_of items.now).layout wrote
         (amount_items (plain_amount amount.entry))
         → result ≡ forms.amount_form (program_of items.now) (plain_pack pack.now)
         (taken_at (known_in items.now) common) wrote place (plain_amount amount.entry) }

@@ -1,5 +1,6 @@
 //! Forms of operands.
 ghost use Rattle.std.specs.Prelude.{◌≡◌, ◌||◌, ◌≤◌, true, false, is_some, Option, List, IfSome};
+ghost use Rattle.cob_data.specs.declared.extent.Extent.{Extent};
 ghost use Rattle.cob_program.specs.SumView.{plain_sum};
 ghost use Rattle.cob_calc.specs.Contents.{bound_at};
 ghost use Rattle.transfer_ranges.specs.AmountView.{plain_amount};
@@ -16,7 +17,6 @@ ghost use Rattle.transfer_ranges.specs.EdgeOperands.{settled};
 ghost use Rattle.cell_steps.specs.Stores.{range_at};
 ghost use Rattle.transfer_ranges.specs.declared.amounts.Taken as declared_taken;
 ghost use Rattle.diff_steps.specs.Forms as forms;
-ghost use Rattle.diff_steps.specs.Moments.{Bytes};
 ghost use Rattle.diff_layer.specs.Sizes.{HasSmallTop};
 ghost use Rattle.diff_layer.specs.Views.{item_cell, program_of, known_in, taken_at};
 ghost use Rattle.diff_layer.specs.Working.{taken_by, operands_by};
@@ -111,7 +111,7 @@ fn has_range(items: &KnownItems, sum: &Sum, how: How) -> bool
 pub fn has_operands(items: &KnownItems, amount: Amount, written: bool) -> bool
     requires fits { CellsFit (owns (program_of items.now)) (known_in items.now) }
     requires small { is_small_amount (bound_at (program_of items.now).layout) (plain_amount amount) ≡ true }
-    ensures { (common : Option declared_taken.Taken) (wrote : List Bytes) → written ≡ are_written
+    ensures { (common : Option declared_taken.Taken) (wrote : List Extent) → written ≡ are_written
         (program_of items.now).layout wrote (amount_items (plain_amount amount.entry))
         → result ≡ forms.has_operands (program_of items.now) (taken_at (known_in items.now) common) wrote
         (plain_amount amount.entry) }

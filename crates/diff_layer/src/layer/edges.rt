@@ -40,6 +40,7 @@ fn walk_edge(
         Some(work) => {
             let edge = PackEdge {
                 cells: edges.works.graph.cells.get(),
+                marks: edges.works.marks.as_slice(),
                 work,
                 plans: edges.plans,
             };
@@ -106,10 +107,11 @@ pub fn edge_cleared(
         Some(work) => {
             let edge = PackEdge {
                 cells: edges.works.graph.cells.get(),
+                marks: edges.works.marks.as_slice(),
                 work,
                 plans: edges.plans,
             };
-            if is_all(cleared_by_edge(edge.cells, work, rows.cells, row)) {
+            if is_all(cleared_by_edge(edge.cells, edge.marks, work, rows.cells, row)) {
                 return Kinds::all();
             }
             row.copy_from_slice(rows.cells);

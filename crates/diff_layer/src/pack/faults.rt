@@ -2,6 +2,7 @@
 ghost use Rattle.std.specs.Prelude.{◌≡◌, ◌≤◌, true, length, List, neg_ℤ, int_le, IfSome};
 ghost use Rattle.dec_num.specs.declared.types.Mode.TheVariants.{Trunc};
 ghost use Rattle.cob_tree.specs.Kinds.{kinds_of};
+ghost use Rattle.cob_data.specs.declared.extent.Extent.{Extent};
 ghost use Rattle.cob_program.specs.Bounds.{is_small, is_small_atom};
 ghost use Rattle.cob_calc.specs.Contents.{bound_at};
 ghost use Rattle.edge_parts.specs.PartView.{plain_part, plain_divisor};
@@ -22,7 +23,6 @@ ghost use Rattle.cell_layer.specs.Kept.{seen};
 ghost use Rattle.cell_layer.specs.ProgramRows.{IsRowOf};
 ghost use Rattle.cell_layer.specs.Walks.{with_taken_small, clears_small, CanStep};
 ghost use Rattle.diff_steps.specs.Clearing.{some_pack, clears_part2};
-ghost use Rattle.diff_steps.specs.Moments.{Bytes};
 ghost use Rattle.diff_steps.specs.Packs.{size_of};
 ghost use Rattle.diff_layer.specs.PackWriting.{amount_items, are_written};
 ghost use Rattle.diff_layer.specs.Closed.{IsClosedRow};
@@ -127,7 +127,7 @@ fn ends_fit(
     requires can { CanChange (program_at moment.now) (known_at moment.now) moment.now.kept.common (plain_part part) }
     requires digits { slot.receiver.digits ≤ 18 }
     requires scale { slot.receiver.scale ≤ 18 }
-    ensures { (wrote : List Bytes) → IsWrittenTo (program_at moment.now).layout wrote moment.now.written
+    ensures { (wrote : List Extent) → IsWrittenTo (program_at moment.now).layout wrote moment.now.written
         (plain_part part.entry)
         → result ≡ both_shown (program_at moment.now) (known_at moment.now) moment.now.kept.common wrote
         (plain_part part.entry) slot.mode slot.receiver high low
@@ -153,7 +153,7 @@ fn decimal_fits(
     requires can { CanChange (program_at moment.now) (known_at moment.now) moment.now.kept.common (plain_part part) }
     requires receiver { IsReceiver slot.receiver }
     requires range { IsSmallRange range }
-    ensures { (wrote : List Bytes) → IsWrittenTo (program_at moment.now).layout wrote moment.now.written
+    ensures { (wrote : List Extent) → IsWrittenTo (program_at moment.now).layout wrote moment.now.written
         (plain_part part.entry)
         → result ≡ range_shown (program_at moment.now) (known_at moment.now) moment.now.kept.common wrote
         (plain_part part.entry) slot.mode slot.receiver
@@ -176,7 +176,7 @@ fn amount_fits(
     requires can { CanChange (program_at moment.now) (known_at moment.now) moment.now.kept.common (plain_part part) }
     requires receiver { IsReceiver slot.receiver }
     requires small { IfSome amount IsSmallAmount }
-    ensures { (wrote : List Bytes) → IsWrittenTo (program_at moment.now).layout wrote moment.now.written
+    ensures { (wrote : List Extent) → IsWrittenTo (program_at moment.now).layout wrote moment.now.written
         (plain_part part.entry)
         → result ≡ amount_shown (program_at moment.now) (known_at moment.now) moment.now.kept.common wrote
         (plain_part part.entry) slot.mode slot.receiver
@@ -215,7 +215,7 @@ fn store_fits(moment: &Moment, matrices: &Matrices, place: u32, mode: Mode, amou
     requires of_edge { IsStoreOf (program_at moment.now) (act_at moment.now) moment.now.action (plain_amount amount) }
     requires can { CanStep (program_at moment.now) (act_at moment.now) moment.now.action (seen_at moment.now) }
     requires taken { moment.now.kept.written ≡ true }
-    ensures { (wrote : List Bytes) → moment.now.written ≡ are_written (program_at moment.now).layout wrote
+    ensures { (wrote : List Extent) → moment.now.written ≡ are_written (program_at moment.now).layout wrote
         (amount_items (plain_amount amount.entry))
         → result ≡ store_shown (program_at moment.now) (known_at moment.now) moment.now.kept.common wrote place mode
         (plain_amount amount.entry)
@@ -263,7 +263,7 @@ fn is_not_below(units: Interval) -> bool
 fn counter_fits(moment: &Moment, matrices: &Matrices, part: EdgePart, units: Interval) -> bool
     requires matrices { AreMatricesOf (program_at moment.now) matrices.now }
     requires can { CanChange (program_at moment.now) (known_at moment.now) moment.now.kept.common (plain_part part) }
-    ensures { (wrote : List Bytes) → IsWrittenTo (program_at moment.now).layout wrote moment.now.written
+    ensures { (wrote : List Extent) → IsWrittenTo (program_at moment.now).layout wrote moment.now.written
         (plain_part part.entry)
         → result ≡ range_shown (program_at moment.now) (known_at moment.now) moment.now.kept.common wrote
         (plain_part part.entry) Trunc counter
@@ -282,7 +282,7 @@ fn counter_fits(moment: &Moment, matrices: &Matrices, part: EdgePart, units: Int
 fn set_fits(moment: &Moment, matrices: &Matrices, part: EdgePart) -> bool
     requires matrices { AreMatricesOf (program_at moment.now) matrices.now }
     requires can { CanChange (program_at moment.now) (known_at moment.now) moment.now.kept.common (plain_part part) }
-    ensures { (wrote : List Bytes) → IsWrittenTo (program_at moment.now).layout wrote moment.now.written
+    ensures { (wrote : List Extent) → IsWrittenTo (program_at moment.now).layout wrote moment.now.written
         (plain_part part.entry)
         → result ≡ count_shown (program_at moment.now) (known_at moment.now) moment.now.kept.common wrote
         (plain_part part.entry)
@@ -324,7 +324,7 @@ fn taken_fits(moment: &Moment, matrices: &Matrices, place: u32, mode: Mode, amou
         (plain_amount amount) }
     requires of_edge { IsStoreOf (program_at moment.now) (act_at moment.now) moment.now.action (plain_amount amount) }
     requires can { CanStep (program_at moment.now) (act_at moment.now) moment.now.action (seen_at moment.now) }
-    ensures { (wrote : List Bytes) → moment.now.written ≡ are_written (program_at moment.now).layout wrote
+    ensures { (wrote : List Extent) → moment.now.written ≡ are_written (program_at moment.now).layout wrote
         (amount_items (plain_amount amount.entry))
         → result ≡ taken_shown (program_at moment.now) (packs_in matrices.now) (act_at moment.now) moment.now.action
         place mode (plain_amount amount.entry)
@@ -358,7 +358,7 @@ fn store_clears(
         (plain_amount amount) }
     requires of_edge { IsStoreOf (program_at moment.now) (act_at moment.now) moment.now.action (plain_amount amount) }
     requires can { CanStep (program_at moment.now) (act_at moment.now) moment.now.action (seen_at moment.now) }
-    ensures { (wrote : List Bytes) → moment.now.written ≡ are_written (program_at moment.now).layout wrote
+    ensures { (wrote : List Extent) → moment.now.written ≡ are_written (program_at moment.now).layout wrote
         (amount_items (plain_amount amount.entry))
         → result ≡ store_cleared (program_at moment.now) (packs_in matrices.now) (act_at moment.now) moment.now.action
         place mode (plain_amount amount.entry)
@@ -377,7 +377,7 @@ fn set_clears(moment: &Moment, matrices: &Matrices, part: EdgePart) -> bool
     requires sum { has_small_sum (bound_at (program_at moment.now).layout) (act_at moment.now) ≡ true }
     requires can { CanStep (program_at moment.now) (act_at moment.now) moment.now.action (seen_at moment.now) }
     requires sets { IsSetCount (plain_part part) }
-    ensures { (wrote : List Bytes) → IsWrittenTo (program_at moment.now).layout wrote moment.now.written
+    ensures { (wrote : List Extent) → IsWrittenTo (program_at moment.now).layout wrote moment.now.written
         (plain_part part.entry)
         → result ≡ set_cleared (program_at moment.now) (packs_in matrices.now) (act_at moment.now) moment.now.action
         (plain_part part.entry)
@@ -400,7 +400,7 @@ fn set_clears(moment: &Moment, matrices: &Matrices, part: EdgePart) -> bool
 
 fn down_clears(moment: &Moment, matrices: &Matrices, number: u32) -> bool
     requires matrices { AreMatricesOf (program_at moment.now) matrices.now }
-    ensures { (wrote : List Bytes) → result ≡ down_cleared (program_at moment.now) (packs_in matrices.now) number
+    ensures { (wrote : List Extent) → result ≡ down_cleared (program_at moment.now) (packs_in matrices.now) number
         (seen_at moment.now) (seen2 wrote (words_in matrices.now)) }
 {
     let items = &moment.items;
@@ -414,7 +414,7 @@ fn is_shown(moment: &Moment, matrices: &Matrices, part: EdgePart, fault: Kind) -
     requires small { IsSmallPart (program_at moment.now) (act_at moment.now) moment.now.action (plain_part part) }
     requires of_edge { IsOfEdge (program_at moment.now) (act_at moment.now) moment.now.action (plain_part part) }
     requires can { CanStep (program_at moment.now) (act_at moment.now) moment.now.action (seen_at moment.now) }
-    ensures { (wrote : List Bytes) → IsWrittenTo (program_at moment.now).layout wrote moment.now.written
+    ensures { (wrote : List Extent) → IsWrittenTo (program_at moment.now).layout wrote moment.now.written
         (plain_part part.entry)
         → result ≡ part_cleared (program_at moment.now) (packs_in matrices.now) (act_at moment.now) moment.now.action
         (plain_part part.entry)
@@ -459,7 +459,7 @@ fn clears(
     requires can { CanStep (program_at moment.now) (act_at moment.now) moment.now.action (seen_at moment.now) }
     requires cells { by_cells ≡ kinds_of (clears_small (program_at moment.now) (act_at moment.now) moment.now.action
         (plain_part part) (seen_at moment.now)) }
-    ensures { (wrote : List Bytes) → moment.now.written ≡ are_written (program_at moment.now).layout wrote
+    ensures { (wrote : List Extent) → moment.now.written ≡ are_written (program_at moment.now).layout wrote
         (edge_items (act_at moment.now) moment.now.action)
         → result ≡ clears_part2 (program_at moment.now) (packs_in matrices.now) (act_at moment.now) moment.now.action
         (plain_part part.entry)
@@ -476,7 +476,7 @@ fn kinds_cleared(moment: &Moment, matrices: &Matrices, part: EdgePart, by_cells:
     requires can { CanStep (program_at moment.now) (act_at moment.now) moment.now.action (seen_at moment.now) }
     requires cells { by_cells ≡ kinds_of (clears_small (program_at moment.now) (act_at moment.now) moment.now.action
         (plain_part part) (seen_at moment.now)) }
-    ensures { (wrote : List Bytes) → moment.now.written ≡ are_written (program_at moment.now).layout wrote
+    ensures { (wrote : List Extent) → moment.now.written ≡ are_written (program_at moment.now).layout wrote
         (edge_items (act_at moment.now) moment.now.action)
         → result ≡ kinds_of (clears_part2 (program_at moment.now) (packs_in matrices.now) (act_at moment.now)
         moment.now.action (plain_part part.entry)
@@ -497,7 +497,7 @@ fn cleared(edge: &PackEdge, part: &EdgePart, row: &[i128], state: PackState, out
     requires of_edge { IsOfEdge (program_on edge.now) (act_on edge.now) (action_on edge.now) (plain_part part.now) }
     requires can { CanStep (program_on edge.now) (act_on edge.now) (action_on edge.now) (seen row.now state.kept) }
     requires matrices { IsRowFor edge.now.plans.now out.now }
-    ensures { (wrote : List Bytes) → Tells edge.now wrote state.written
+    ensures { (wrote : List Extent) → Tells edge.now wrote state.written
         → result ≡ kinds_of (clears_part2 (program_on edge.now) (packs_on edge.now) (act_on edge.now)
         (action_on edge.now) (plain_part part.now)
         (seen row.now state.kept) (seen2 wrote (matrices_on edge.now out.now))) }

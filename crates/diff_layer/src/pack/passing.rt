@@ -2,6 +2,7 @@
 //! known of its pack's cells; else it is closed still.
 ghost use Rattle.std.specs.Prelude.{◌≡◌, length, List, IsTrue, Some, None, if◌then◌else◌};
 ghost use Rattle.std.specs.List.{AllByRecursion};
+ghost use Rattle.cob_data.specs.declared.extent.Extent.{Extent};
 ghost use Rattle.cob_program.specs.ActView.{plain_program};
 ghost use Rattle.edge_parts.specs.PartView.{plain_part};
 ghost use Rattle.diff_bounds.specs.Matrix.{IsMatrix};
@@ -12,7 +13,6 @@ ghost use Rattle.cob_graph.specs.Homes.{homes_of};
 ghost use Rattle.cell_layer.specs.Kept.{latest_of};
 ghost use Rattle.cell_layer.specs.ProgramRows.{known_in, IsCellNumber};
 ghost use Rattle.diff_steps.specs.Matrices.{put_closed};
-ghost use Rattle.diff_steps.specs.Moments.{Bytes};
 ghost use Rattle.diff_steps.specs.Packs.{size_of};
 ghost use Rattle.diff_steps.specs.Steps.{each_pack, all_closed};
 ghost use Rattle.diff_layer.specs.Closed.{IsClosedBy, IsClosedRow, IsKnownAlike, IsIdle};
@@ -136,7 +136,7 @@ fn pass_pack(passed: &Passed, part: EdgePart, plan: &PackPlan, m: &mut [i128]) -
         (plain_part part) }
     requires matrix { IsMatrix (size_of (plain_plan plan.now)) m.old }
     requires closed { IsClosedBy (program_in passed.now) (known_before passed.now) (plain_plan plan.now) m.old }
-    ensures value { (wrote : List Bytes) → IsWrittenTo (program_in passed.now).layout wrote passed.now.moment.written
+    ensures value { (wrote : List Extent) → IsWrittenTo (program_in passed.now).layout wrote passed.now.moment.written
         (plain_part part.entry)
         → put_closed (program_in passed.now).layout (homes_of (program_in passed.now)) (known_behind passed.now)
         (plain_plan plan.now)
@@ -161,7 +161,7 @@ fn pass_packs(passed: &Passed, part: EdgePart, plans: &[PackPlan], out: &mut [i1
     requires can { CanChange (program_in passed.now) (known_before passed.now) passed.now.moment.kept.common
         (plain_part part) }
     requires matrices { IsClosedRow (program_in passed.now) (known_before passed.now) plans.now out.old }
-    ensures closed { (wrote : List Bytes) → IsWrittenTo (program_in passed.now).layout wrote passed.now.moment.written
+    ensures closed { (wrote : List Extent) → IsWrittenTo (program_in passed.now).layout wrote passed.now.moment.written
         (plain_part part.entry)
         → all_closed (program_in passed.now) (known_behind passed.now) (plain_plans plans.now)
         (each_pack (plan_changed (program_in passed.now) (known_before passed.now) passed.now.moment.kept.common
@@ -214,7 +214,7 @@ pub(crate) fn pass(passed: &Passed, part: EdgePart, plans: &[PackPlan], out: &mu
     requires can { CanChange (program_in passed.now) (known_before passed.now) passed.now.moment.kept.common
         (plain_part part) }
     requires matrices { IsClosedRow (program_in passed.now) (known_before passed.now) plans.now out.old }
-    ensures closed { (wrote : List Bytes) → IsWrittenTo (program_in passed.now).layout wrote passed.now.moment.written
+    ensures closed { (wrote : List Extent) → IsWrittenTo (program_in passed.now).layout wrote passed.now.moment.written
         (plain_part part.entry)
         → all_closed (program_in passed.now) (known_behind passed.now) (plain_plans plans.now)
         (each_pack (plan_changed (program_in passed.now) (known_before passed.now) passed.now.moment.kept.common

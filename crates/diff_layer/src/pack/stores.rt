@@ -1,5 +1,6 @@
 //! Stores of amounts at the cells of a pack.
 ghost use Rattle.std.specs.Prelude.{◌≡◌, ◌+◌, ◌-◌, ◌^◌, ◌≤◌, true, length, List, IfSome};
+ghost use Rattle.cob_data.specs.declared.extent.Extent.{Extent};
 ghost use Rattle.cob_program.specs.Bounds.{is_small};
 ghost use Rattle.cob_runs.specs.Contents.{form_at};
 ghost use Rattle.cob_calc.specs.Contents.{bound_at};
@@ -12,7 +13,6 @@ ghost use Rattle.cob_graph.specs.declared.homes.Home.TheVariants.{Item as of_ite
 ghost use Rattle.cell_steps.specs.Stores.{range_at};
 ghost use Rattle.cell_layer.specs.Kept.{latest_of};
 ghost use Rattle.diff_steps.specs.Forms as forms;
-ghost use Rattle.diff_steps.specs.Moments.{Bytes};
 ghost use Rattle.diff_steps.specs.Packs.{cell_of, decimals_of};
 ghost use Rattle.diff_layer.specs.Sizes.{HasSmallTop};
 ghost use Rattle.diff_layer.specs.PackWriting.{amount_items, are_written};
@@ -58,7 +58,7 @@ fn store_cell(
     requires top { IfSome moment.now.kept.common HasSmallTop }
     requires can { IfSome moment.now.kept.common (CanWork (plain_amount amount)
         (range_at (program_at moment.now) (known_at moment.now) place)) }
-    ensures value { (wrote : List Bytes) → moment.now.written ≡ are_written (program_at moment.now).layout wrote
+    ensures value { (wrote : List Extent) → moment.now.written ≡ are_written (program_at moment.now).layout wrote
         (amount_items (plain_amount amount.entry))
         → m.new ≡ cell_stored (length pack.now.cells.now) (receiver_of (form_at (program_at moment.now).layout place))
         mode
@@ -119,7 +119,7 @@ fn store_fitting(
     requires top { IfSome moment.now.kept.common HasSmallTop }
     requires can { IfSome moment.now.kept.common (CanWork (plain_amount amount)
         (range_at (program_at moment.now) (known_at moment.now) place)) }
-    ensures value { (wrote : List Bytes) → moment.now.written ≡ are_written (program_at moment.now).layout wrote
+    ensures value { (wrote : List Extent) → moment.now.written ≡ are_written (program_at moment.now).layout wrote
         (amount_items (plain_amount amount.entry))
         → m.new ≡ fitting_stored (program_at moment.now) (known_at moment.now) moment.now.kept.common
         (decimal_in moment.now.kept.result) wrote
@@ -156,7 +156,7 @@ pub(crate) fn store(
     requires top { IfSome moment.now.kept.common HasSmallTop }
     requires can { IfSome moment.now.kept.common (CanWork (plain_amount amount)
         (range_at (program_at moment.now) (known_at moment.now) place)) }
-    ensures value { (wrote : List Bytes) → moment.now.written ≡ are_written (program_at moment.now).layout wrote
+    ensures value { (wrote : List Extent) → moment.now.written ≡ are_written (program_at moment.now).layout wrote
         (amount_items (plain_amount amount.entry))
         → m.new ≡ store_changed (program_at moment.now) (known_at moment.now) moment.now.kept.common
         (latest_of moment.now.kept) wrote

@@ -1,5 +1,5 @@
-use Rattle.std.proofs.Common.{◌≡◌, ◌≤◌, ap, sym, ◌∙◌, arith}
-use Rattle.cob_data.specs.Extents.{start_of, share_bytes, meets_range}
+use Rattle.std.proofs.Common.{◌≤◌, ap, sym, ◌∙◌, arith}
+use Rattle.cob_data.specs.Extents.{share_bytes, meets_range}
 use Rattle.cob_data.proofs.Meeting.{none_meets, first_meets}
 use Rattle.cob_data.proofs.extent.meets.Goals as goal
 

@@ -1,4 +1,4 @@
-use Rattle.std.proofs.Common.{◌≡◌, true, sym, ◌∙◌, length}
+use Rattle.std.proofs.Common.{true, sym, ◌∙◌, length}
 use Rattle.cob_data.specs.Extents.{start_of, meets_range}
 use Rattle.cob_data.proofs.Meeting.{any_is}
 use Rattle.cob_data.proofs.extent.share_extents.Goals as goal

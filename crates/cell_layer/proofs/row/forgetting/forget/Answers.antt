@@ -10,13 +10,13 @@ pub forget_if-requires-clause-within : goal.forget_if-requires-clause-within
 forget_if-requires-clause-within c =
     let x = c.args in
     let e = ap length c.loop-k.invariant.cells
-    ∙ through_length (has_bytes x.items.now x.offset x.count) c.loop-k.k (items_of x.cells.now) (cells_of x.row.now) in
+    ∙ through_length (has_bytes x.items.now x.extent.now) c.loop-k.k (items_of x.cells.now) (cells_of x.row.now) in
     omega (arith, e, c.requires.whole)
 
 pub loop-k-preserved : goal.loop-k-preserved
 loop-k-preserved c =
     let x = c.args in
-    let is_gone = has_bytes x.items.now x.offset x.count in
+    let is_gone = has_bytes x.items.now x.extent.now in
     let os = items_of x.cells.now in
     let cs = cells_of x.row.now in
     let k = c.loop-k.k in
@@ -28,7 +28,7 @@ loop-k-preserved c =
       cells =
           c.forget_if.ensures.cells
           ∙ (ap (λ (ds : List _). forgotten_at ds k c.has_bytes-gone.result) c.loop-k.invariant.cells
-          ∙ (through_next is_gone k os cs c.has_bytes-gone.result (omega (arith, many)) (omega (arith, c.requires.whole)) gone
+          ∙ (through_next is_gone k os cs None c.has_bytes-gone.result (omega (arith, many)) (omega (arith, c.requires.whole)) gone
           ∙ ap (λ n. through is_gone n os cs) (let e : suc k ≡ k + 1 = omega arith in e)));
     }
 
@@ -37,5 +37,5 @@ returns-clause-cells c =
     let x = c.args in
     let many = items_length x.cells.now in
     c.loop-k.invariant.cells
-    ∙ through_all (has_bytes x.items.now x.offset x.count) c.loop-k.k (items_of x.cells.now) (cells_of x.row.now)
+    ∙ through_all (has_bytes x.items.now x.extent.now) c.loop-k.k (items_of x.cells.now) (cells_of x.row.now)
     (omega (arith, many))

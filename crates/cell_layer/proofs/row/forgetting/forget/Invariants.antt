@@ -8,5 +8,5 @@ use Rattle.cell_layer.proofs.row.forgetting.forget.Given as goal
 abbrev pub invariant-loop-k : goal.invariant-loop-k
 invariant-loop-k l = record {
   reached : IsReached l.row;
-  cells : cells_of l.row ≡ through (has_bytes l.items l.offset l.count) l.k (items_of l.cells) (cells_of l.fn.row);
+  cells : cells_of l.row ≡ through (has_bytes l.items l.extent) l.k (items_of l.cells) (cells_of l.fn.row);
 }
