@@ -3,6 +3,7 @@ use Rattle.std.proofs.Common.{◌≡◌, ℕ, true, List, [], ◌∷◌, ◌++�
 use Rattle.std.specs.Prelude.{is_some, unwrap_or}
 use Rattle.dec_num.specs.declared.types.Scaled.{Scaled}
 use Rattle.cob_data.specs.declared.layout.Layout.{Layout}
+use Rattle.cob_data.specs.declared.layout.Place.{Place}
 use Rattle.cob_program.specs.Sum.{Sum, MkSum, Parts, no_parts, more_parts, MkPart, Factors, no_factors, more_factors, MkFactor, Atom, item, number, group}
 use Rattle.cob_program.specs.Values.{whole_number, negated, plus, with_factor, ◌>>=◌, sum_value, sum_from, part_value, product_from, atom_value}
 use Rattle.cob_program.proofs.Steps.{both}
@@ -13,17 +14,17 @@ pub bind_same : {A B : Type 0} (x y : Option A) (f g : A → Option B) → x ≡
 bind_same None y f g e h = ap (λ o. o >>= g) e
 bind_same (Some a) y f g e h = h a ∙ ap (λ o. o >>= g) e
 
-module _ (f g : ℕ → Scaled) where
+module _ (f g : Place → Scaled) where
   -- the same on each of these items
-  abbrev pub Agree : List ℕ → Type 0
+  abbrev pub Agree : List Place → Type 0
   Agree [] = Unit {0}
   Agree (p ∷ ps) = (f p ≡ g p) × Agree ps
 
-  pub agree_front : (xs ys : List ℕ) → Agree (xs ++ ys) → Agree xs
+  pub agree_front : (xs ys : List Place) → Agree (xs ++ ys) → Agree xs
   agree_front [] ys h = tt
   agree_front (x ∷ xs) ys h = (h.0, agree_front xs ys h.1)
 
-  pub agree_back : (xs ys : List ℕ) → Agree (xs ++ ys) → Agree ys
+  pub agree_back : (xs ys : List Place) → Agree (xs ++ ys) → Agree ys
   agree_back [] ys h = h
   agree_back (x ∷ xs) ys h = agree_back xs ys h.1
 
@@ -53,12 +54,12 @@ module _ (f g : ℕ → Scaled) where
 
 -- ---- items that are numeric have a number, whatever stands for the others
 
-module _ (l : Layout) (storage : List ℕ) (other : ℕ → Scaled) where
+module _ (l : Layout) (storage : List ℕ) (other : Place → Scaled) where
   same_number : (o : Option Scaled) (a b : Scaled) → is_some o ≡ true → unwrap_or o a ≡ unwrap_or o b
   same_number None a b e = absurd cc
   same_number (Some v) a b e = refl
 
-  pub numeric_agree : (places : List ℕ) → are_numeric l storage places ≡ true → Agree (worth l storage) (λ place. unwrap_or (number_at l storage place) (other place)) places
+  pub numeric_agree : (places : List Place) → are_numeric l storage places ≡ true → Agree (worth l storage) (λ place. unwrap_or (number_at l storage place) (other place)) places
   numeric_agree [] e = tt
   numeric_agree (p ∷ ps) e =
       let k = both (is_some (number_at l storage p)) (are_numeric l storage ps) e in

@@ -8,6 +8,8 @@ use Rattle.interval_domain.specs.Bounds.{Holds}
 use Rattle.cob_tree.specs.declared.fault.Kind.TheVariants as kind
 use Rattle.cob_tree.specs.declared.token.Rel.{Rel}
 use Rattle.cob_data.specs.declared.layout.Layout.{Layout}
+use Rattle.cob_data.specs.Places.{plain}
+use Rattle.cob_data.specs.declared.layout.Place.{Place}
 use Rattle.cob_data.specs.declared.layout.Pair.{Pair}
 use Rattle.num_bytes.specs.Reading.{contents_value}
 use Rattle.cob_program.specs.Sum.{Sum}
@@ -41,18 +43,18 @@ use Rattle.transfer_ranges.proofs.InRanges.{same_place, ok_same, ok_bound, ok_th
 
 module _ (l : Layout) (range : ℕ → Ranged) (is_numeric : ℕ → Bool) (storage : List ℕ) (held : ItemsHold l range is_numeric storage) where
   -- where an item has no number, the least of its range stands for it
-  filled_in : (place : ℕ) (o : Option Scaled) → number_at l storage place ≡ o → IsIn (unwrap_or o (decimal (range place).units.low (range place).scale)) (range place)
-  filled_in place None e = record { held = (omega (arith, ints), held.ordered place); scale = refl }
-  filled_in place (Some v) e = held.numbers place v e
+  filled_in : (p : Place) (o : Option Scaled) → number_at l storage p ≡ o → IsIn (unwrap_or o (decimal (range p.item).units.low (range p.item).scale)) (range p.item)
+  filled_in p None e = record { held = (omega (arith, ints), held.ordered p.item); scale = refl }
+  filled_in p (Some v) e = held.numbers p v e
 
   value_in : (s : Sum) (x : Scaled) → are_numeric l storage (items_in s) ≡ true → sum_value (worth l storage) s ≡ Some x → IsSomeAnd (sum_range range s) (IsIn x)
   value_in s x n e =
-      sum_in (λ place. unwrap_or (number_at l storage place) (decimal (range place).units.low (range place).scale)) range
-      (λ place. filled_in place (number_at l storage place) refl) s x
-      (sym (numeric_sum l storage (λ place. decimal (range place).units.low (range place).scale) s n) ∙ e)
+      sum_in (λ p. unwrap_or (number_at l storage p) (decimal (range p.item).units.low (range p.item).scale)) range
+      (λ p. filled_in p (number_at l storage p) refl) s x
+      (sym (numeric_sum l storage (λ p. decimal (range p.item).units.low (range p.item).scale) s n) ∙ e)
 
   -- an item alone is worth its number
-  number_alone : (place : ℕ) (x : Scaled) → are_numeric l storage (items_in (lone place)) ≡ true → sum_value (worth l storage) (lone place) ≡ Some x → number_at l storage place ≡ Some x
+  number_alone : (place : Place) (x : Scaled) → are_numeric l storage (items_in (lone place)) ≡ true → sum_value (worth l storage) (lone place) ≡ Some x → number_at l storage place ≡ Some x
   number_alone place x n e = go (number_at l storage place) refl n (some_same (worth l storage place) x (sym (lone_value (worth l storage) place) ∙ e))
     where
       go : (o : Option Scaled) → number_at l storage place ≡ o → (is_some o && true) ≡ true → unwrap_or o (whole_number (pos 0)) ≡ x → o ≡ Some x
@@ -65,13 +67,14 @@ module _ (l : Layout) (range : ℕ → Ranged) (is_numeric : ℕ → Bool) (stor
       go : (o : Option ℕ) → lone_item s ≡ o → IfSome (cut_of o i) (CutHolds l range storage)
       go None f = tt
       go (Some place) f =
-          let same = is_lone s place f in
-          let at = number_alone place x (subst (λ t. are_numeric l storage (items_in t) ≡ true) same n) (subst (λ t. sum_value (worth l storage) t ≡ Some x) same e) in
-          (x, at, record { held = h; scale = (held.numbers place x at).scale })
+          let p = is_lone s place f in
+          let there = number_alone p.0 x (subst (λ t. are_numeric l storage (items_in t) ≡ true) p.2 n) (subst (λ t. sum_value (worth l storage) t ≡ Some x) p.2 e) in
+          let at : number_at l storage (plain place) ≡ Some x = subst (λ k. number_at l storage (plain k) ≡ Some x) p.1 there in
+          (x, at, record { held = h; scale = (held.numbers (plain place) x at).scale })
 
-  one_holds : (place : ℕ) (v : Scaled) (o : Option Interval) → number_at l storage place ≡ Some v → IsSomeAnd o (λ i. Holds i v.units) → IsSomeAnd (one_cut place o) (CutsHold l range storage)
+  one_holds : (place : ℕ) (v : Scaled) (o : Option Interval) → number_at l storage (plain place) ≡ Some v → IsSomeAnd o (λ i. Holds i v.units) → IsSomeAnd (one_cut place o) (CutsHold l range storage)
   one_holds place v None at h = absurd h
-  one_holds place v (Some i) at h = ((v, at, record { held = h; scale = (held.numbers place v at).scale }), tt)
+  one_holds place v (Some i) at h = ((v, at, record { held = h; scale = (held.numbers (plain place) v at).scale }), tt)
 
   both_hold : (a b : Option Cut) → IfSome a (CutHolds l range storage) → IfSome b (CutHolds l range storage) → IsSomeAnd (both_cuts a b) (CutsHold l range storage)
   both_hold None None h k = (h, k)
@@ -81,7 +84,7 @@ module _ (l : Layout) (range : ℕ → Ranged) (is_numeric : ℕ → Bool) (stor
     where
       go : (t : Bool) → (a.item == b.item) ≡ t → IsSomeAnd (if t then one_cut a.item (met a.units b.units) else Some (cuts (Some a) (Some b))) (CutsHold l range storage)
       go true e =
-          let same : h.0 ≡ k.0 = some_same h.0 k.0 (sym h.1 ∙ ap (number_at l storage) (same_place a.item b.item e) ∙ k.1) in
+          let same : h.0 ≡ k.0 = some_same h.0 k.0 (sym h.1 ∙ ap (λ k. number_at l storage (plain k)) (same_place a.item b.item e) ∙ k.1) in
           one_holds a.item h.0 (met a.units b.units) h.1 (met_holds a.units b.units h.0.units h.2.held (subst (λ (w : Scaled). Holds b.units w.units) (sym same) k.2.held))
       go false e = (h, k)
 
@@ -115,20 +118,20 @@ module _ (l : Layout) (range : ℕ → Ranged) (is_numeric : ℕ → Bool) (stor
       go false f = (tt, tt)
       go true f =
           let v = member_number l storage range held.numbers place ps wanted f e in
-          one_holds place v.0 (member_kept range place ps wanted) v.1 (kept_holds (can_be range wanted ps) (range place) v.0 (held.numbers place v.0 v.1) v.2)
+          one_holds place v.0 (member_kept range place ps wanted) v.1 (kept_holds (can_be range wanted ps) (range place) v.0 (held.numbers (plain place) v.0 v.1) v.2)
 
-  numeric_holds : (place : ℕ) (wanted : Bool) → test_holds l storage (numeric place) ≡ Ok wanted → IsSomeAnd (numeric_cut range is_numeric place wanted) (CutsHold l range storage)
-  numeric_holds place wanted e = go wanted (ok_same (is_some (contents_value (form_at l place) (bytes_at l storage place))) wanted e)
+  numeric_holds : (place : ℕ) (wanted : Bool) → test_holds l storage (numeric (plain place)) ≡ Ok wanted → IsSomeAnd (numeric_cut range is_numeric place wanted) (CutsHold l range storage)
+  numeric_holds place wanted e = go wanted (ok_same (is_some (contents_value (form_at l place) (bytes_at l storage (plain place)))) wanted e)
     where
-      go : (b : Bool) → is_some (contents_value (form_at l place) (bytes_at l storage place)) ≡ b → IsSomeAnd (numeric_cut range is_numeric place b) (CutsHold l range storage)
-      go true f = found (contents_value (form_at l place) (bytes_at l storage place)) refl f
+      go : (b : Bool) → is_some (contents_value (form_at l place) (bytes_at l storage (plain place))) ≡ b → IsSomeAnd (numeric_cut range is_numeric place b) (CutsHold l range storage)
+      go true f = found (contents_value (form_at l place) (bytes_at l storage (plain place))) refl f
         where
-          found : (o : Option ℤ) → contents_value (form_at l place) (bytes_at l storage place) ≡ o → is_some o ≡ true → IsSomeAnd (numeric_cut range is_numeric place true) (CutsHold l range storage)
+          found : (o : Option ℤ) → contents_value (form_at l place) (bytes_at l storage (plain place)) ≡ o → is_some o ≡ true → IsSomeAnd (numeric_cut range is_numeric place true) (CutsHold l range storage)
           found None g e = absurd cc
           found (Some u) g e =
               let v = scaled_by (scale_of (form_at l place)) u in
-              let at : number_at l storage place ≡ Some v = ap (option_map (scaled_by (scale_of (form_at l place)))) g in
-              ((v, at, held.numbers place v at), tt)
+              let at : number_at l storage (plain place) ≡ Some v = ap (option_map (scaled_by (scale_of (form_at l place)))) g in
+              ((v, at, held.numbers (plain place) v at), tt)
       go false f = known (is_numeric place) refl
         where
           no_number : (o : Option ℤ) → is_some o ≡ false → is_some (option_map (scaled_by (scale_of (form_at l place))) o) ≡ true → ⊥
@@ -136,14 +139,14 @@ module _ (l : Layout) (range : ℕ → Ranged) (is_numeric : ℕ → Bool) (stor
           no_number (Some u) e g = absurd cc
 
           known : (t : Bool) → is_numeric place ≡ t → IsSomeAnd (if t then None else Some unchanged) (CutsHold l range storage)
-          known true e = no_number (contents_value (form_at l place) (bytes_at l storage place)) f (held.numeric place e)
+          known true e = no_number (contents_value (form_at l place) (bytes_at l storage (plain place))) f (held.numeric place e)
           known false e = (tt, tt)
 
   pub guard_holds : (t : Test) (wanted : Bool) → test_holds l storage t ≡ Ok wanted → IsSomeAnd (guarded l range is_numeric t wanted) (CutsHold l range storage)
   guard_holds (numbers a r b) wanted e = numbers_hold a b r wanted e
   guard_holds (texts a r b) wanted e = (tt, tt)
   guard_holds (member place ps) wanted e = member_holds place ps wanted e
-  guard_holds (numeric place) wanted e = numeric_holds place wanted e
+  guard_holds (numeric p) wanted e = numeric_holds p.item wanted e
   guard_holds always true e = (tt, tt)
   guard_holds always false e = absurd (differ (ok_same true false e))
     where
@@ -210,7 +213,7 @@ module _ (l : Layout) (narrow : ℕ → Ranged) (more : ℕ → Bool) (wide : �
   guard_below (numbers a r b) wanted = numbers_below a b r wanted
   guard_below (texts a r b) wanted = (tt, tt)
   guard_below (member place ps) wanted = member_cut_below (is_number_member l place ps) place _ _ (member_below narrow wide knows.ranges place ps wanted)
-  guard_below (numeric place) wanted = numeric_below place wanted
+  guard_below (numeric p) wanted = numeric_below p.item wanted
   guard_below always true = (tt, tt)
   guard_below always false = tt
 
@@ -226,7 +229,9 @@ module _ (l : Layout) (range : ℕ → Ranged) (is_numeric : ℕ → Bool) (orde
       go : (o : Option ℕ) → lone_item s ≡ o → IfSome (cut_of o i) (CutFits range)
       go None f = tt
       go (Some place) f =
-          let same = some_same (range place) p (sym (lone_range range place (ordered place)) ∙ ap (sum_range range) (sym (is_lone s place f)) ∙ e) in
+          let it = is_lone s place f in
+          let there = some_same (range it.0.item) p (sym (lone_range range it.0 (ordered it.0.item)) ∙ ap (sum_range range) (sym it.2) ∙ e) in
+          let same = subst (λ k. range k ≡ p) it.1 there in
           cut_fits place i (subst (λ (q : Ranged). IsPartOf i q.units) (sym same) h)
 
   one_fits : (place : ℕ) (o : Option Interval) → IfSome o (λ i. IsPartOf i (range place).units) → IfSome (one_cut place o) (CutsFit range)
@@ -271,6 +276,6 @@ module _ (l : Layout) (range : ℕ → Ranged) (is_numeric : ℕ → Bool) (orde
   guard_fits (numbers a r b) wanted = numbers_fit a b r wanted
   guard_fits (texts a r b) wanted = (tt, tt)
   guard_fits (member place ps) wanted = member_fits (is_number_member l place ps) place (member_kept range place ps wanted) (kept_part (can_be range wanted ps) (range place))
-  guard_fits (numeric place) wanted = numeric_fits place wanted
+  guard_fits (numeric p) wanted = numeric_fits p.item wanted
   guard_fits always true = (tt, tt)
   guard_fits always false = tt

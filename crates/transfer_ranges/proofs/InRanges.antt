@@ -9,6 +9,8 @@ use Rattle.cob_tree.specs.declared.fault.Kind.TheVariants as kind
 use Rattle.cob_tree.specs.declared.token.Rel.{Rel}
 use Rattle.cob_tree.specs.declared.token.Rel.TheVariants as rel
 use Rattle.cob_data.specs.declared.layout.Layout.{Layout}
+use Rattle.cob_data.specs.Places.{plain}
+use Rattle.cob_data.specs.declared.layout.Place.{Place}
 use Rattle.cob_data.specs.declared.layout.Pair.{Pair}
 use Rattle.cob_data.specs.declared.layout.Sender.{Sender}
 use Rattle.cob_data.specs.declared.layout.Sender.TheVariants as sender
@@ -83,7 +85,7 @@ module _ (range : ℕ → Ranged) (v : Scaled) where
   is_outcome false false e = refl
 
   same_ends : (a b : Sender) → is_same_item a b ≡ true → end_range range a ≡ end_range range b
-  same_ends (sender.Item p) (sender.Item q) e = ap range (same_place p q e)
+  same_ends (sender.Item p) (sender.Item q) e = ap range (same_place p.item q.item e)
   same_ends (sender.Item p) (sender.Number n) e = absurd cc
   same_ends (sender.Item p) (sender.Text t) e = absurd cc
   same_ends (sender.Item p) (sender.Fill t) e = absurd cc
@@ -155,7 +157,7 @@ module _ (l : Layout) (storage : List ℕ) where
       let y = ok_bound (or_fault kind.Class (number_of l storage b)) (λ y. Ok (holds r (number_order x.0 y))) t x.2 in
       (x.0, y.0, ok_there kind.Class (number_of l storage a) x.0 x.1, ok_there kind.Class (number_of l storage b) y.0 y.1, ok_same (holds r (number_order x.0 y.0)) t y.2)
 
-  module _ (range : ℕ → Ranged) (numbers : (place : ℕ) (v : Scaled) → number_at l storage place ≡ Some v → IsIn v (range place)) where
+  module _ (range : ℕ → Ranged) (numbers : (p : Place) (v : Scaled) → number_at l storage p ≡ Some v → IsIn v (range p.item)) where
     -- an end's number lies in its range
     end_in : (a : Sender) (x : Scaled) → is_number_end l [] a ≡ true → number_of l storage a ≡ Some x → IsIn x (end_range range a)
     end_in (sender.Item place) x n e = numbers place x e
@@ -166,7 +168,7 @@ module _ (l : Layout) (storage : List ℕ) where
 
     -- one item for both ends
     one_end : (a b : Sender) (x y : Scaled) → is_same_item a b ≡ true → number_of l storage a ≡ Some x → number_of l storage b ≡ Some y → x ≡ y
-    one_end (sender.Item p) (sender.Item q) x y s e f = some_same x y (sym e ∙ ap (number_at l storage) (same_place p q s) ∙ f)
+    one_end (sender.Item p) (sender.Item q) x y s e f = some_same x y (sym e ∙ ap (λ place. number_at l storage (plain place)) (same_place p.item q.item s) ∙ f)
     one_end (sender.Item p) (sender.Number n) x y s e f = absurd cc
     one_end (sender.Item p) (sender.Text t) x y s e f = absurd cc
     one_end (sender.Item p) (sender.Fill t) x y s e f = absurd cc
@@ -177,7 +179,7 @@ module _ (l : Layout) (storage : List ℕ) where
     one_end sender.Zero b x y s e f = absurd cc
 
     module _ (v : Scaled) where
-      module _ (place : ℕ) (at : number_at l storage place ≡ Some v) (is_number : is_number_end l [] (sender.Item place) ≡ true) where
+      module _ (place : Place) (at : number_at l storage place ≡ Some v) (is_number : is_number_end l [] (sender.Item place) ≡ true) where
         one_pair : (p : Pair) (wanted : Bool) → is_number_pair l p ≡ true → in_pair l storage (sender.Item place) p ≡ Ok wanted → can_lie range wanted v p ≡ true
         one_pair p wanted n e =
             let ends = both (is_number_end l [] p.low) (is_number_end l [] p.high) n in
@@ -215,17 +217,17 @@ module _ (l : Layout) (storage : List ℕ) where
             go false false false e h k = rw h k
 
     -- a test that is decided has read its item
-    pub member_number : (place : ℕ) (ps : List Pair) (wanted : Bool) → is_number_member l place ps ≡ true → in_some l storage (sender.Item place) ps ≡ Ok wanted
-        → (v : Scaled) × (number_at l storage place ≡ Some v) × (can_be range wanted ps v ≡ true)
+    pub member_number : (place : ℕ) (ps : List Pair) (wanted : Bool) → is_number_member l place ps ≡ true → in_some l storage (sender.Item (plain place)) ps ≡ Ok wanted
+        → (v : Scaled) × (number_at l storage (plain place) ≡ Some v) × (can_be range wanted ps v ≡ true)
     member_number place [] wanted n e = absurd cc
     member_number place (p ∷ ps) wanted n e =
-        let item = both (is_number_end l [] (sender.Item place)) (list_all (is_number_pair l) (p ∷ ps)) n in
+        let item = both (is_number_end l [] (sender.Item (plain place))) (list_all (is_number_pair l) (p ∷ ps)) n in
         let first = both (is_number_pair l p) (list_all (is_number_pair l) ps) item.1 in
         let ends = both (is_number_end l [] p.low) (is_number_end l [] p.high) first.0 in
-        let here = ok_bound (in_pair l storage (sender.Item place) p) (λ here. in_some l storage (sender.Item place) ps >>= λ others. Ok (here || others)) wanted e in
-        let from = ok_bound (compared l storage (sender.Item place) rel.AtLeast p.low) (λ from. compared l storage (sender.Item place) rel.AtMost p.high >>= λ to. Ok (from && to)) here.0 here.1 in
-        let low = compared_is (sender.Item place) p.low rel.AtLeast from.0 (number_ends (sender.Item place) p.low item.0 ends.0) from.1 in
-        (low.0, low.2, some_pair low.0 place low.2 item.0 (p ∷ ps) wanted item.1 e)
+        let here = ok_bound (in_pair l storage (sender.Item (plain place)) p) (λ here. in_some l storage (sender.Item (plain place)) ps >>= λ others. Ok (here || others)) wanted e in
+        let from = ok_bound (compared l storage (sender.Item (plain place)) rel.AtLeast p.low) (λ from. compared l storage (sender.Item (plain place)) rel.AtMost p.high >>= λ to. Ok (from && to)) here.0 here.1 in
+        let low = compared_is (sender.Item (plain place)) p.low rel.AtLeast from.0 (number_ends (sender.Item (plain place)) p.low item.0 ends.0) from.1 in
+        (low.0, low.2, some_pair low.0 (plain place) low.2 item.0 (p ∷ ps) wanted item.1 e)
 
 -- ---- what is left is the least
 

@@ -5,6 +5,7 @@ use Rattle.std.proofs.lemmas.Int.{ints, clamps}
 use Rattle.dec_num.specs.declared.types.Scaled.{Scaled}
 use Rattle.interval_domain.specs.Corners.{interval}
 use Rattle.interval_domain.proofs.IntervalEnds.{parts_of_product}
+use Rattle.cob_data.specs.declared.layout.Place.{Place}
 use Rattle.cob_program.specs.Sum.{Sum, MkSum, no_parts, more_parts, MkPart, no_factors, more_factors, MkFactor, item, number, group}
 use Rattle.cob_program.specs.Values.{sum_value}
 use Rattle.cob_program.proofs.Steps.{some_same}
@@ -13,10 +14,11 @@ use Rattle.sum_ranges.specs.Ranged.{decimal, ranged, IsOrdered}
 use Rattle.sum_ranges.specs.SumRanges.{sum_range}
 use Rattle.transfer_ranges.specs.Guards.{lone_item}
 
-abbrev pub lone : ℕ → Sum
-lone place = MkSum (more_parts (MkPart false (more_factors (MkFactor false false (item place)) no_factors)) no_parts)
+abbrev pub lone : Place → Sum
+lone p = MkSum (more_parts (MkPart false (more_factors (MkFactor false false (item p)) no_factors)) no_parts)
 
-pub is_lone : (s : Sum) (place : ℕ) → lone_item s ≡ Some place → s ≡ lone place
+-- the place of a side that is one item
+pub is_lone : (s : Sum) (place : ℕ) → lone_item s ≡ Some place → (p : Place) × (p.item ≡ place) × (s ≡ lone p)
 is_lone (MkSum no_parts) place e = absurd cc
 is_lone (MkSum (more_parts p (more_parts q qs))) place e = absurd cc
 is_lone (MkSum (more_parts (MkPart true fs) no_parts)) place e = absurd cc
@@ -26,7 +28,7 @@ is_lone (MkSum (more_parts (MkPart false (more_factors (MkFactor true minus atom
 is_lone (MkSum (more_parts (MkPart false (more_factors (MkFactor false true atom) no_factors)) no_parts)) place e = absurd cc
 is_lone (MkSum (more_parts (MkPart false (more_factors (MkFactor false false (number n)) no_factors)) no_parts)) place e = absurd cc
 is_lone (MkSum (more_parts (MkPart false (more_factors (MkFactor false false (group s)) no_factors)) no_parts)) place e = absurd cc
-is_lone (MkSum (more_parts (MkPart false (more_factors (MkFactor false false (item p)) no_factors)) no_parts)) place e = ap lone (some_same p place e)
+is_lone (MkSum (more_parts (MkPart false (more_factors (MkFactor false false (item p)) no_factors)) no_parts)) place e = (p, some_same p.item place e, refl)
 
 -- ---- 0 and once a number
 
@@ -54,7 +56,7 @@ alone_is x scale =
 decimal_is : (v : Scaled) (units : ℤ) (scale : ℕ) → units ≡ v.units → scale ≡ v.scale → decimal units scale ≡ v
 decimal_is v units scale e f = rw (e, f) refl
 
-pub lone_value : (worth : ℕ → Scaled) (place : ℕ) → sum_value worth (lone place) ≡ Some (worth place)
+pub lone_value : (worth : Place → Scaled) (place : Place) → sum_value worth (lone place) ≡ Some (worth place)
 lone_value worth place = ap Some (decimal_is (worth place) _ _ (alone_is (worth place).units (worth place).scale) (joint_is (worth place).scale))
 
 ranged_is : (r : Ranged) (low high : ℤ) (scale : ℕ) → low ≡ r.units.low → high ≡ r.units.high → scale ≡ r.scale → ranged (interval low high) scale ≡ r
@@ -69,9 +71,9 @@ high_corner l h k = omega (arith, ints, clamps, times_once l, times_once h, k)
 at_corner : (x c : ℤ) (scale : ℕ) → c ≡ pos 1 *ℤ x → (pos 0 *ℤ pos (10 ^ (max 0 (0 + scale) - 0))) +ℤ (c *ℤ pos (10 ^ (max 0 (0 + scale) - (0 + scale)))) ≡ x
 at_corner x c scale e = rw e (alone_is x scale)
 
-pub lone_range : (range : ℕ → Ranged) (place : ℕ) → IsOrdered (range place) → sum_range range (lone place) ≡ Some (range place)
-lone_range range place h =
-    let r = range place in
+pub lone_range : (range : ℕ → Ranged) (p : Place) → IsOrdered (range p.item) → sum_range range (lone p) ≡ Some (range p.item)
+lone_range range p h =
+    let r = range p.item in
     ap Some (ranged_is r _ _ _
     (at_corner r.units.low _ r.scale (low_corner r.units.low r.units.high h))
     (at_corner r.units.high _ r.scale (high_corner r.units.low r.units.high h))

@@ -4,6 +4,7 @@ use Rattle.std.specs.Prelude.{IsSomeAnd}
 use Rattle.dec_num.specs.declared.types.Scaled.{Scaled}
 use Rattle.dec_num.specs.Exact.{Fraction}
 use Rattle.dec_num.specs.Scaled.{value_of}
+use Rattle.cob_data.specs.declared.layout.Place.{Place}
 use Rattle.cob_program.specs.declared.act.How.{How}
 use Rattle.cob_program.specs.declared.act.How.TheVariants as how
 use Rattle.cob_program.specs.Sum.{Sum}
@@ -23,7 +24,7 @@ use Rattle.transfer_ranges.proofs.Rests.{then_held, mapped_held, plus_in, produc
 pub decimal_amount : (x : Scaled) (r : Ranged) (v : Fraction) → IsIn x r → Some (value_of x) ≡ Some v → IsAmount (range.Decimal r) v
 decimal_amount x r v h e = (x, h, sym (some_same (value_of x) v e))
 
-module _ (worth : ℕ → Scaled) (range_at : ℕ → Ranged) (held : (place : ℕ) → IsIn (worth place) (range_at place)) where
+module _ (worth : Place → Scaled) (range_at : ℕ → Ranged) (held : (p : Place) → IsIn (worth p) (range_at p.item)) where
   -- of a sum's value
   of_value : (s : Sum) (next : Scaled → Option Fraction) (x : Fraction) (P : Taken → Type 0) → (sum_value worth s >>= next) ≡ Some x →
       ((v : Scaled) (r : Ranged) → IsIn v r → next v ≡ Some x → P (alone r)) → IsSomeAnd (taken_sum range_at false s) P

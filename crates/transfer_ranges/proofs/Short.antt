@@ -57,7 +57,7 @@ small_of_short b e =
     rw (most, scale) refl
 
 pub short_end : (range : ℕ → Ranged) (bound : ℕ → Bound) → AreBounded range bound → (e : Sender) → is_short (end_bound bound e) ≡ true → IsShortRange (end_range range e)
-short_end range bound bounded (sender.Item place) e = short_range (range place) (bound place) (bounded.held place) e
+short_end range bound bounded (sender.Item p) e = short_range (range p.item) (bound p.item) (bounded.held p.item) e
 short_end range bound bounded (sender.Number n) e = short_range (point (literal n)) (literal_bound n) (point_within (literal n) (literal_bound n) (literal_within n)) e
 short_end range bound bounded (sender.Text text) e = short_range (point (whole_number (pos 0))) (exactly 0) (point_within (whole_number (pos 0)) (exactly 0) (whole_within 0)) e
 short_end range bound bounded (sender.Fill byte) e = short_range (point (whole_number (pos 0))) (exactly 0) (point_within (whole_number (pos 0)) (exactly 0) (whole_within 0)) e

@@ -34,7 +34,7 @@ points_below (Some v) = point_narrower v
 
 module _ (narrow wide : ℕ → Ranged) (within : (place : ℕ) → IsNarrower (narrow place) (wide place)) where
   pub sender_below : (x : Sender) → IsBelow (sender_range narrow x) (sender_range wide x)
-  sender_below (sender.Item place) = within place
+  sender_below (sender.Item p) = within p.item
   sender_below (sender.Number n) = point_narrower (literal n)
   sender_below (sender.Text text) = points_below (number_in (form.Text (length text)) text)
   sender_below (sender.Fill byte) = tt

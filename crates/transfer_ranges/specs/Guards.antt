@@ -26,7 +26,7 @@ unchanged = cuts None None
 
 -- one item alone, without a sign
 abbrev pub lone_atom : Atom → Option ℕ
-lone_atom (item place) = Some place
+lone_atom (item p) = Some p.item
 lone_atom _ = None
 
 abbrev pub lone_factor : Factor → Option ℕ
@@ -88,5 +88,5 @@ module _ (l : Layout) (range : ℕ → Ranged) (is_numeric : ℕ → Bool) where
   guarded (numbers a r b) wanted = numbers_cut range a r b wanted
   guarded (texts a r b) wanted = Some unchanged
   guarded (member place ps) wanted = member_cut (is_number_member l place ps) place (member_kept range place ps wanted)
-  guarded (numeric place) wanted = numeric_cut range is_numeric place wanted
+  guarded (numeric p) wanted = numeric_cut range is_numeric p.item wanted
   guarded always wanted = if wanted then Some unchanged else None

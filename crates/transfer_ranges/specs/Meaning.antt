@@ -3,6 +3,8 @@ use Rattle.std.specs.Prelude.{◌≡◌, ◌⊎◌, ℕ, ◌≤ℤ◌, Bool, tru
 use Rattle.dec_num.specs.declared.types.Scaled.{Scaled}
 use Rattle.cob_tree.specs.declared.token.Rel.{Rel}
 use Rattle.cob_data.specs.declared.layout.Layout.{Layout}
+use Rattle.cob_data.specs.Places.{plain}
+use Rattle.cob_data.specs.declared.layout.Place.{Place}
 use Rattle.cob_data.specs.declared.layout.Pair.{Pair}
 use Rattle.cob_runs.specs.Contents.{number_at}
 use Rattle.sum_ranges.specs.declared.ranged.Ranged.{Ranged}
@@ -48,13 +50,13 @@ IsMemberOf range wanted place ps x = IsIn x (range place) × CanBe range wanted 
 -- known to be numeric has one.
 pub record ItemsHold (l : Layout) (range : ℕ → Ranged) (is_numeric : ℕ → Bool) (storage : List ℕ) : Type 0 where
   pub ordered : (place : ℕ) → IsOrdered (range place)
-  pub numbers : (place : ℕ) (v : Scaled) → number_at l storage place ≡ Some v → IsIn v (range place)
-  pub numeric : (place : ℕ) → is_numeric place ≡ true → is_some (number_at l storage place) ≡ true
+  pub numbers : (p : Place) (v : Scaled) → number_at l storage p ≡ Some v → IsIn v (range p.item)
+  pub numeric : (place : ℕ) → is_numeric place ≡ true → is_some (number_at l storage (plain place)) ≡ true
 
 -- the item has a number, which the cut holds
 abbrev pub CutHolds : Layout → (ℕ → Ranged) → List ℕ → Cut → Type 0
 CutHolds l range storage c =
-    (v : Scaled) × (number_at l storage c.item ≡ Some v) × IsIn v (ranged c.units (range c.item).scale)
+    (v : Scaled) × (number_at l storage (plain c.item) ≡ Some v) × IsIn v (ranged c.units (range c.item).scale)
 
 abbrev pub CutsHold : Layout → (ℕ → Ranged) → List ℕ → Cuts → Type 0
 CutsHold l range storage c = IfSome c.left (CutHolds l range storage) × IfSome c.right (CutHolds l range storage)

@@ -5,6 +5,7 @@ use Rattle.dec_num.specs.declared.types.Scaled.{Scaled}
 use Rattle.interval_domain.specs.declared.bounds.Interval.{Interval}
 use Rattle.cob_tree.specs.declared.token.Rel.TheVariants as rel
 use Rattle.cob_data.specs.declared.layout.Layout.{Layout}
+use Rattle.cob_data.specs.Places.{plain}
 use Rattle.cob_data.specs.declared.layout.Pair.{Pair}
 use Rattle.cob_data.specs.declared.layout.Sender.{Sender}
 use Rattle.cob_data.specs.declared.layout.Sender.TheVariants as sender
@@ -23,7 +24,7 @@ is_number_pair l p = is_number_end l [] p.low && is_number_end l [] p.high
 -- An end that is text makes the whole a test of texts.
 abbrev pub is_number_member : Layout → ℕ → List Pair → Bool
 is_number_member l place [] = false
-is_number_member l place (p ∷ ps) = is_number_end l [] (sender.Item place) && list_all (is_number_pair l) (p ∷ ps)
+is_number_member l place (p ∷ ps) = is_number_end l [] (sender.Item (plain place)) && list_all (is_number_pair l) (p ∷ ps)
 
 -- ---- one range
 
@@ -31,13 +32,13 @@ abbrev pub is_within : Scaled → Scaled → Scaled → Bool
 is_within x low high = holds rel.AtLeast (number_order x low) && holds rel.AtMost (number_order x high)
 
 abbrev pub is_same_item : Sender → Sender → Bool
-is_same_item (sender.Item a) (sender.Item b) = a == b
+is_same_item (sender.Item a) (sender.Item b) = a.item == b.item
 is_same_item _ _ = false
 
 module _ (range : ℕ → Ranged) where
   -- the numbers that an end can be; texts are not asked
   abbrev pub end_range : Sender → Ranged
-  end_range (sender.Item place) = range place
+  end_range (sender.Item p) = range p.item
   end_range (sender.Number n) = point (literal n)
   end_range _ = point (whole_number (pos 0))
 

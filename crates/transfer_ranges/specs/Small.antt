@@ -23,7 +23,7 @@ pub record IsShortRange (r : Ranged) : Type 0 where
 
 module _ (bound : ℕ → Bound) where
   abbrev pub end_bound : Sender → Bound
-  end_bound (sender.Item place) = bound place
+  end_bound (sender.Item p) = bound p.item
   end_bound (sender.Number n) = literal_bound n
   end_bound _ = exactly 0
 

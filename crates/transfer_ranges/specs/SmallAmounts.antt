@@ -11,7 +11,7 @@ use Rattle.sum_ranges.specs.Taking.{is_small_taken}
 module _ (bound : ℕ → Bound) where
   -- a text that is read as a number has 18 digits at most
   abbrev pub is_small_sender : Sender → Bool
-  is_small_sender (sender.Item place) = is_small (bound place)
+  is_small_sender (sender.Item p) = is_small (bound p.item)
   is_small_sender (sender.Number n) = is_small (literal_bound n)
   is_small_sender (sender.Text text) = nat_le (length text) 18
   is_small_sender _ = true

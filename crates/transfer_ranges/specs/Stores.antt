@@ -18,7 +18,7 @@ use Rattle.transfer_ranges.specs.Operands.{alone, is_whole, taken_sum, computed_
 module _ (range_at : ℕ → Ranged) where
   -- a sender's number; nothing where it has none
   abbrev pub sender_range : Sender → Option Ranged
-  sender_range (sender.Item place) = Some (range_at place)
+  sender_range (sender.Item p) = Some (range_at p.item)
   sender_range (sender.Number n) = Some (point (literal n))
   sender_range (sender.Text text) = option_map point (number_in (form.Text (length text)) text)
   sender_range (sender.Fill byte) = None

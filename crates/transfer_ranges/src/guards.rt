@@ -40,7 +40,7 @@ fn lone_atom(atom: &Atom) -> Option<u32>
     ensures { result ≡ lone_atom (plain_atom atom.now) }
 {
     match atom {
-        Atom::Item(place) => Some(*place),
+        Atom::Item(place) => Some(place.item),
         Atom::Number(_) | Atom::Group(_) => None,
     }
 }
@@ -173,7 +173,7 @@ fn is_number_end(layout: &Layout, end: &Sender) -> bool
     ensures { result ≡ is_number_end layout.now [] end.now }
 {
     match end {
-        Sender::Item(place) => is_number_item(layout, *place),
+        Sender::Item(place) => is_number_item(layout, place.item),
         Sender::Number(_) | Sender::Zero => true,
         Sender::Text(_) | Sender::Fill(_) => false,
     }
@@ -263,7 +263,7 @@ pub fn guarded<I: Items>(items: &I, layout: &Layout, test: &Test, wanted: bool) 
         Test::Number { left, rel, right } => numbers_cut(items, left, *rel, right, wanted),
         Test::Text { .. } => Some(unchanged()),
         Test::Member { item, ranges } => member_cut(items, layout, *item, ranges.get(), wanted),
-        Test::Numeric(item) => numeric_cut(items, *item, wanted),
+        Test::Numeric(place) => numeric_cut(items, place.item, wanted),
         Test::Always => always_cut(wanted),
     }
 }

@@ -7,6 +7,7 @@ ghost use Rattle.dec_num.specs.Scaled.{value_of};
 ghost use Rattle.interval_domain.specs.declared.bounds.Interval.{Interval};
 ghost use Rattle.interval_domain.specs.Bounds.{Holds, IsLeast};
 ghost use Rattle.cob_tree.specs.declared.form.Form.{Form};
+ghost use Rattle.cob_data.specs.declared.layout.Place.{Place};
 ghost use Rattle.cob_program.specs.declared.act.How.{How};
 ghost use Rattle.cob_program.specs.Sum.{Sum};
 ghost use Rattle.cob_program.specs.Values.{plus, root_of};
@@ -66,8 +67,8 @@ pub fn stores_lie_in_their_ranges()
 
 /// A law: where each item's number lies in its range, and the receiver's in its own, so does what the receiver is to get.
 pub fn amounts_lie_in_their_ranges()
-    ensures computed { (worth : ℕ → Scaled) (range_at : ℕ → Ranged) → ((place : ℕ) → IsIn (worth place) (range_at place)) → (s : Sum) (how : How) (v : Scaled) (own : Ranged) → IsIn v own → (x : Fraction) → computing.result worth s how v ≡ Some x → IsSomeAnd (taken_sum range_at (is_whole how) s) (λ t. IsAmount (computed_range how own t) x) }
-    ensures remaining { (worth : ℕ → Scaled) (range_at : ℕ → Ranged) → ((place : ℕ) → IsIn (worth place) (range_at place)) → (s : Sum) (scale : ℕ) (x : Fraction) → remainder_of worth scale (root_of s) ≡ Some x → IsSomeAnd (remaining_sum range_at scale s) (λ a. IsAmount a x) }
+    ensures computed { (worth : Place → Scaled) (range_at : ℕ → Ranged) → ((p : Place) → IsIn (worth p) (range_at p.item)) → (s : Sum) (how : How) (v : Scaled) (own : Ranged) → IsIn v own → (x : Fraction) → computing.result worth s how v ≡ Some x → IsSomeAnd (taken_sum range_at (is_whole how) s) (λ t. IsAmount (computed_range how own t) x) }
+    ensures remaining { (worth : Place → Scaled) (range_at : ℕ → Ranged) → ((p : Place) → IsIn (worth p) (range_at p.item)) → (s : Sum) (scale : ℕ) (x : Fraction) → remainder_of worth scale (root_of s) ≡ Some x → IsSomeAnd (remaining_sum range_at scale s) (λ a. IsAmount a x) }
     ensures moved { (v : Scaled) (r : Ranged) → IsIn v r → IsAmount (range.Decimal r) (value_of v) }
     ensures augmented { (v w : Scaled) (own r : Ranged) → IsIn v own → IsIn w r → IsAmount (range.Decimal (plus_range own r)) (value_of (plus v w)) }
 {}

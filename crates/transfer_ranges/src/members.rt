@@ -22,7 +22,7 @@ fn end_range<R: Ranges>(ranges: &R, end: &Sender) -> Ranged
     ensures short { IsShortRange result }
 {
     match end {
-        Sender::Item(place) => ranges.range(*place),
+        Sender::Item(place) => ranges.range(place.item),
         Sender::Number(number) => literal_range(number),
         Sender::Text(_) | Sender::Fill(_) | Sender::Zero => point(0, 0),
     }
@@ -32,7 +32,7 @@ fn is_same_item(a: &Sender, b: &Sender) -> bool
     ensures { result ≡ is_same_item a.now b.now }
 {
     match (a, b) {
-        (Sender::Item(a), Sender::Item(b)) => *a == *b,
+        (Sender::Item(a), Sender::Item(b)) => a.item == b.item,
         _ => false,
     }
 }

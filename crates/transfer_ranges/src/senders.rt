@@ -34,7 +34,7 @@ pub fn sender_range<R: Ranges>(ranges: &R, sender: &Sender) -> Option<Ranged>
     ensures { result ≡ sender_range (R.range_at ranges.now) sender.now }
 {
     match sender {
-        Sender::Item(place) => Some(ranges.range(*place)),
+        Sender::Item(place) => Some(ranges.range(place.item)),
         Sender::Number(number) => Some(literal_range(number)),
         Sender::Text(text) => text_range(text.get()),
         Sender::Fill(_) => None,
