@@ -2,6 +2,7 @@
 use Rattle.std.specs.Prelude.{◌≡◌, false, List, [], ◌∷◌, None}
 use Rattle.std.proofs.Common.{refl, arith}
 use Rattle.dec_num.specs.declared.types.Mode.TheVariants.{Trunc}
+use Rattle.cob_data.specs.Places.{plain}
 use Rattle.cob_data.specs.declared.layout.Sender.TheVariants as sender
 use Rattle.cob_program.specs.declared.act.How.TheVariants as how
 use Rattle.cob_program.specs.Sum.{Sum, MkSum, no_parts, more_parts, MkPart, no_factors, more_factors, MkFactor, item}
@@ -20,9 +21,9 @@ parts a x = parts_of program 9 a x
 -- ---- MOVE A TO B G
 
 abbrev to_both : List Part
-to_both = parts (act.move (sender.Item 1) (2 ∷ 0 ∷ [])) action.Assign
+to_both = parts (act.move (sender.Item (plain 1)) (2 ∷ 0 ∷ [])) action.Assign
 
-value_and_bytes : to_both ≡ read 1 ∷ store 2 Trunc (moved (sender.Item 1)) ∷ bytes_in 0 7 ∷ []
+value_and_bytes : to_both ≡ read 1 ∷ store 2 Trunc (moved (sender.Item (plain 1))) ∷ bytes_in 0 7 ∷ []
 value_and_bytes = refl
 
 both_sound : AreSound program.layout to_both
@@ -42,7 +43,7 @@ area_sound = (omega arith, (omega arith, tt))
 -- ---- ADD A TO T, which typing refuses, as T is a text
 
 abbrev a : Sum
-a = MkSum (more_parts (MkPart false (more_factors (MkFactor false false (item 1)) no_factors)) no_parts)
+a = MkSum (more_parts (MkPart false (more_factors (MkFactor false false (item (plain 1))) no_factors)) no_parts)
 
 added : parts (arith_ a (record { item = 3; mode = Trunc; how = how.Plus } ∷ []) None left_out no_stmts) action.Done
     ≡ read 1 ∷ read 3 ∷ store 3 Trunc (computed a how.Plus) ∷ []

@@ -1,6 +1,7 @@
 -- What some edges of a small program need.
 use Rattle.std.specs.Prelude.{◌≡◌, ℕ, true, false, [], ◌∷◌, replicate}
 use Rattle.std.proofs.Common.{refl}
+use Rattle.cob_data.specs.Places.{plain}
 use Rattle.cob_data.specs.declared.layout.Sender.TheVariants as sender
 use Rattle.cob_program.specs.Sum.{Sum, MkSum, no_parts, more_parts, MkPart, no_factors, more_factors, MkFactor, item}
 use Rattle.cob_program.specs.Bounds.{Bound, of_digits, is_small_sum, is_small_stored}
@@ -32,8 +33,8 @@ bound place = of_digits 18 9
 
 abbrev quotient : Sum
 quotient =
-    MkSum (more_parts (MkPart false (more_factors (MkFactor false false (item 1)) (more_factors (MkFactor false false (item 1))
-    (more_factors (MkFactor true false (item 1)) no_factors)))) no_parts)
+    MkSum (more_parts (MkPart false (more_factors (MkFactor false false (item (plain 1))) (more_factors (MkFactor false false (item (plain 1)))
+    (more_factors (MkFactor true false (item (plain 1))) no_factors)))) no_parts)
 
 -- the quotient has up to 45 digits, but it stays exact where it is stored
 too_great : is_small_sum bound quotient ≡ false

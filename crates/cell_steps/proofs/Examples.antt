@@ -9,6 +9,7 @@ use Rattle.cob_tree.specs.declared.form.Form.TheVariants as form
 use Rattle.cob_tree.specs.declared.form.Usage.TheVariants as usage
 use Rattle.cob_tree.specs.declared.token.Num.{Num}
 use Rattle.cob_tree.specs.declared.token.Rel.TheVariants as rel
+use Rattle.cob_data.specs.Places.{plain}
 use Rattle.cob_data.specs.declared.layout.Item.{Item}
 use Rattle.cob_data.specs.declared.layout.Sender.TheVariants as sender
 use Rattle.cob_program.specs.declared.act.Target.{Target}
@@ -30,7 +31,7 @@ item_of offset length f =
     record { name = Some (65 ∷ []); offset = offset; length = length; times = 1; stride = 0; form = f; parent = None; line = 5; value = None }
 
 abbrev loop : Act
-loop = perform (range 0 0) (times (sender.Item 0))
+loop = perform (range 0 0) (times (sender.Item (plain 0)))
 
 abbrev program : Program
 program = record {
@@ -80,77 +81,77 @@ numeral digits = record { sign = 0; digits = digits; scale = 0 }
 -- ---- reads and stores
 
 -- ADD A TO B: what isn't known is read as of its own range, and what doesn't fit is left out
-added_unknown : post_cells program 2 (worked (alone (item 0)) (target 1 how.Plus Trunc ∷ []) None left_out) action.Done (cells any any any any any any)
+added_unknown : post_cells program 2 (worked (alone (item (plain 0))) (target 1 how.Plus Trunc ∷ []) None left_out) action.Done (cells any any any any any any)
     ≡ Some (cells (to (pos 0) (pos 9)) (to (minus 99) (pos 99)) any any any any)
 added_unknown = refl
 
-added : post_cells program 2 (worked (alone (item 0)) (target 1 how.Plus Trunc ∷ []) None left_out) action.Done (cells (to (pos 3) (pos 4)) (to (pos 90) (pos 97)) any any any any)
+added : post_cells program 2 (worked (alone (item (plain 0))) (target 1 how.Plus Trunc ∷ []) None left_out) action.Done (cells (to (pos 3) (pos 4)) (to (pos 90) (pos 97)) any any any any)
     ≡ Some (cells (to (pos 3) (pos 4)) (to (pos 93) (pos 99)) any any any any)
 added = refl
 
 -- COMPUTE A = C, cut and ROUNDED, for C from 1.4 to 2.5
-cut : post_cells program 2 (worked (alone (item 2)) (target 0 how.Whole Trunc ∷ []) None left_out) action.Done (cells any any (to (pos 14) (pos 25)) any any any)
+cut : post_cells program 2 (worked (alone (item (plain 2))) (target 0 how.Whole Trunc ∷ []) None left_out) action.Done (cells any any (to (pos 14) (pos 25)) any any any)
     ≡ Some (cells (to (pos 1) (pos 2)) any (to (pos 14) (pos 25)) any any any)
 cut = refl
 
-rounded : post_cells program 2 (worked (alone (item 2)) (target 0 how.Whole Round ∷ []) None left_out) action.Done (cells any any (to (pos 14) (pos 25)) any any any)
+rounded : post_cells program 2 (worked (alone (item (plain 2))) (target 0 how.Whole Round ∷ []) None left_out) action.Done (cells any any (to (pos 14) (pos 25)) any any any)
     ≡ Some (cells (to (pos 1) (pos 3)) any (to (pos 14) (pos 25)) any any any)
 rounded = refl
 
 -- MOVE B TO A: an item without a sign gets absolute values
-moved_across_zero : post_cells program 2 (act.move (sender.Item 1) (0 ∷ [])) action.Assign (cells any (to (minus 5) (pos 3)) any any any any)
+moved_across_zero : post_cells program 2 (act.move (sender.Item (plain 1)) (0 ∷ [])) action.Assign (cells any (to (minus 5) (pos 3)) any any any any)
     ≡ Some (cells (to (pos 0) (pos 5)) (to (minus 5) (pos 3)) any any any any)
 moved_across_zero = refl
 
-moved_below_zero : post_cells program 2 (act.move (sender.Item 1) (0 ∷ [])) action.Assign (cells any (to (minus 9) (minus 2)) any any any any)
+moved_below_zero : post_cells program 2 (act.move (sender.Item (plain 1)) (0 ∷ [])) action.Assign (cells any (to (minus 9) (minus 2)) any any any any)
     ≡ Some (cells (to (pos 2) (pos 9)) (to (minus 9) (minus 2)) any any any any)
 moved_below_zero = refl
 
 -- MOVE A TO D: X is forgotten, as it has D's bytes; MOVE A TO X: D is, too
-moved_over_text : post_cells program 2 (act.move (sender.Item 0) (3 ∷ [])) action.Assign (cells (to (pos 2) (pos 3)) any any any (to (pos 5) (pos 6)) any)
+moved_over_text : post_cells program 2 (act.move (sender.Item (plain 0)) (3 ∷ [])) action.Assign (cells (to (pos 2) (pos 3)) any any any (to (pos 5) (pos 6)) any)
     ≡ Some (cells (to (pos 2) (pos 3)) any any (to (pos 2) (pos 3)) any any)
 moved_over_text = refl
 
-moved_to_text : post_cells program 2 (act.move (sender.Item 0) (4 ∷ [])) action.Assign (cells (to (pos 2) (pos 3)) any any (to (pos 7) (pos 7)) (to (pos 5) (pos 6)) any)
+moved_to_text : post_cells program 2 (act.move (sender.Item (plain 0)) (4 ∷ [])) action.Assign (cells (to (pos 2) (pos 3)) any any (to (pos 7) (pos 7)) (to (pos 5) (pos 6)) any)
     ≡ Some (cells (to (pos 2) (pos 3)) any any any any any)
 moved_to_text = refl
 
 -- MOVE B TO E, an edited item without a cell: only what fits goes on
-moved_to_edited : post_cells program 2 (act.move (sender.Item 1) (5 ∷ [])) action.Assign (cells any (to (pos 1) (pos 2)) any any any any)
+moved_to_edited : post_cells program 2 (act.move (sender.Item (plain 1)) (5 ∷ [])) action.Assign (cells any (to (pos 1) (pos 2)) any any any any)
     ≡ Some (cells any (to (pos 1) (pos 2)) any any any any)
 moved_to_edited = refl
 
 -- MOVE D TO X D: D is taken before its bytes change
-taken_first : post_cells program 2 (act.move (sender.Item 3) (4 ∷ 3 ∷ [])) action.Assign (cells any any any (to (pos 5) (pos 5)) (to (pos 1) (pos 2)) any)
+taken_first : post_cells program 2 (act.move (sender.Item (plain 3)) (4 ∷ 3 ∷ [])) action.Assign (cells any any any (to (pos 5) (pos 5)) (to (pos 1) (pos 2)) any)
     ≡ Some (cells any any any (to (pos 5) (pos 5)) any any)
 taken_first = refl
 
 -- ADD A TO A B: the receiver's own number counts at its turn, the operand's is that of the beginning
-taken_once : post_cells program 2 (worked (alone (item 0)) (target 0 how.Plus Trunc ∷ target 1 how.Plus Trunc ∷ []) None left_out) action.Done (cells (to (pos 2) (pos 3)) (to (pos 10) (pos 10)) any any any any)
+taken_once : post_cells program 2 (worked (alone (item (plain 0))) (target 0 how.Plus Trunc ∷ target 1 how.Plus Trunc ∷ []) None left_out) action.Done (cells (to (pos 2) (pos 3)) (to (pos 10) (pos 10)) any any any any)
     ≡ Some (cells (to (pos 4) (pos 6)) (to (pos 12) (pos 13)) any any any any)
 taken_once = refl
 
 -- MOVE T TO B: a text without a cell is read as a number of its length
-moved_from_text : post_cells program 2 (act.move (sender.Item 4) (1 ∷ [])) action.Assign (cells any any any any any any)
+moved_from_text : post_cells program 2 (act.move (sender.Item (plain 4)) (1 ∷ [])) action.Assign (cells any any any any any any)
     ≡ Some (cells any (to (pos 0) (pos 99)) any any (to (pos 0) (pos 999)) any)
 moved_from_text = refl
 
 -- ---- size errors
 
 -- ADD A TO A ON SIZE ERROR: some results fit, and some don't. On this edge A has failed, and keeps its value.
-some_fail : post_cells program 2 (worked (alone (item 0)) (target 0 how.Plus Trunc ∷ []) None (given no_stmts)) action.Size (cells (to (pos 4) (pos 6)) any any any any any)
+some_fail : post_cells program 2 (worked (alone (item (plain 0))) (target 0 how.Plus Trunc ∷ []) None (given no_stmts)) action.Size (cells (to (pos 4) (pos 6)) any any any any any)
     ≡ Some (cells (to (pos 4) (pos 6)) any any any any any)
 some_fail = refl
 
-none_fails : post_cells program 2 (worked (alone (item 0)) (target 0 how.Plus Trunc ∷ []) None (given no_stmts)) action.Size (cells (to (pos 1) (pos 2)) any any any any any)
+none_fails : post_cells program 2 (worked (alone (item (plain 0))) (target 0 how.Plus Trunc ∷ []) None (given no_stmts)) action.Size (cells (to (pos 1) (pos 2)) any any any any any)
     ≡ None
 none_fails = refl
 
-all_fail : post_cells program 2 (worked (alone (item 0)) (target 0 how.Plus Trunc ∷ []) None (given no_stmts)) action.Size (cells (to (pos 8) (pos 9)) any any any any any)
+all_fail : post_cells program 2 (worked (alone (item (plain 0))) (target 0 how.Plus Trunc ∷ []) None (given no_stmts)) action.Size (cells (to (pos 8) (pos 9)) any any any any any)
     ≡ Some (cells (to (pos 8) (pos 9)) any any any any any)
 all_fail = refl
 
-no_success : post_cells program 2 (worked (alone (item 0)) (target 0 how.Plus Trunc ∷ []) None (given no_stmts)) action.Done (cells (to (pos 8) (pos 9)) any any any any any)
+no_success : post_cells program 2 (worked (alone (item (plain 0))) (target 0 how.Plus Trunc ∷ []) None (given no_stmts)) action.Done (cells (to (pos 8) (pos 9)) any any any any any)
     ≡ None
 no_success = refl
 
@@ -162,82 +163,82 @@ one_fails = refl
 -- ---- quotients
 
 -- DIVIDE A INTO B: over the divisors that aren't 0; where there are none no run goes on
-divided : post_cells program 2 (worked (alone (item 0)) (target 1 how.Under Trunc ∷ []) None left_out) action.Done (cells (to (pos 0) (pos 2)) (to (pos 10) (pos 20)) any any any any)
+divided : post_cells program 2 (worked (alone (item (plain 0))) (target 1 how.Under Trunc ∷ []) None left_out) action.Done (cells (to (pos 0) (pos 2)) (to (pos 10) (pos 20)) any any any any)
     ≡ Some (cells (to (pos 0) (pos 2)) (to (pos 5) (pos 20)) any any any any)
 divided = refl
 
-divided_by_zero : post_cells program 2 (worked (alone (item 0)) (target 1 how.Under Trunc ∷ []) None left_out) action.Done (cells (to (pos 0) (pos 0)) (to (pos 10) (pos 20)) any any any any)
+divided_by_zero : post_cells program 2 (worked (alone (item (plain 0))) (target 1 how.Under Trunc ∷ []) None left_out) action.Done (cells (to (pos 0) (pos 0)) (to (pos 10) (pos 20)) any any any any)
     ≡ None
 divided_by_zero = refl
 
 -- with ON SIZE ERROR, on its edge: B isn't read where A may be 0, and keeps its value
-zero_may_divide : post_cells program 2 (worked (alone (item 0)) (target 1 how.Under Trunc ∷ []) None (given no_stmts)) action.Size (cells (to (pos 0) (pos 2)) (to (pos 10) (pos 20)) any any any any)
+zero_may_divide : post_cells program 2 (worked (alone (item (plain 0))) (target 1 how.Under Trunc ∷ []) None (given no_stmts)) action.Size (cells (to (pos 0) (pos 2)) (to (pos 10) (pos 20)) any any any any)
     ≡ Some (cells (to (pos 0) (pos 2)) (to (pos 10) (pos 20)) any any any any)
 zero_may_divide = refl
 
 -- DIVIDE A INTO B D ON SIZE ERROR: each keeps its value or is its quotient
-two_may_be_divided : post_cells program 2 (worked (alone (item 0)) (target 1 how.Under Trunc ∷ target 3 how.Under Trunc ∷ []) None (given no_stmts)) action.Size (cells (to (pos 0) (pos 2)) (to (pos 10) (pos 20)) any (to (pos 100) (pos 300)) any any)
+two_may_be_divided : post_cells program 2 (worked (alone (item (plain 0))) (target 1 how.Under Trunc ∷ target 3 how.Under Trunc ∷ []) None (given no_stmts)) action.Size (cells (to (pos 0) (pos 2)) (to (pos 10) (pos 20)) any (to (pos 100) (pos 300)) any any)
     ≡ Some (cells (to (pos 0) (pos 2)) (to (pos 5) (pos 20)) any (to (pos 50) (pos 300)) any any)
 two_may_be_divided = refl
 
-zero_divides : post_cells program 2 (worked (alone (item 0)) (target 1 how.Under Trunc ∷ []) None (given no_stmts)) action.Size (cells (to (pos 0) (pos 0)) any any any any any)
+zero_divides : post_cells program 2 (worked (alone (item (plain 0))) (target 1 how.Under Trunc ∷ []) None (given no_stmts)) action.Size (cells (to (pos 0) (pos 0)) any any any any any)
     ≡ Some (cells (to (pos 0) (pos 0)) any any any any any)
 zero_divides = refl
 
-no_zero_divides : post_cells program 2 (worked (alone (item 0)) (target 1 how.Under Trunc ∷ []) None (given no_stmts)) action.Size (cells (to (pos 1) (pos 2)) any any any any any)
+no_zero_divides : post_cells program 2 (worked (alone (item (plain 0))) (target 1 how.Under Trunc ∷ []) None (given no_stmts)) action.Size (cells (to (pos 1) (pos 2)) any any any any any)
     ≡ None
 no_zero_divides = refl
 
 -- COMPUTE C ROUNDED = A / B: the quotient is exact until it is stored
-root_rounded : post_cells program 2 (worked (over (item 0) (item 1)) (target 2 how.Whole Round ∷ []) None left_out) action.Done (cells (to (pos 2) (pos 2)) (to (pos 3) (pos 3)) any any any any)
+root_rounded : post_cells program 2 (worked (over (item (plain 0)) (item (plain 1))) (target 2 how.Whole Round ∷ []) None left_out) action.Done (cells (to (pos 2) (pos 2)) (to (pos 3) (pos 3)) any any any any)
     ≡ Some (cells (to (pos 2) (pos 2)) (to (pos 3) (pos 3)) (to (pos 7) (pos 7)) any any any)
 root_rounded = refl
 
-root_cut : post_cells program 2 (worked (over (item 0) (item 1)) (target 2 how.Whole Trunc ∷ []) None left_out) action.Done (cells (to (pos 2) (pos 2)) (to (pos 3) (pos 4)) any any any any)
+root_cut : post_cells program 2 (worked (over (item (plain 0)) (item (plain 1))) (target 2 how.Whole Trunc ∷ []) None left_out) action.Done (cells (to (pos 2) (pos 2)) (to (pos 3) (pos 4)) any any any any)
     ≡ Some (cells (to (pos 2) (pos 2)) (to (pos 3) (pos 4)) (to (pos 5) (pos 6)) any any any)
 root_cut = refl
 
 -- DIVIDE D BY A GIVING B REMAINDER A
-remained : post_cells program 2 (worked (over (item 3) (item 0)) (target 1 how.Whole Trunc ∷ []) (Some 0) left_out) action.Done (cells (to (pos 5) (pos 5)) any any (to (pos 17) (pos 17)) any any)
+remained : post_cells program 2 (worked (over (item (plain 3)) (item (plain 0))) (target 1 how.Whole Trunc ∷ []) (Some 0) left_out) action.Done (cells (to (pos 5) (pos 5)) any any (to (pos 17) (pos 17)) any any)
     ≡ Some (cells (to (pos 2) (pos 2)) (to (pos 3) (pos 3)) any (to (pos 17) (pos 17)) any any)
 remained = refl
 
 -- from 12 to 20 is taken away from 17 to 18, and the rest is less than the divisor
-remained_within : post_cells program 2 (worked (over (item 3) (item 0)) (target 1 how.Whole Trunc ∷ []) (Some 0) left_out) action.Done (cells (to (pos 4) (pos 5)) any any (to (pos 17) (pos 18)) any any)
+remained_within : post_cells program 2 (worked (over (item (plain 3)) (item (plain 0))) (target 1 how.Whole Trunc ∷ []) (Some 0) left_out) action.Done (cells (to (pos 4) (pos 5)) any any (to (pos 17) (pos 18)) any any)
     ≡ Some (cells (to (pos 0) (pos 4)) (to (pos 3) (pos 4)) any (to (pos 17) (pos 18)) any any)
 remained_within = refl
 
 -- where the quotient fails, the remainder may keep its value
-remainder_kept : post_cells program 2 (worked (over (item 3) (item 0)) (target 1 how.Whole Trunc ∷ []) (Some 0) (given no_stmts)) action.Size (cells (to (pos 2) (pos 2)) any any (to (pos 301) (pos 301)) any any)
+remainder_kept : post_cells program 2 (worked (over (item (plain 3)) (item (plain 0))) (target 1 how.Whole Trunc ∷ []) (Some 0) (given no_stmts)) action.Size (cells (to (pos 2) (pos 2)) any any (to (pos 301) (pos 301)) any any)
     ≡ Some (cells (to (pos 1) (pos 2)) any any (to (pos 301) (pos 301)) any any)
 remainder_kept = refl
 
 -- ---- tests
 
 -- A < 5
-below : post_cells program 2 (when (numbers (alone (item 0)) rel.Less (alone (number (numeral (53 ∷ [])))))) (action.True 0) (cells (to (pos 1) (pos 8)) any any any any any)
+below : post_cells program 2 (when (numbers (alone (item (plain 0))) rel.Less (alone (number (numeral (53 ∷ [])))))) (action.True 0) (cells (to (pos 1) (pos 8)) any any any any any)
     ≡ Some (cells (to (pos 1) (pos 4)) any any any any any)
 below = refl
 
-not_below : post_cells program 2 (when (numbers (alone (item 0)) rel.Less (alone (number (numeral (53 ∷ [])))))) (action.False 0) (cells (to (pos 1) (pos 8)) any any any any any)
+not_below : post_cells program 2 (when (numbers (alone (item (plain 0))) rel.Less (alone (number (numeral (53 ∷ [])))))) (action.False 0) (cells (to (pos 1) (pos 8)) any any any any any)
     ≡ Some (cells (to (pos 5) (pos 8)) any any any any any)
 not_below = refl
 
 -- A = C: both sides are cut, by value
-equal_sides : post_cells program 2 (when (numbers (alone (item 0)) rel.Equal (alone (item 2)))) (action.True 0) (cells (to (pos 0) (pos 9)) any (to (pos 15) (pos 32)) any any any)
+equal_sides : post_cells program 2 (when (numbers (alone (item (plain 0))) rel.Equal (alone (item (plain 2))))) (action.True 0) (cells (to (pos 0) (pos 9)) any (to (pos 15) (pos 32)) any any any)
     ≡ Some (cells (to (pos 2) (pos 3)) any (to (pos 20) (pos 30)) any any any)
 equal_sides = refl
 
-never_greater : post_cells program 2 (when (numbers (alone (item 0)) rel.Greater (alone (number (numeral (57 ∷ [])))))) (action.True 0) (cells any any any any any any)
+never_greater : post_cells program 2 (when (numbers (alone (item (plain 0))) rel.Greater (alone (number (numeral (57 ∷ [])))))) (action.True 0) (cells any any any any any any)
     ≡ None
 never_greater = refl
 
 -- A isn't equal to B: an unknown side is read, and nothing is cut where another value may stand beside each
-unequal_sides : post_cells program 2 (when (numbers (alone (item 0)) rel.Equal (alone (item 1)))) (action.False 0) (cells any (to (pos 1) (pos 2)) any any any any)
+unequal_sides : post_cells program 2 (when (numbers (alone (item (plain 0))) rel.Equal (alone (item (plain 1))))) (action.False 0) (cells any (to (pos 1) (pos 2)) any any any any)
     ≡ Some (cells (to (pos 0) (pos 9)) (to (pos 1) (pos 2)) any any any any)
 unequal_sides = refl
 
-unequal_to_one : post_cells program 2 (when (numbers (alone (item 0)) rel.Equal (alone (number (numeral (57 ∷ [])))))) (action.False 0) (cells (to (pos 7) (pos 9)) any any any any any)
+unequal_to_one : post_cells program 2 (when (numbers (alone (item (plain 0))) rel.Equal (alone (number (numeral (57 ∷ [])))))) (action.False 0) (cells (to (pos 7) (pos 9)) any any any any any)
     ≡ Some (cells (to (pos 7) (pos 8)) any any any any any)
 unequal_to_one = refl
 
@@ -287,37 +288,37 @@ ends = refl
 
 -- ---- what is cleared
 
-fits : clears_edge program 2 (worked (alone (item 0)) (target 1 how.Plus Trunc ∷ []) None left_out) action.Done (cells (to (pos 1) (pos 2)) (to (pos 0) (pos 97)) any any any any) kind.Size ≡ true
+fits : clears_edge program 2 (worked (alone (item (plain 0))) (target 1 how.Plus Trunc ∷ []) None left_out) action.Done (cells (to (pos 1) (pos 2)) (to (pos 0) (pos 97)) any any any any) kind.Size ≡ true
 fits = refl
 
-may_exceed : clears_edge program 2 (worked (alone (item 0)) (target 1 how.Plus Trunc ∷ []) None left_out) action.Done (cells (to (pos 1) (pos 2)) (to (pos 0) (pos 98)) any any any any) kind.Size ≡ false
+may_exceed : clears_edge program 2 (worked (alone (item (plain 0))) (target 1 how.Plus Trunc ∷ []) None left_out) action.Done (cells (to (pos 1) (pos 2)) (to (pos 0) (pos 98)) any any any any) kind.Size ≡ false
 may_exceed = refl
 
 -- with ON SIZE ERROR it isn't asked
-handled : clears_edge program 2 (worked (alone (item 0)) (target 1 how.Plus Trunc ∷ []) None (given no_stmts)) action.Size (cells (to (pos 1) (pos 2)) (to (pos 0) (pos 98)) any any any any) kind.Size ≡ true
+handled : clears_edge program 2 (worked (alone (item (plain 0))) (target 1 how.Plus Trunc ∷ []) None (given no_stmts)) action.Size (cells (to (pos 1) (pos 2)) (to (pos 0) (pos 98)) any any any any) kind.Size ≡ true
 handled = refl
 
 -- MOVE D TO A is a truncation where it doesn't fit, and no size error
-truncated : clears_edge program 2 (act.move (sender.Item 3) (0 ∷ [])) action.Assign (cells any any any (to (pos 1) (pos 10)) any any) kind.Truncation ≡ false
+truncated : clears_edge program 2 (act.move (sender.Item (plain 3)) (0 ∷ [])) action.Assign (cells any any any (to (pos 1) (pos 10)) any any) kind.Truncation ≡ false
 truncated = refl
 
-no_size_error : clears_edge program 2 (act.move (sender.Item 3) (0 ∷ [])) action.Assign (cells any any any (to (pos 1) (pos 10)) any any) kind.Size ≡ true
+no_size_error : clears_edge program 2 (act.move (sender.Item (plain 3)) (0 ∷ [])) action.Assign (cells any any any (to (pos 1) (pos 10)) any any) kind.Size ≡ true
 no_size_error = refl
 
-numeric_operands : clears_edge program 2 (worked (alone (item 0)) (target 1 how.Plus Trunc ∷ []) None left_out) action.Done (cells (to (pos 1) (pos 2)) (to (pos 0) (pos 97)) any any any any) kind.Class ≡ true
+numeric_operands : clears_edge program 2 (worked (alone (item (plain 0))) (target 1 how.Plus Trunc ∷ []) None left_out) action.Done (cells (to (pos 1) (pos 2)) (to (pos 0) (pos 97)) any any any any) kind.Class ≡ true
 numeric_operands = refl
 
-unknown_receiver : clears_edge program 2 (worked (alone (item 0)) (target 1 how.Plus Trunc ∷ []) None left_out) action.Done (cells (to (pos 1) (pos 2)) any any any any any) kind.Class ≡ false
+unknown_receiver : clears_edge program 2 (worked (alone (item (plain 0))) (target 1 how.Plus Trunc ∷ []) None left_out) action.Done (cells (to (pos 1) (pos 2)) any any any any any) kind.Class ≡ false
 unknown_receiver = refl
 
-isnt_zero : clears_edge program 2 (worked (alone (item 0)) (target 1 how.Under Trunc ∷ []) None left_out) action.Done (cells (to (pos 1) (pos 2)) any any any any any) kind.Zero ≡ true
+isnt_zero : clears_edge program 2 (worked (alone (item (plain 0))) (target 1 how.Under Trunc ∷ []) None left_out) action.Done (cells (to (pos 1) (pos 2)) any any any any any) kind.Zero ≡ true
 isnt_zero = refl
 
-may_be_zero : clears_edge program 2 (worked (alone (item 0)) (target 1 how.Under Trunc ∷ []) None left_out) action.Done (cells (to (pos 0) (pos 2)) any any any any any) kind.Zero ≡ false
+may_be_zero : clears_edge program 2 (worked (alone (item (plain 0))) (target 1 how.Under Trunc ∷ []) None left_out) action.Done (cells (to (pos 0) (pos 2)) any any any any any) kind.Zero ≡ false
 may_be_zero = refl
 
 -- what no run comes to asks nothing
-unreached : clears_edge program 2 (worked (alone (item 0)) (target 1 how.Under Trunc ∷ []) None left_out) action.Done (cells (to (pos 0) (pos 0)) any any any any any) kind.Class ≡ true
+unreached : clears_edge program 2 (worked (alone (item (plain 0))) (target 1 how.Under Trunc ∷ []) None left_out) action.Done (cells (to (pos 0) (pos 0)) any any any any any) kind.Class ≡ true
 unreached = refl
 
 -- a counter of which nothing is known may not be a number
@@ -355,26 +356,26 @@ tables = record {
 }
 
 -- MOVE A TO E: one occurrence is new, and the others stay; F lies beside it, and R over one of them
-stored_in_one : post_cells tables 1 (act.move (sender.Item 0) (1 ∷ [])) action.Assign (to (pos 5) (pos 5) ∷ to (pos 1) (pos 2) ∷ to (pos 3) (pos 3) ∷ to (pos 10) (pos 10) ∷ [])
+stored_in_one : post_cells tables 1 (act.move (sender.Item (plain 0)) (1 ∷ [])) action.Assign (to (pos 5) (pos 5) ∷ to (pos 1) (pos 2) ∷ to (pos 3) (pos 3) ∷ to (pos 10) (pos 10) ∷ [])
     ≡ Some (to (pos 5) (pos 5) ∷ to (pos 1) (pos 5) ∷ to (pos 3) (pos 3) ∷ any ∷ [])
 stored_in_one = refl
 
-stored_beside_unknown : post_cells tables 1 (act.move (sender.Item 0) (1 ∷ [])) action.Assign (to (pos 5) (pos 5) ∷ any ∷ any ∷ any ∷ [])
+stored_beside_unknown : post_cells tables 1 (act.move (sender.Item (plain 0)) (1 ∷ [])) action.Assign (to (pos 5) (pos 5) ∷ any ∷ any ∷ any ∷ [])
     ≡ Some (to (pos 5) (pos 5) ∷ any ∷ any ∷ any ∷ [])
 stored_beside_unknown = refl
 
 -- MOVE A TO R: both columns have bytes of it
-stored_over_a_row : post_cells tables 1 (act.move (sender.Item 0) (3 ∷ [])) action.Assign (to (pos 5) (pos 5) ∷ to (pos 1) (pos 2) ∷ to (pos 3) (pos 3) ∷ any ∷ [])
+stored_over_a_row : post_cells tables 1 (act.move (sender.Item (plain 0)) (3 ∷ [])) action.Assign (to (pos 5) (pos 5) ∷ to (pos 1) (pos 2) ∷ to (pos 3) (pos 3) ∷ any ∷ [])
     ≡ Some (to (pos 5) (pos 5) ∷ any ∷ any ∷ to (pos 5) (pos 5) ∷ [])
 stored_over_a_row = refl
 
 -- ADD E TO A: one occurrence is read
-read_of_one : post_cells tables 1 (worked (alone (item 1)) (target 0 how.Plus Trunc ∷ []) None left_out) action.Done (to (pos 1) (pos 2) ∷ any ∷ any ∷ any ∷ [])
+read_of_one : post_cells tables 1 (worked (alone (item (plain 1))) (target 0 how.Plus Trunc ∷ []) None left_out) action.Done (to (pos 1) (pos 2) ∷ any ∷ any ∷ any ∷ [])
     ≡ Some (to (pos 1) (pos 9) ∷ any ∷ any ∷ any ∷ [])
 read_of_one = refl
 
 -- E < 5, and E NUMERIC
-below_in_one : post_cells tables 1 (when (numbers (alone (item 1)) rel.Less (alone (number (numeral (53 ∷ [])))))) (action.True 0) (any ∷ to (pos 1) (pos 8) ∷ any ∷ any ∷ [])
+below_in_one : post_cells tables 1 (when (numbers (alone (item (plain 1))) rel.Less (alone (number (numeral (53 ∷ [])))))) (action.True 0) (any ∷ to (pos 1) (pos 8) ∷ any ∷ any ∷ [])
     ≡ Some (any ∷ to (pos 1) (pos 8) ∷ any ∷ any ∷ [])
 below_in_one = refl
 

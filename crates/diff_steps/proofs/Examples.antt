@@ -8,6 +8,7 @@ use Rattle.cob_tree.specs.declared.form.Form.{Form}
 use Rattle.cob_tree.specs.declared.form.Form.TheVariants as form
 use Rattle.cob_tree.specs.declared.form.Usage.TheVariants as usage
 use Rattle.cob_tree.specs.declared.token.Rel.TheVariants as rel
+use Rattle.cob_data.specs.Places.{plain}
 use Rattle.cob_data.specs.declared.layout.Item.{Item}
 use Rattle.cob_data.specs.declared.layout.Sender.TheVariants as sender
 use Rattle.cob_program.specs.declared.act.Target.{Target}
@@ -149,7 +150,7 @@ table_overlapped = refl
 
 -- MOVE C TO A cuts a decimal off a number that isn't negative: in tenths A is at most C, and C at most A + 10. A is then
 -- 0 to 99.
-cut : post_packs program (tenths ∷ []) 1 (act.move (sender.Item 2) (0 ∷ [])) action.Assign
+cut : post_packs program (tenths ∷ []) 1 (act.move (sender.Item (plain 2)) (0 ∷ [])) action.Assign
     (Some (cells any any (to (pos 0) (pos 999)) any)) (nothing ∷ [])
     ≡ words (pos 0) (pos 0) (pos 990) (pos 0) (pos 999) (pos 10) ∷ []
 unfolding sums_through if_small coefs_of
@@ -157,7 +158,7 @@ cut = refl
 
 -- MOVE A TO C, which has no sign, where A is -9 to -2: C is -A, so that in tenths C - A is at most 180, and A - C at most
 -- -40.
-absolute : post_packs program (tenths ∷ []) 1 (act.move (sender.Item 0) (2 ∷ [])) action.Assign
+absolute : post_packs program (tenths ∷ []) 1 (act.move (sender.Item (plain 0)) (2 ∷ [])) action.Assign
     (Some (cells (to (minus 9) (minus 2)) any any any)) (nothing ∷ [])
     ≡ words (pos 90) (minus 20) (minus 20) (minus 40) (pos 90) (pos 180) ∷ []
 unfolding sums_through if_small coefs_of
@@ -165,7 +166,7 @@ absolute = refl
 
 -- MOVE A TO C where A is -9 to 2: neither sign is sure, so that C's difference from A is what their own bounds show. C is
 -- 0 to 9 then, since absolute values of -9 to 2 are.
-of_unknown_sign : post_packs program (tenths ∷ []) 1 (act.move (sender.Item 0) (2 ∷ [])) action.Assign
+of_unknown_sign : post_packs program (tenths ∷ []) 1 (act.move (sender.Item (plain 0)) (2 ∷ [])) action.Assign
     (Some (cells (to (minus 9) (pos 2)) any any any)) (nothing ∷ [])
     ≡ words (pos 90) (pos 0) (pos 20) (pos 20) (pos 90) (pos 180) ∷ []
 unfolding sums_through if_small coefs_of
@@ -174,7 +175,7 @@ of_unknown_sign = refl
 -- ---- size errors
 
 abbrev handled : Act
-handled = worked (alone (item 1)) (target 0 how.Plus Trunc ∷ []) (given no_stmts)
+handled = worked (alone (item (plain 1))) (target 0 how.Plus Trunc ∷ []) (given no_stmts)
 
 -- ADD B TO A ON SIZE ERROR: A may fit and may fail. On this edge it has failed, so that A - B is 985 at most still, and A
 -- 990 to 999. B, which is at least A - 985, is 5 to 20.
@@ -194,21 +195,21 @@ cannot_fit = refl
 -- ---- guards
 
 -- IF A < B: A - B is at most -1, and B at least 1.
-less : post_packs program (whole ∷ []) 1 (when (numbers (alone (item 0)) rel.Less (alone (item 1)))) (action.True 0)
+less : post_packs program (whole ∷ []) 1 (when (numbers (alone (item (plain 0))) rel.Less (alone (item (plain 1))))) (action.True 0)
     (Some (cells (to (pos 0) (pos 10)) (to (pos 0) (pos 20)) any any)) (nothing ∷ [])
     ≡ words (pos 0) (minus 1) (pos 10) (minus 1) (pos 20) (pos 20) ∷ []
 unfolding sums_through if_small coefs_of
 less = refl
 
 -- IF A = B
-equal : post_packs program (whole ∷ []) 1 (when (numbers (alone (item 0)) rel.Equal (alone (item 1)))) (action.True 0)
+equal : post_packs program (whole ∷ []) 1 (when (numbers (alone (item (plain 0))) rel.Equal (alone (item (plain 1))))) (action.True 0)
     (Some (cells (to (pos 0) (pos 10)) (to (pos 3) (pos 20)) any any)) (nothing ∷ [])
     ≡ words (minus 3) (minus 3) (pos 10) (pos 0) (pos 10) (pos 0) ∷ []
 unfolding sums_through if_small coefs_of
 equal = refl
 
 -- IF A < C where a tenth is the pack's unit: A < C is A - C at most -1 tenth.
-finely_less : post_packs program (tenths ∷ []) 1 (when (numbers (alone (item 0)) rel.Less (alone (item 2)))) (action.True 0)
+finely_less : post_packs program (tenths ∷ []) 1 (when (numbers (alone (item (plain 0))) rel.Less (alone (item (plain 2))))) (action.True 0)
     (Some (cells (to (pos 0) (pos 1)) any (to (pos 0) (pos 20)) any)) (nothing ∷ [])
     ≡ words (pos 0) (minus 1) (pos 10) (minus 1) (pos 20) (pos 20) ∷ []
 unfolding sums_through if_small coefs_of

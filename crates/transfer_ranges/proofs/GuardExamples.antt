@@ -4,6 +4,7 @@ use Rattle.std.specs.Prelude.{neg_ℤ}
 use Rattle.interval_domain.specs.declared.bounds.Interval.{Interval}
 use Rattle.interval_domain.specs.Corners.{interval}
 use Rattle.cob_tree.specs.declared.token.Rel.TheVariants as rel
+use Rattle.cob_data.specs.Places.{plain}
 use Rattle.cob_data.specs.declared.layout.Pair.{Pair}
 use Rattle.cob_data.specs.declared.layout.Sender.{Sender}
 use Rattle.cob_data.specs.declared.layout.Sender.TheVariants as sender
@@ -119,25 +120,25 @@ abbrev side : Atom → Sum
 side atom = one_sum false false atom
 
 abbrev nothing_over_zero : Sum
-nothing_over_zero = MkSum (parts_of (MkPart false (factors_of (MkFactor false false (item 0) ∷ MkFactor true false (item 9) ∷ [])) ∷ []))
+nothing_over_zero = MkSum (parts_of (MkPart false (factors_of (MkFactor false false (item (plain 0)) ∷ MkFactor true false (item (plain 9)) ∷ [])) ∷ []))
 
-both_sides : numbers_cut items (side (item 0)) rel.Less (side (item 1)) true ≡ Some (cuts (Some (cut 0 (interval (pos 0) (pos 4)))) (Some (cut 1 (interval (pos 3) (pos 5)))))
+both_sides : numbers_cut items (side (item (plain 0))) rel.Less (side (item (plain 1))) true ≡ Some (cuts (Some (cut 0 (interval (pos 0) (pos 4)))) (Some (cut 1 (interval (pos 3) (pos 5)))))
 both_sides = refl
 
-minus_is_not_cut : numbers_cut items (one_sum false true (item 0)) rel.AtMost (side (item 1)) true ≡ Some (cuts None (Some (cut 1 (interval (pos 3) (pos 5)))))
+minus_is_not_cut : numbers_cut items (one_sum false true (item (plain 0))) rel.AtMost (side (item (plain 1))) true ≡ Some (cuts None (Some (cut 1 (interval (pos 3) (pos 5)))))
 minus_is_not_cut = refl
 
-subtracted_is_not_cut : numbers_cut items (one_sum true false (item 0)) rel.AtMost (side (item 1)) true ≡ Some (cuts None (Some (cut 1 (interval (pos 3) (pos 5)))))
+subtracted_is_not_cut : numbers_cut items (one_sum true false (item (plain 0))) rel.AtMost (side (item (plain 1))) true ≡ Some (cuts None (Some (cut 1 (interval (pos 3) (pos 5)))))
 subtracted_is_not_cut = refl
 
 -- both cuts go by what the item was before
-one_item_twice : numbers_cut items (side (item 3)) rel.Less (side (item 3)) true ≡ Some (cuts (Some (cut 3 (interval (pos 1) (pos 2)))) None)
+one_item_twice : numbers_cut items (side (item (plain 3))) rel.Less (side (item (plain 3))) true ≡ Some (cuts (Some (cut 3 (interval (pos 1) (pos 2)))) None)
 one_item_twice = refl
 
-one_item_never : numbers_cut items (side (item 4)) rel.Less (side (item 4)) true ≡ None
+one_item_never : numbers_cut items (side (item (plain 4))) rel.Less (side (item (plain 4))) true ≡ None
 one_item_never = refl
 
-side_without_a_range : numbers_cut items (side (item 0)) rel.Equal nothing_over_zero false ≡ None
+side_without_a_range : numbers_cut items (side (item (plain 0))) rel.Equal nothing_over_zero false ≡ None
 side_without_a_range = refl
 
 -- ---- ranges of values
@@ -180,14 +181,14 @@ nothing_outside : member_kept items 0 (all_digits ∷ []) false ≡ None
 nothing_outside = refl
 
 -- an item alone is equality with one of its numbers, and at two scales by value
-equal_to_an_item : Keeps (member_kept items 0 (range_of (sender.Item 2) (sender.Item 2) ∷ []) true) (pos 2) (pos 3)
+equal_to_an_item : Keeps (member_kept items 0 (range_of (sender.Item (plain 2)) (sender.Item (plain 2)) ∷ []) true) (pos 2) (pos 3)
 equal_to_an_item = refl
 
-tenths_equal_to_an_item : Keeps (member_kept items 2 (range_of (sender.Item 0) (sender.Item 0) ∷ []) true) (pos 20) (pos 30)
+tenths_equal_to_an_item : Keeps (member_kept items 2 (range_of (sender.Item (plain 0)) (sender.Item (plain 0)) ∷ []) true) (pos 20) (pos 30)
 tenths_equal_to_an_item = refl
 
 -- two items for ends are a range of values
-between_two_items : Keeps (member_kept items 2 (range_of (sender.Item 4) (sender.Item 0) ∷ []) true) (pos 15) (pos 31)
+between_two_items : Keeps (member_kept items 2 (range_of (sender.Item (plain 4)) (sender.Item (plain 0)) ∷ []) true) (pos 15) (pos 31)
 between_two_items = refl
 
 text_test : member_cut false 0 (Some (interval (pos 0) (pos 0))) ≡ Some unchanged

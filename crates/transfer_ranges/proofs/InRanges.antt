@@ -240,7 +240,7 @@ members_least range place ps wanted =
 
 module _ (narrow wide : ℕ → Ranged) (within : (place : ℕ) → IsNarrower (narrow place) (wide place)) where
   end_narrower : (a : Sender) → IsNarrower (end_range narrow a) (end_range wide a)
-  end_narrower (sender.Item place) = within place
+  end_narrower (sender.Item p) = within p.item
   end_narrower (sender.Number n) = point_narrower (literal n)
   end_narrower (sender.Text text) = point_narrower (whole_number (pos 0))
   end_narrower (sender.Fill byte) = point_narrower (whole_number (pos 0))
