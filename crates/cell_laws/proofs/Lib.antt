@@ -1,5 +1,6 @@
 pub mod Entry
 pub mod FirstBytes
+pub mod EntryExamples
 pub mod Flow
 pub mod Clears
 pub mod Meaning

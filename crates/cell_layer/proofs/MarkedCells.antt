@@ -55,18 +55,19 @@ marks_as_wide p cells row e marks r is =
 
 -- ---- where the marks of an item stand
 
-found : (home d : Home) (hs : List Home) (k : ℕ) → number_in home hs ≡ Some k → get_or hs k d ≡ home
-found home d [] k e = absurd cc
-found home d (h ∷ hs) k e = go (is_home h home) refl (number_in home hs) refl k e
+home_at : (home d : Home) (hs : List Home) (k : ℕ) → number_in home hs ≡ Some k → get_or hs k d ≡ home
+home_at home d [] k e = absurd cc
+home_at home d (h ∷ hs) k e = go (is_home h home) refl (number_in home hs) refl k e (λ j. home_at home d hs j)
   where
-    go : (here : Bool) → is_home h home ≡ here → (o : Option ℕ) → number_in home hs ≡ o → (k : ℕ) → (if here then Some 0 else option_map suc o) ≡ Some k → get_or (h ∷ hs) k d ≡ home
-    go true is o at zero f = home_is h home is
-    go true is o at (suc k) f = absurd cc
-    go false is None at k f = absurd cc
-    go false is (Some j) at zero f = absurd cc
-    go false is (Some j) at (suc k) f =
+    go : (here : Bool) → is_home h home ≡ here → (o : Option ℕ) → number_in home hs ≡ o → (k : ℕ) → (if here then Some 0 else option_map suc o) ≡ Some k
+        → ((j : ℕ) → number_in home hs ≡ Some j → get_or hs j d ≡ home) → get_or (h ∷ hs) k d ≡ home
+    go true is o at zero f rest = home_is h home is
+    go true is o at (suc k) f rest = absurd cc
+    go false is None at k f rest = absurd cc
+    go false is (Some j) at zero f rest = absurd cc
+    go false is (Some j) at (suc k) f rest =
         let same : j ≡ k = cc in
-        found home d hs k (at ∙ ap Some same)
+        rest k (at ∙ ap Some same)
 
 module _ (p : Program) (cells : List Cell) (same : cells ≡ cells_of p) (place k : ℕ) (at : number_of p (of_item place) ≡ Some k) where
   inside : k < length cells
@@ -82,7 +83,7 @@ module _ (p : Program) (cells : List Cell) (same : cells ≡ cells_of p) (place 
       item_got cells k d inside
       ∙ (ap (λ os. get_or os k None) items_are
       ∙ (get_or-map item_of (homes_of p) k (of_item place) None (number_within (of_item place) (homes_of p) k at)
-      ∙ ap item_of (found (of_item place) (of_item place) (homes_of p) k at)))
+      ∙ ap item_of (home_at (of_item place) (of_item place) (homes_of p) k at)))
 
   module _ (marks : List (Vec Bool Global)) (are : AreMarks p cells marks) where
     pub marks_within : k < length marks

@@ -68,19 +68,16 @@ module _ (p : Program) (a : Act) (x : Action) where
   cells_if s None = refl
   cells_if s (Some cs) = refl
 
+  read_if_same : (b : Bool) (place : ℕ) (s : Seen) →
+      (if b then trim s else with_cells (trim s) (read_cells p (of_item place) s.cells)) ≡ trim (if b then s else with_cells s (read_cells p (of_item place) s.cells))
+  read_if_same true place s = refl
+  read_if_same false place s = refl
+
   read_same : (place : ℕ) (s : Seen) → after_read p place (trim s) ≡ trim (after_read p place s)
-  read_same place s = go (s.may_zero || is_table p.layout place)
-    where
-      go : (b : Bool) → (if b then trim s else with_cells (trim s) (read_cells p (of_item place) s.cells)) ≡ trim (if b then s else with_cells s (read_cells p (of_item place) s.cells))
-      go true = refl
-      go false = refl
+  read_same place s = read_if_same (s.may_zero || is_table p.layout place) place s
 
   subscript_same : (last : Bool) (k : ℕ) (s : Seen) → after_subscript p last k (trim s) ≡ trim (after_subscript p last k s)
-  subscript_same last k s = go (shows_nothing p last k s)
-    where
-      go : (b : Bool) → (if b then trim s else with_cells (trim s) (read_cells p (of_item k) s.cells)) ≡ trim (if b then s else with_cells s (read_cells p (of_item k) s.cells))
-      go true = refl
-      go false = refl
+  subscript_same last k s = read_if_same (shows_nothing p last k s) k s
 
   index_same : (last : Bool) (k count : ℕ) (s : Seen) → after_index p last k count (trim s) ≡ option_map (trimmed p a x) (after_index p last k count s)
   index_same last k count s = go (shows_nothing p last k s)

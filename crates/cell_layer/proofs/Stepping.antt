@@ -180,19 +180,15 @@ module _ (p : Program) (a : Act) (x : Action) where
       by_keeping true o = tt
       by_keeping false o = units_fit_form mode (form_at p.layout place) o
 
+  read_if_can : (b : Bool) (place : ℕ) (s : Seen) → Can s → Can (if b then s else with_cells s (read_cells p (of_item place) s.cells))
+  read_if_can true place s can = can
+  read_if_can false place s can = with_other s (read_cells p (of_item place) s.cells) can (read_cells_below p (of_item place) s.cells s.cells (itself p s.cells can.fits)).fits
+
   read_can : (place : ℕ) (s : Seen) → Can s → Can (after_read p place s)
-  read_can place s can = go (s.may_zero || is_table p.layout place)
-    where
-      go : (b : Bool) → Can (if b then s else with_cells s (read_cells p (of_item place) s.cells))
-      go true = can
-      go false = with_other s (read_cells p (of_item place) s.cells) can (read_cells_below p (of_item place) s.cells s.cells (itself p s.cells can.fits)).fits
+  read_can place s can = read_if_can (s.may_zero || is_table p.layout place) place s can
 
   subscript_can : (last : Bool) (k : ℕ) (s : Seen) → Can s → Can (after_subscript p last k s)
-  subscript_can last k s can = go (shows_nothing p last k s)
-    where
-      go : (b : Bool) → Can (if b then s else with_cells s (read_cells p (of_item k) s.cells))
-      go true = can
-      go false = with_other s (read_cells p (of_item k) s.cells) can (read_cells_below p (of_item k) s.cells s.cells (itself p s.cells can.fits)).fits
+  subscript_can last k s can = read_if_can (shows_nothing p last k s) k s can
 
   index_can : (last : Bool) (k count : ℕ) (s : Seen) → Can s → IfSome (after_index p last k count s) (CanStep p a x)
   index_can last k count s can = go (shows_nothing p last k s)

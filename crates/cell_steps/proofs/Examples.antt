@@ -22,6 +22,10 @@ use Rattle.cob_program.specs.Act as act
 use Rattle.cob_runs.specs.declared.action.Action.TheVariants as action
 use Rattle.interval_domain.specs.Corners.{interval}
 use Rattle.interval_domain.specs.Known.{Known}
+use Rattle.cob_edge_parts.specs.Parts.{subscript, index}
+use Rattle.cell_steps.specs.Seen.{Seen, beginning, with_zero}
+use Rattle.cell_steps.specs.Steps.{step}
+use Rattle.cell_steps.specs.Clearing.{clears_part}
 use Rattle.cell_steps.specs.Edges.{post_cells, clears_edge}
 
 -- ---- A PIC 9, B PIC S99, C PIC 9V9, D PIC 999, X PIC XXX over D, E PIC Z9, T PIC X(20), and PERFORM .. A TIMES
@@ -333,6 +337,58 @@ count_may_exceed = refl
 
 count_fits : clears_edge program 1 loop action.Down (cells any any any any any (to (pos 1) (pos 9))) kind.Size ≡ true
 count_fits = refl
+
+-- ---- subscripts
+
+-- DIVIDE D BY B GIVING D REMAINDER D ON SIZE ERROR, of which parts are tried
+abbrev dividing : Act
+dividing = worked (over (item 3) (item 1)) (target 3 how.Whole Trunc ∷ []) (Some 3) (given no_stmts)
+
+abbrev of_a : Known → List Known
+of_a a = cells a any any any any any
+
+abbrev failed : List Known → Seen
+failed cells = record { cells = cells; written = false; common = None; may_zero = false; any_fail = true }
+
+-- A is read, and names one of five occurrences
+a_is_read : step program dividing action.Size (subscript false 0) (beginning (of_a any)) ≡ Some (beginning (of_a (to (pos 0) (pos 9))))
+a_is_read = refl
+
+a_names_one : step program dividing action.Size (index false 0 5) (beginning (of_a (to (pos 0) (pos 9)))) ≡ Some (beginning (of_a (to (pos 1) (pos 5))))
+a_names_one = refl
+
+a_names_none : step program dividing action.Size (index false 0 5) (beginning (of_a (to (pos 6) (pos 9)))) ≡ None
+a_names_none = refl
+
+-- where the turn may not come A stays what it was: behind a divisor that may be 0, and of a remainder
+zero_may_stop_it : step program dividing action.Size (index false 0 5) (with_zero (beginning (of_a (to (pos 6) (pos 9)))) true)
+    ≡ Some (with_zero (beginning (of_a (to (pos 6) (pos 9)))) true)
+zero_may_stop_it = refl
+
+failure_may_stop_it : step program dividing action.Size (index true 0 5) (failed (of_a (to (pos 0) (pos 9)))) ≡ Some (failed (of_a (to (pos 0) (pos 9))))
+failure_may_stop_it = refl
+
+failure_stops_remainders_alone : step program dividing action.Size (index false 0 5) (failed (of_a (to (pos 0) (pos 9)))) ≡ Some (failed (of_a (to (pos 1) (pos 5))))
+failure_stops_remainders_alone = refl
+
+-- it is asked also where its turn may not come
+names_one_of_five : clears_part program dividing action.Size (index true 0 5) (failed (of_a (to (pos 1) (pos 5)))) kind.Subscript ≡ true
+names_one_of_five = refl
+
+may_be_zeroth : clears_part program dividing action.Size (index true 0 5) (failed (of_a (to (pos 0) (pos 5)))) kind.Subscript ≡ false
+may_be_zeroth = refl
+
+may_be_beyond : clears_part program dividing action.Size (index false 0 5) (beginning (of_a (to (pos 1) (pos 6)))) kind.Subscript ≡ false
+may_be_beyond = refl
+
+unknown_may_be_zeroth : clears_part program dividing action.Size (index false 0 9) (beginning (of_a any)) kind.Subscript ≡ false
+unknown_may_be_zeroth = refl
+
+may_not_be_numeric : clears_part program dividing action.Size (subscript false 0) (beginning (of_a any)) kind.Class ≡ false
+may_not_be_numeric = refl
+
+no_other_fault : clears_part program dividing action.Size (index false 0 5) (beginning (of_a any)) kind.Class ≡ true
+no_other_fault = refl
 
 -- ---- A PIC 9, a table of three rows with E PIC 9 and F PIC 9 in each, and R PIC 99 over its second row
 

@@ -8,7 +8,13 @@ use crate::fault::Kind;
 pub fn all_kinds() -> [Kind; 5]
     ensures { result ≡ all_kinds }
 {
-    [Kind::Size, Kind::Truncation, Kind::Zero, Kind::Class, Kind::Subscript]
+    [
+        Kind::Size,
+        Kind::Truncation,
+        Kind::Zero,
+        Kind::Class,
+        Kind::Subscript,
+    ]
 }
 
 impl Kind {

@@ -7,7 +7,7 @@ use Rattle.cob_program.specs.Logic.{Test, numbers, texts, member, numeric, alway
 use Rattle.cob_program.specs.Act.{Act, Program}
 use Rattle.cob_runs.specs.declared.action.Action.{Action}
 use Rattle.cob_runs.specs.Contents.{form_at}
-use Rattle.cob_edge_parts.specs.Parts.{Amount, Part, read, unread, divide, store, bytes_in, guard, read_count, set_count, count_down, guard_count}
+use Rattle.cob_edge_parts.specs.Parts.{Amount, Part, read, unread, subscript, index, divide, store, bytes_in, guard, read_count, set_count, count_down, guard_count}
 use Rattle.diff_bounds.specs.declared.form.lin.Lin.{Lin}
 use Rattle.transfer_ranges.specs.declared.amounts.Taken.{Taken}
 use Rattle.transfer_ranges.specs.declared.amounts.Receiver.{Receiver}
@@ -115,6 +115,8 @@ module _ (p : Program) (a : Act) (x : Action) where
       plan_changed p s.cells common latest wrote y pack m ≡ changed_pack p a x y s wrote pack m
   part_is (read place) s common latest wrote pack m kept = refl
   part_is unread s common latest wrote pack m kept = refl
+  part_is (subscript last k) s common latest wrote pack m kept = refl
+  part_is (index last k count) s common latest wrote pack m kept = refl
   part_is (divide d) s common latest wrote pack m kept = refl
   part_is (store place mode y) s common latest wrote pack m kept = store_is (with_taken p a x s) s.cells common (taken_cells s) kept.0 wrote pack latest place mode y m kept.1
   part_is (bytes_in offset count) s common latest wrote pack m kept = refl
@@ -148,6 +150,8 @@ module _ (p : Program) (a : Act) (x : Action) where
       IsKept y s t.common latest
   kept_behind (read place) s t latest before small e told = tt
   kept_behind unread s t latest before small e told = tt
+  kept_behind (subscript last k) s t latest before small e told = tt
+  kept_behind (index last k count) s t latest before small e told = tt
   kept_behind (divide d) s t latest before small e told = tt
   kept_behind (store place mode y) s t latest before small e told =
       (stored_common (with_taken_small p a x s) t _ _ e ∙ ap (λ (u : Seen). u.common) (all_is_taken p a x small.sender s), told)

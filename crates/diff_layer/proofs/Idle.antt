@@ -4,7 +4,7 @@ use Rattle.std.specs.List.{AllByRecursion}
 use Rattle.cob_data.specs.declared.extent.Extent.{Extent}
 use Rattle.cob_program.specs.Values.{◌>>=◌}
 use Rattle.cob_program.specs.Act.{Program}
-use Rattle.cob_edge_parts.specs.Parts.{Part, read, unread, divide, store, bytes_in, guard, read_count, set_count, count_down, guard_count}
+use Rattle.cob_edge_parts.specs.Parts.{Part, read, unread, subscript, index, divide, store, bytes_in, guard, read_count, set_count, count_down, guard_count}
 use Rattle.transfer_ranges.specs.declared.amounts.Taken.{Taken}
 use Rattle.interval_domain.specs.Known.{Known}
 use Rattle.cob_graph.specs.declared.homes.Home.{Home}
@@ -19,6 +19,8 @@ module _ (p : Program) (before known : List Known) (common : Option Taken) (late
   nothing_changed : (y : Part) → IsIdle y → (pack : Pack) (m : List ℤ) → plan_changed p before common latest wrote y pack m ≡ m
   nothing_changed (read place) idle pack m = refl
   nothing_changed unread idle pack m = refl
+  nothing_changed (subscript last k) idle pack m = refl
+  nothing_changed (index last k count) idle pack m = refl
   nothing_changed (divide d) idle pack m = refl
   nothing_changed (store place mode y) idle pack m = absurd idle
   nothing_changed (bytes_in offset count) idle pack m = absurd idle

@@ -7,7 +7,7 @@ use Rattle.cob_data.specs.declared.extent.Extent.{Extent}
 use Rattle.cob_program.specs.Values.{◌>>=◌}
 use Rattle.cob_program.specs.Act.{Act, Program}
 use Rattle.cob_runs.specs.declared.action.Action.{Action}
-use Rattle.cob_edge_parts.specs.Parts.{Amount, moved, computed, remaining, augmented, Part, read, unread, divide, store, bytes_in, guard, read_count, set_count, count_down, guard_count}
+use Rattle.cob_edge_parts.specs.Parts.{Amount, moved, computed, remaining, augmented, Part, read, unread, subscript, index, divide, store, bytes_in, guard, read_count, set_count, count_down, guard_count}
 use Rattle.transfer_ranges.specs.declared.amounts.Taken.{Taken}
 use Rattle.transfer_ranges.specs.Working.{CanWork}
 use Rattle.interval_domain.specs.Known.{Known}
@@ -43,6 +43,8 @@ module _ (p : Program) (a : Act) (x : Action) where
   pub written_to : (y : Part) (wrote : List Extent) (written : Bool) → IsOfEdge p a x y → written ≡ are_written p.layout wrote (edge_items a x) → IsWrittenTo p.layout wrote written y
   written_to (read place) wrote written of_edge e = tt
   written_to unread wrote written of_edge e = tt
+  written_to (subscript last k) wrote written of_edge e = tt
+  written_to (index last k count) wrote written of_edge e = tt
   written_to (divide d) wrote written of_edge e = tt
   written_to (store place mode y) wrote written of_edge e =
       e ∙ ∥∥₁_elim of_edge.operands (hlevel props) (λ same. ap (are_written p.layout wrote) (ap items_of_amount same ∙ operand_items y))
@@ -66,6 +68,8 @@ module _ (p : Program) (a : Act) (x : Action) where
   pub can_change : (y : Part) (s t : Seen) → IsSmallPart p a x y → IsOfEdge p a x y → CanStep p a x s → step_small p a x y s ≡ Some t → CanChange p s.cells t.common y
   can_change (read place) s t small of_edge can e = tt
   can_change unread s t small of_edge can e = tt
+  can_change (subscript last k) s t small of_edge can e = tt
+  can_change (index last k count) s t small of_edge can e = tt
   can_change (divide d) s t small of_edge can e = tt
   can_change (store place mode y) s t small of_edge can e =
       let w = with_taken_small p a x s in
@@ -93,6 +97,8 @@ module _ (p : Program) (a : Act) (x : Action) where
   bytes_same : (y : Part) → written_by p a x y ≡ part_bytes (keeps_receiver a x) p.layout y
   bytes_same (read place) = refl
   bytes_same unread = refl
+  bytes_same (subscript last k) = refl
+  bytes_same (index last k count) = refl
   bytes_same (divide d) = refl
   bytes_same (store place mode y) = refl
   bytes_same (bytes_in offset count) = refl
@@ -130,6 +136,8 @@ pub set_can : (p : Program) (known : List Known) (common : Option Taken) (y : Pa
 set_can p known common (set_count n z) is top = top
 set_can p known common (read place) is top = absurd is
 set_can p known common unread is top = absurd is
+set_can p known common (subscript last k) is top = absurd is
+set_can p known common (index last k count) is top = absurd is
 set_can p known common (divide d) is top = absurd is
 set_can p known common (store place mode y) is top = absurd is
 set_can p known common (bytes_in offset count) is top = absurd is

@@ -11,7 +11,7 @@ use Rattle.cob_program.specs.Sum.{Atom}
 use Rattle.cob_program.specs.Act.{Act, Program}
 use Rattle.cob_runs.specs.declared.action.Action.{Action}
 use Rattle.cob_runs.specs.Contents.{form_at}
-use Rattle.cob_edge_parts.specs.Parts.{Amount, Part, divide, store, set_count, count_down}
+use Rattle.cob_edge_parts.specs.Parts.{Amount, Part, index, divide, store, set_count, count_down}
 use Rattle.transfer_ranges.specs.declared.amounts.Taken.{Taken}
 use Rattle.transfer_ranges.specs.declared.amounts.Receiver.{Receiver}
 use Rattle.transfer_ranges.specs.declared.amounts.AmountRange.{AmountRange}
@@ -20,7 +20,7 @@ use Rattle.transfer_ranges.specs.Receivers.{receiver_of, counter}
 use Rattle.transfer_ranges.specs.ResultRanges.{most, near_range, lowered}
 use Rattle.transfer_ranges.specs.Working.{amount_from}
 use Rattle.interval_domain.specs.Known.{Known}
-use Rattle.cob_graph.specs.declared.homes.Home.TheVariants.{Count as of_count}
+use Rattle.cob_graph.specs.declared.homes.Home.TheVariants.{Item as of_item, Count as of_count}
 use Rattle.cob_graph.specs.Homes.{homes_of}
 use Rattle.cell_steps.specs.Cells.{units_of}
 use Rattle.transfer_ranges.specs.EdgeOperands.{is_remainder}
@@ -33,6 +33,7 @@ use Rattle.diff_steps.specs.Moments.{Seen2}
 use Rattle.diff_steps.specs.Packs.{Pack}
 use Rattle.diff_layer.specs.Views.{taken_at}
 use Rattle.diff_layer.specs.Ends.{some_end}
+use Rattle.diff_layer.specs.Indexes.{index_shown}
 
 -- what is known of cells shows the divisor not to be 0
 abbrev pub divisor_apart : Program → List Known → Atom → Pack → List ℤ → Bool
@@ -83,9 +84,15 @@ module _ (p : Program) (packs : List Pack) where
   down_cleared n s r =
       range_shown p s.cells s.common r.wrote (count_down n) Trunc counter packs r.packs (lowered (units_of p.layout (homes_of p) s.cells (of_count n)))
 
+  abbrev pub index_cleared : ℕ → ℕ → Seen → Seen2 → Kind → Bool
+  index_cleared k count s r kind.Subscript =
+      index_shown p s.cells k count packs r.packs (units_of p.layout (homes_of p) s.cells (of_item k))
+  index_cleared k count s r _ = false
+
 module _ (p : Program) (packs : List Pack) (a : Act) (x : Action) where
   -- the fault of a part that the first layer doesn't clear
   abbrev pub part_cleared : Part → Seen → Seen2 → Kind → Bool
+  part_cleared (index last k count) s r fault = index_cleared p packs k count s r fault
   part_cleared (divide d) s r kind.Zero = some_pack (divisor_apart p s.cells d) packs r.packs
   part_cleared (store place mode y) s r fault = store_cleared p packs a x place mode y s r
   part_cleared (set_count n y) s r kind.Size = set_cleared p packs a x (set_count n y) s r

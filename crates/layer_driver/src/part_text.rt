@@ -108,6 +108,8 @@ pub fn write_part(text: &mut String, part: EdgePart) -> Result<(), AllocError> {
     match part {
         EdgePart::Read(item) => write!(text, "read i{item}"),
         EdgePart::Unread => text.push_str("unread"),
+        EdgePart::Subscript { last, item } => write!(text, "subscript {last} i{item}"),
+        EdgePart::Index { last, item, count } => write!(text, "index {last} i{item} {count}"),
         EdgePart::Divide(divisor) => {
             text.push_str("divide ")?;
             write_divisor(text, divisor)

@@ -48,16 +48,16 @@ module _ (z u : ℤ) (f scale : ℕ) (whole : scale ≡ 0) where
       alone x = omega (arith, ints)
 
   high_by : (count : ℕ) → (z *ℤ pos (10 ^ f)) ≤ℤ (u *ℤ pos (10 ^ scale)) → int_le u (pos (count * 10 ^ f)) ≡ true → z ≤ℤ pos count
-  high_by count under e = times_cancel z (pos count) (10 ^ f) (ten_positive f) (below (10 ^ f) (subst (λ (y : ℤ). (z *ℤ pos (10 ^ f)) ≤ℤ y) (at_scale u) under) e)
+  high_by count under e = times_cancel z (pos count) (10 ^ f) (ten_positive f) (below (z *ℤ pos (10 ^ f)) (pos (count * 10 ^ f)) (subst (λ (y : ℤ). (z *ℤ pos (10 ^ f)) ≤ℤ y) (at_scale u) under) e)
     where
-      below : (n : ℕ) → (z *ℤ pos n) ≤ℤ u → int_le u (pos (count * n)) ≡ true → (z *ℤ pos n) ≤ℤ (pos count *ℤ pos n)
-      below n a b = omega (arith, ints, a, b)
+      below : (x y : ℤ) → x ≤ℤ u → int_le u y ≡ true → x ≤ℤ y
+      below x y a b = omega (arith, ints, a, b)
 
   low_by : (neg_ℤ u *ℤ pos (10 ^ scale)) ≤ℤ (z *ℤ pos (10 ^ f)) → int_le u (neg_ℤ (pos (10 ^ f))) ≡ true → pos 1 ≤ℤ z
-  low_by over e = times_cancel (pos 1) z (10 ^ f) (ten_positive f) (above (10 ^ f) (subst (λ (y : ℤ). y ≤ℤ (z *ℤ pos (10 ^ f))) (at_scale (neg_ℤ u)) over) e)
+  low_by over e = times_cancel (pos 1) z (10 ^ f) (ten_positive f) (above (10 ^ f) (z *ℤ pos (10 ^ f)) (subst (λ (y : ℤ). y ≤ℤ (z *ℤ pos (10 ^ f))) (at_scale (neg_ℤ u)) over) e)
     where
-      above : (n : ℕ) → neg_ℤ u ≤ℤ (z *ℤ pos n) → int_le u (neg_ℤ (pos n)) ≡ true → (pos 1 *ℤ pos n) ≤ℤ (z *ℤ pos n)
-      above n a b = omega (arith, ints, a, b)
+      above : (n : ℕ) (x : ℤ) → neg_ℤ u ≤ℤ x → int_le u (neg_ℤ (pos n)) ≡ true → (pos 1 *ℤ pos n) ≤ℤ x
+      above n x a b = omega (arith, ints, a, b)
 
 module _ (p : Program) (packs : List Pack) (of : ArePacksOf p packs) (statement : ℕ) (a : Act) (x : Action) where
   module _ (done : List Part) (k : ℕ) (s : Seen) (r : Seen2) (m : Moment) (v : Scaled) (g : Agrees2 p packs statement a x done s r m) (has : subscript_in p.layout m k ≡ Some v) where

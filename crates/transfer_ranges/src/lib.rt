@@ -25,8 +25,8 @@ mod stores;
 mod units;
 
 pub use amount_ranges::{amount_of, is_remainder, may_divide_by_zero};
-pub use beside::met;
 pub use amounts::{Amount, AmountRange, Receiver, Taken};
+pub use beside::met;
 pub use counts::count_kept;
 pub use cuts::{Cut, Cuts};
 pub use edge_operands::{edge_amount, operands, operands_vanish};

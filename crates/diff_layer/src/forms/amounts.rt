@@ -50,7 +50,7 @@ fn own_range(items: &KnownItems, place: u32) -> Ranged
     item_range(items.program, items.cells, items.row, place)
 }
 
-fn own_form(items: &KnownItems, pack: &PackView, place: u32) -> Option<Lin>
+pub(crate) fn own_form(items: &KnownItems, pack: &PackView, place: u32) -> Option<Lin>
     requires fits { CellsFit (owns (program_of items.now)) (known_in items.now) }
     requires own { is_small (bound_at (program_of items.now).layout place) ≡ true }
     ensures value { result ≡ own_by pack.now.decimals (item_cell pack.now)

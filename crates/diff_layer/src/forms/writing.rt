@@ -154,6 +154,8 @@ pub(crate) fn writes_operands(program: &Program, act: &Act, action: Action, part
         ),
         EdgePart::Read(_)
         | EdgePart::Unread
+        | EdgePart::Subscript { .. }
+        | EdgePart::Index { .. }
         | EdgePart::Divide(_)
         | EdgePart::Guard { .. }
         | EdgePart::ReadCount(_)

@@ -78,7 +78,7 @@ pub fn passes_edge(edges: &PackWorks, at: usize, fact: &[i128], out: &mut [i128]
 fn is_all(kinds: Kinds) -> bool
     ensures { IsTrue result → kinds ≡ every_kind }
 {
-    kinds.size && kinds.truncation && kinds.zero && kinds.class
+    kinds.size && kinds.truncation && kinds.zero && kinds.class && kinds.subscript
 }
 
 /// The kinds of faults that both layers show no part of an edge to meet, beside room for two rows of cells and one of

@@ -46,6 +46,8 @@ fn change(moment: &Moment, pack: &PackView, m: &mut [i128], part: EdgePart)
         EdgePart::CountDown(number) => count_down(&moment.items, pack, m, number),
         EdgePart::Read(_)
         | EdgePart::Unread
+        | EdgePart::Subscript { .. }
+        | EdgePart::Index { .. }
         | EdgePart::Divide(_)
         | EdgePart::ReadCount(_)
         | EdgePart::GuardCount { .. } => {}

@@ -69,6 +69,8 @@ fn form_for(moment: &Moment, pack: &PackView, part: EdgePart) -> Option<Lin>
         EdgePart::CountDown(number) => lowered_form(items, pack, number),
         EdgePart::Read(_)
         | EdgePart::Unread
+        | EdgePart::Subscript { .. }
+        | EdgePart::Index { .. }
         | EdgePart::Divide(_)
         | EdgePart::Bytes { .. }
         | EdgePart::Guard { .. }

@@ -37,6 +37,7 @@ ghost use Rattle.diff_layer.specs.Clears.{
   store_cleared,
   set_cleared,
   down_cleared,
+  index_cleared,
   part_cleared,
   IsSetCount,
 };
@@ -61,6 +62,7 @@ use crate::forms::sides::divisor_form;
 use crate::pack::closing::close_all;
 use crate::pack::edge::{PackEdge, PackState};
 use crate::pack::ends::{end_is_shown, high_end_fits, low_end_fits};
+use crate::pack::indexing::{Indexed, index_clears};
 use crate::pack::matrix_bounds::is_apart;
 use crate::pack::moment::{Matrices, Moment, Slot};
 use crate::pack::plans::{PackPlan, view_of, words_for};
@@ -408,6 +410,18 @@ fn down_clears(moment: &Moment, matrices: &Matrices, number: u32) -> bool
     counter_fits(moment, matrices, EdgePart::CountDown(number), units)
 }
 
+fn index_is_shown(moment: &Moment, matrices: &Matrices, index: Indexed, fault: Kind) -> bool
+    requires matrices { AreMatricesOf (program_at moment.now) matrices.now }
+    requires small { is_small (bound_at (program_at moment.now).layout index.item) ≡ true }
+    ensures { (wrote : List Extent) → result ≡ index_cleared (program_at moment.now) (packs_in matrices.now) index.item
+        index.count (seen_at moment.now) (seen2 wrote (words_in matrices.now)) fault }
+{
+    match fault {
+        Kind::Subscript => index_clears(&moment.items, matrices, index),
+        Kind::Size | Kind::Zero | Kind::Class | Kind::Truncation => false,
+    }
+}
+
 // whether the fault of a part is not met, where the first layer doesn't show it
 fn is_shown(moment: &Moment, matrices: &Matrices, part: EdgePart, fault: Kind) -> bool
     requires matrices { AreMatricesOf (program_at moment.now) matrices.now }
@@ -423,21 +437,25 @@ fn is_shown(moment: &Moment, matrices: &Matrices, part: EdgePart, fault: Kind) -
     match part {
         EdgePart::Divide(divisor) => match fault {
             Kind::Zero => is_apart_in_some(&moment.items, matrices.plans, matrices.words, divisor),
-            Kind::Size | Kind::Class | Kind::Truncation => false,
+            Kind::Size | Kind::Class | Kind::Truncation | Kind::Subscript => false,
         },
+        EdgePart::Index { item, count, .. } => {
+            index_is_shown(moment, matrices, Indexed { item, count }, fault)
+        }
         EdgePart::Store { item, mode, amount } => {
             store_clears(moment, matrices, item, mode, amount)
         }
         EdgePart::SetCount { .. } => match fault {
             Kind::Size => set_clears(moment, matrices, part),
-            Kind::Zero | Kind::Class | Kind::Truncation => false,
+            Kind::Zero | Kind::Class | Kind::Truncation | Kind::Subscript => false,
         },
         EdgePart::CountDown(number) => match fault {
             Kind::Size => down_clears(moment, matrices, number),
-            Kind::Zero | Kind::Class | Kind::Truncation => false,
+            Kind::Zero | Kind::Class | Kind::Truncation | Kind::Subscript => false,
         },
         EdgePart::Read(_)
         | EdgePart::Unread
+        | EdgePart::Subscript { .. }
         | EdgePart::Bytes { .. }
         | EdgePart::Guard { .. }
         | EdgePart::ReadCount(_)
@@ -487,6 +505,7 @@ fn kinds_cleared(moment: &Moment, matrices: &Matrices, part: EdgePart, by_cells:
         truncation: clears(moment, matrices, part, by_cells, Kind::Truncation),
         zero: clears(moment, matrices, part, by_cells, Kind::Zero),
         class: clears(moment, matrices, part, by_cells, Kind::Class),
+        subscript: clears(moment, matrices, part, by_cells, Kind::Subscript),
     }
 }
 

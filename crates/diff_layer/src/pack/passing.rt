@@ -188,6 +188,8 @@ fn is_idle(part: EdgePart) -> bool
     match part {
         EdgePart::Read(_)
         | EdgePart::Unread
+        | EdgePart::Subscript { .. }
+        | EdgePart::Index { .. }
         | EdgePart::Divide(_)
         | EdgePart::ReadCount(_)
         | EdgePart::GuardCount { .. } => true,

@@ -4,8 +4,8 @@ use Rattle.cell_layer.specs.Firsts.{number_of}
 use Rattle.cell_layer.proofs.FirstCells.{number_ordered, least_next}
 use Rattle.cell_layer.proofs.layer.firsts.known_by_values.Goals as goal
 
-pub loop-number-initial : goal.loop-number-initial
-loop-number-initial c =
+pub loop-number-init : goal.loop-number-init
+loop-number-init c =
     let x = c.args in
     record {
       some = omega arith;
@@ -13,8 +13,8 @@ loop-number-initial c =
       ordered = subst IsOrdered (sym c.known_at-known.ensures) (number_ordered (number_of x.item.now x.zeros.now x.ones.now 0));
     }
 
-pub joined_known-requires-clause-b : goal.joined_known-requires-clause-b
-joined_known-requires-clause-b c =
+pub joined_known-known-requires-clause-b : goal.joined_known-known-requires-clause-b
+joined_known-known-requires-clause-b c =
     let x = c.args in
     subst IsOrdered (sym c.known_at-next.ensures) (number_ordered (number_of x.item.now x.zeros.now x.ones.now c.loop-number.number))
 
@@ -24,7 +24,7 @@ loop-number-preserved c =
     let inv = c.loop-number.invariant in
     record {
       some = omega (arith, inv.some);
-      value = least_next (number_of x.item.now x.zeros.now x.ones.now) c.loop-number.number c.loop-number.known c.known_at-next.result c.joined_known.result inv.some inv.value
-          c.known_at-next.ensures c.joined_known.ensures.value;
-      ordered = c.joined_known.ensures.ordered;
+      value = least_next (number_of x.item.now x.zeros.now x.ones.now) c.loop-number.number c.loop-number.known c.known_at-next.result c.joined_known-known.result inv.some inv.value
+          c.known_at-next.ensures c.joined_known-known.ensures.value;
+      ordered = c.joined_known-known.ensures.ordered;
     }

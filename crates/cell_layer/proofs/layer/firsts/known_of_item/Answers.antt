@@ -13,7 +13,7 @@ pub returns-in-Some : goal.returns-in-Some
 returns-in-Some c =
     let x = c.args in
     c.known_by_values.ensures
-    ∙ item_entry x.layout.now x.zeros.now x.ones.now x.place (option_copied c.item_at.result) c.in-Some.item.now x.over c.item_at.ensures.value
+    ∙ item_entry x.layout.now x.zeros.now x.ones.now x.place (option_copied c.item_at.result) c.in-Some.item.now c.requires.over c.item_at.ensures.value
     (ap option_copied c.in-Some.is)
 
 pub known_by_values-requires-clause-short : goal.known_by_values-requires-clause-short
@@ -23,8 +23,8 @@ known_by_values-requires-clause-short c =
 
 pub known_by_values-requires-clause-zeros : goal.known_by_values-requires-clause-zeros
 known_by_values-requires-clause-zeros c =
-    subst (LiesWithin (extent_of c.in-Some.item.now)) (sym c.requires.over.zeros_whole) c.item_at.ensures.sound.within
+    subst (LiesWithin (extent_of c.in-Some.item.now)) (sym c.requires.over.zeros_whole) c.in-Some.ensures.sound.within
 
 pub known_by_values-requires-clause-ones : goal.known_by_values-requires-clause-ones
 known_by_values-requires-clause-ones c =
-    subst (LiesWithin (extent_of c.in-Some.item.now)) (sym c.requires.over.ones_whole) c.item_at.ensures.sound.within
+    subst (LiesWithin (extent_of c.in-Some.item.now)) (sym c.requires.over.ones_whole) c.in-Some.ensures.sound.within

@@ -19,7 +19,7 @@ loop-k-preserved c =
     let x = c.args in
     let k = c.loop-k.k in
     let now = cells_of c.loop-k.row in
-    let d : Cell = record { item = None; digits = 0; scale = 0; signed = false; times = 1 } in
+    let d : Cell = record { item = None; digits = 0; scale = 0; signed = false; times = 0 } in
     let many = c.loop-k.invariant.many in
     let inside : k < length x.cells.now = omega arith in
     let as_many = firsts_many x.layout.now x.cells.now in

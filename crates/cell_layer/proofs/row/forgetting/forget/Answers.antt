@@ -20,7 +20,7 @@ loop-k-preserved c =
     let os = items_of x.cells.now in
     let cs = cells_of x.row.now in
     let k = c.loop-k.k in
-    let d : Cell = record { item = None; digits = 0; scale = 0; signed = false; times = 1 } in
+    let d : Cell = record { item = None; digits = 0; scale = 0; signed = false; times = 0 } in
     let many = items_length x.cells.now in
     let gone = c.has_bytes-gone.ensures ∙ ap is_gone (item_got x.cells.now k d (omega arith)) in
     record {

@@ -9,7 +9,7 @@ use Rattle.cell_layer.proofs.row.tests_of.guard_class.Goals as goal
 pub returns-then-wanted-clause-on : goal.returns-then-wanted-clause-on
 returns-then-wanted-clause-on c = λ told.
     let p = plain_program c.args.program.now in
-    ap (λ w. guarded_cells p (numeric c.args.place) w (cells_of c.args.row.now)) c.if-wanted.true ∙ ap Some (sym c.read_item.ensures.cells)
+    ap (λ w. guarded_cells p (numeric c.args.place) w (cells_of c.args.row.now)) c.if-wanted.true ∙ ap Some (sym c.read_one.ensures.cells)
 
 pub returns-clause-on : goal.returns-clause-on
 returns-clause-on c = λ told.

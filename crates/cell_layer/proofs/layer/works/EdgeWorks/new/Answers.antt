@@ -6,8 +6,12 @@ use Rattle.cob_graph.specs.declared.graph.Edge.{Edge}
 use Rattle.cob_graph.specs.declared.graph.Graph.{Graph}
 use Rattle.graph_runs.specs.Places.{no_edge}
 use Rattle.cell_layer.specs.Works.{IsPlaceOf, AreFirstPlaces}
+use Rattle.cell_layer.proofs.Making.{cells_are}
 use Rattle.cell_layer.proofs.WorkPlaces.{one_more_place}
 use Rattle.cell_layer.proofs.layer.works.EdgeWorks.new.Goals as goal
+
+pub marks_of_cells-requires : goal.marks_of_cells-requires
+marks_of_cells-requires c = c.get.ensures ∙ cells_are (plain_program c.args.program.now) c.args.graph.now c.requires.source
 
 pub loop-edge-preserved : goal.loop-edge-preserved
 loop-edge-preserved c =
