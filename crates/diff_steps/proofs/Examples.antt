@@ -125,7 +125,7 @@ overlapped : post_packs program (whole ∷ []) 1 (act.move (sender.Text (65 ∷ 
 unfolding sums_through if_small coefs_of
 overlapped = refl
 
--- A PIC S999 over the second of three occurrences of T PIC XXX, and B PIC S999 behind them
+-- A PIC S999 over the second of three occurrences of T PIC S999, and B PIC S999 behind them
 abbrev table_of : ℕ → ℕ → ℕ → ℕ → Form → Item
 table_of offset length times stride f =
     record { name = Some (65 ∷ []); offset = offset; length = length; times = times; stride = stride; form = f; parent = None; line = 5; value = None }
@@ -134,7 +134,7 @@ abbrev with_table : Program
 with_table = record {
   layout = record {
     items = item_of 3 3 (form.Number 3 0 true usage.Display) ∷ item_of 9 3 (form.Number 3 0 true usage.Display)
-        ∷ table_of 0 3 3 3 (form.Text 3) ∷ [];
+        ∷ table_of 0 3 3 3 (form.Number 3 0 true usage.Display) ∷ [];
     flags = [];
     files = [];
     storage = 12;
@@ -143,8 +143,8 @@ with_table = record {
   statements = 1;
 }
 
--- MOVE 'ABC' TO T, of which an occurrence has A's bytes: A is forgotten, and B stays.
-table_overlapped : post_packs with_table (whole ∷ []) 1 (act.move (sender.Text (65 ∷ 66 ∷ 67 ∷ [])) (2 ∷ [])) action.Assign
+-- MOVE B TO T, of which an occurrence has A's bytes: A is forgotten, and B stays.
+table_overlapped : post_packs with_table (whole ∷ []) 1 (act.move (sender.Item 1) (2 ∷ [])) action.Assign
     (Some (to (pos 0) (pos 10) ∷ to (pos 0) (pos 20) ∷ any ∷ [])) (words none none none (minus 2) none none ∷ [])
     ≡ words none (minus 2) none none (pos 20) none ∷ []
 unfolding sums_through if_small coefs_of

@@ -1,5 +1,5 @@
 //! Forms of subscripts, and whether bounds of them are those of occurrences.
-ghost use Rattle.std.specs.Prelude.{◌≡◌, ◌≤◌, length, true, [], None, IfSome};
+ghost use Rattle.std.specs.Prelude.{◌≡◌, ◌≤◌, ◌*◌, ◌^◌, pos, int_le, length, true, [], None, IfSome};
 ghost use Rattle.cob_program.specs.Bounds.{is_small};
 ghost use Rattle.cob_calc.specs.Contents.{bound_at};
 ghost use Rattle.interval_domain.specs.Elements.{CellsFit};
@@ -31,13 +31,24 @@ pub fn subscript_form(items: &KnownItems, pack: &PackView, item: u32) -> Option<
     None
 }
 
+// whether a number is at most a count times a power of ten
+fn is_at_most(units: i128, count: u32, power: u32) -> bool
+    requires power { power ≤ 18 }
+    ensures { result ≡ int_le units (pos (count * 10 ^ power)) }
+{
+    match i128::from(count).checked_mul(pow10(power)) {
+        Some(most) => units <= most,
+        None => true,
+    }
+}
+
 /// Whether a bound of a subscript, in units of so many decimals, is at most the number of a table's last occurrence.
 pub fn is_in_table(count: u32, decimals: u32, bound: Option<i128>) -> bool
     requires decimals { decimals ≤ 18 }
     ensures { result ≡ high_in_table count decimals bound }
 {
     match bound {
-        Some(units) => units <= i128::from(count) * pow10(decimals),
+        Some(units) => is_at_most(units, count, decimals),
         None => false,
     }
 }

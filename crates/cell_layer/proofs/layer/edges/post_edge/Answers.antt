@@ -3,11 +3,18 @@ use Rattle.std.specs.Prelude.{slice_index_or}
 use Rattle.cob_program.specs.ActView.{plain_program}
 use Rattle.interval_domain.specs.Rows.{cells_of}
 use Rattle.graph_runs.specs.Places.{no_edge}
-use Rattle.cell_layer.proofs.Leaving.{can_walk, posts_by, posts_none}
+use Rattle.cell_layer.proofs.Leaving.{can_walk, marks_of_work, posts_by, posts_none}
 use Rattle.cell_layer.proofs.layer.edges.post_edge.Goals as goal
 
-pub walk_edge-requires : goal.walk_edge-requires
-walk_edge-requires c =
+pub walk_edge-requires-clause-marks : goal.walk_edge-requires-clause-marks
+walk_edge-requires-clause-marks c =
+    let a = c.args in
+    let works = a.works.now in
+    marks_of_work (plain_program works.program.now) works.graph.now (slice_index_or works.graph.now.edges a.at no_edge) c.in-Some.work.now
+    c.in-Some.ensures works.graph.now.cells c.get.result.now works.marks.items c.as_slice.result.now c.get.ensures c.as_slice.ensures.value works.marked
+
+pub walk_edge-requires-clause-can : goal.walk_edge-requires-clause-can
+walk_edge-requires-clause-can c =
     let a = c.args in
     let works = a.works.now in
     can_walk (plain_program works.program.now) works.graph.now (slice_index_or works.graph.now.edges a.at no_edge) c.in-Some.work.now

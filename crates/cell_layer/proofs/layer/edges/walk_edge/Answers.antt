@@ -9,13 +9,13 @@ use Rattle.cell_layer.proofs.Walking.{can_begin, width_is, small_listed, post_is
 use Rattle.cell_layer.proofs.layer.edges.walk_edge.Goals as goal
 
 pub walk_parts-requires-clause-small : goal.walk_parts-requires-clause-small
-walk_parts-requires-clause-small c = small_listed c.args.work.now (cells_of c.args.row.now) c.requires.small
+walk_parts-requires-clause-small c = small_listed c.args.work.now (cells_of c.args.row.now) c.requires.can.small
 
 pub walk_parts-requires-clause-can : goal.walk_parts-requires-clause-can
 walk_parts-requires-clause-can c =
     let w = c.args.work.now in
     can_begin (program_of w) (act_of w) w.action (seen c.args.row.now c.new-kept.result) (cells_of c.args.row.now)
-    (c.new-kept.ensures.begins c.args.row.now) c.requires.fits
+    (c.new-kept.ensures.begins c.args.row.now) c.requires.can.fits
 
 pub returns-then-walk_parts : goal.returns-then-walk_parts
 returns-then-walk_parts c =
@@ -24,7 +24,7 @@ returns-then-walk_parts c =
     let t = seen c.walk_parts.new.row c.walk_parts.new.kept in
     c.finish.ensures
     ∙ ap (λ n. row_from n (finished p (act_of w) w.action (Some t))) (width_is p c.args.cells.now c.walk_parts.new.row c.walk_parts.ensures.row)
-    ∙ post_is w (cells_of c.args.row.now) c.requires.small (width_of (owns p)) (Some t)
+    ∙ post_is w (cells_of c.args.row.now) c.requires.can.small (width_of (owns p)) (Some t)
     (sym (c.walk_parts.ensures.on c.if-walk_parts.true)
     ∙ ap (steps_small p (act_of w) w.action (parts_in w)) (c.new-kept.ensures.begins c.args.row.now))
 
@@ -34,6 +34,6 @@ returns-else-walk_parts c =
     let p = program_of w in
     c.set_unreached.ensures
     ∙ ap (λ n. row_from n None) (width_is p c.args.cells.now c.walk_parts.new.row c.walk_parts.ensures.row)
-    ∙ post_is w (cells_of c.args.row.now) c.requires.small (width_of (owns p)) None
+    ∙ post_is w (cells_of c.args.row.now) c.requires.can.small (width_of (owns p)) None
     (sym (c.walk_parts.ensures.off c.if-walk_parts.false)
     ∙ ap (steps_small p (act_of w) w.action (parts_in w)) (c.new-kept.ensures.begins c.args.row.now))
