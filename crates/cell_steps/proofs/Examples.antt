@@ -9,6 +9,7 @@ use Rattle.cob_tree.specs.declared.form.Form.TheVariants as form
 use Rattle.cob_tree.specs.declared.form.Usage.TheVariants as usage
 use Rattle.cob_tree.specs.declared.token.Num.{Num}
 use Rattle.cob_tree.specs.declared.token.Rel.TheVariants as rel
+use Rattle.cob_data.specs.declared.layout.Place.{Place}
 use Rattle.cob_data.specs.Places.{plain}
 use Rattle.cob_data.specs.declared.layout.Item.{Item}
 use Rattle.cob_data.specs.declared.layout.Sender.TheVariants as sender
@@ -71,9 +72,9 @@ abbrev over : Atom → Atom → Sum
 over a b = MkSum (more_parts (MkPart false (more_factors (MkFactor false false a) (more_factors (MkFactor true false b) no_factors))) no_parts)
 
 abbrev target : ℕ → How → Mode → Target
-target place h mode = record { item = place; how = h; mode = mode }
+target place h mode = record { item = plain place; how = h; mode = mode }
 
-abbrev worked : Sum → List Target → Option ℕ → Phrase → Act
+abbrev worked : Sum → List Target → Option Place → Phrase → Act
 worked s targets remainder size = arith s targets remainder size no_stmts
 
 abbrev when : Test → Act
@@ -103,30 +104,30 @@ rounded : post_cells program 2 (worked (alone (item (plain 2))) (target 0 how.Wh
 rounded = refl
 
 -- MOVE B TO A: an item without a sign gets absolute values
-moved_across_zero : post_cells program 2 (act.move (sender.Item (plain 1)) (0 ∷ [])) action.Assign (cells any (to (minus 5) (pos 3)) any any any any)
+moved_across_zero : post_cells program 2 (act.move (sender.Item (plain 1)) (plain 0 ∷ [])) action.Assign (cells any (to (minus 5) (pos 3)) any any any any)
     ≡ Some (cells (to (pos 0) (pos 5)) (to (minus 5) (pos 3)) any any any any)
 moved_across_zero = refl
 
-moved_below_zero : post_cells program 2 (act.move (sender.Item (plain 1)) (0 ∷ [])) action.Assign (cells any (to (minus 9) (minus 2)) any any any any)
+moved_below_zero : post_cells program 2 (act.move (sender.Item (plain 1)) (plain 0 ∷ [])) action.Assign (cells any (to (minus 9) (minus 2)) any any any any)
     ≡ Some (cells (to (pos 2) (pos 9)) (to (minus 9) (minus 2)) any any any any)
 moved_below_zero = refl
 
 -- MOVE A TO D: X is forgotten, as it has D's bytes; MOVE A TO X: D is, too
-moved_over_text : post_cells program 2 (act.move (sender.Item (plain 0)) (3 ∷ [])) action.Assign (cells (to (pos 2) (pos 3)) any any any (to (pos 5) (pos 6)) any)
+moved_over_text : post_cells program 2 (act.move (sender.Item (plain 0)) (plain 3 ∷ [])) action.Assign (cells (to (pos 2) (pos 3)) any any any (to (pos 5) (pos 6)) any)
     ≡ Some (cells (to (pos 2) (pos 3)) any any (to (pos 2) (pos 3)) any any)
 moved_over_text = refl
 
-moved_to_text : post_cells program 2 (act.move (sender.Item (plain 0)) (4 ∷ [])) action.Assign (cells (to (pos 2) (pos 3)) any any (to (pos 7) (pos 7)) (to (pos 5) (pos 6)) any)
+moved_to_text : post_cells program 2 (act.move (sender.Item (plain 0)) (plain 4 ∷ [])) action.Assign (cells (to (pos 2) (pos 3)) any any (to (pos 7) (pos 7)) (to (pos 5) (pos 6)) any)
     ≡ Some (cells (to (pos 2) (pos 3)) any any any any any)
 moved_to_text = refl
 
 -- MOVE B TO E, an edited item without a cell: only what fits goes on
-moved_to_edited : post_cells program 2 (act.move (sender.Item (plain 1)) (5 ∷ [])) action.Assign (cells any (to (pos 1) (pos 2)) any any any any)
+moved_to_edited : post_cells program 2 (act.move (sender.Item (plain 1)) (plain 5 ∷ [])) action.Assign (cells any (to (pos 1) (pos 2)) any any any any)
     ≡ Some (cells any (to (pos 1) (pos 2)) any any any any)
 moved_to_edited = refl
 
 -- MOVE D TO X D: D is taken before its bytes change
-taken_first : post_cells program 2 (act.move (sender.Item (plain 3)) (4 ∷ 3 ∷ [])) action.Assign (cells any any any (to (pos 5) (pos 5)) (to (pos 1) (pos 2)) any)
+taken_first : post_cells program 2 (act.move (sender.Item (plain 3)) (plain 4 ∷ plain 3 ∷ [])) action.Assign (cells any any any (to (pos 5) (pos 5)) (to (pos 1) (pos 2)) any)
     ≡ Some (cells any any any (to (pos 5) (pos 5)) any any)
 taken_first = refl
 
@@ -136,7 +137,7 @@ taken_once : post_cells program 2 (worked (alone (item (plain 0))) (target 0 how
 taken_once = refl
 
 -- MOVE T TO B: a text without a cell is read as a number of its length
-moved_from_text : post_cells program 2 (act.move (sender.Item (plain 4)) (1 ∷ [])) action.Assign (cells any any any any any any)
+moved_from_text : post_cells program 2 (act.move (sender.Item (plain 4)) (plain 1 ∷ [])) action.Assign (cells any any any any any any)
     ≡ Some (cells any (to (pos 0) (pos 99)) any any (to (pos 0) (pos 999)) any)
 moved_from_text = refl
 
@@ -203,17 +204,17 @@ root_cut : post_cells program 2 (worked (over (item (plain 0)) (item (plain 1)))
 root_cut = refl
 
 -- DIVIDE D BY A GIVING B REMAINDER A
-remained : post_cells program 2 (worked (over (item (plain 3)) (item (plain 0))) (target 1 how.Whole Trunc ∷ []) (Some 0) left_out) action.Done (cells (to (pos 5) (pos 5)) any any (to (pos 17) (pos 17)) any any)
+remained : post_cells program 2 (worked (over (item (plain 3)) (item (plain 0))) (target 1 how.Whole Trunc ∷ []) (Some (plain 0)) left_out) action.Done (cells (to (pos 5) (pos 5)) any any (to (pos 17) (pos 17)) any any)
     ≡ Some (cells (to (pos 2) (pos 2)) (to (pos 3) (pos 3)) any (to (pos 17) (pos 17)) any any)
 remained = refl
 
 -- from 12 to 20 is taken away from 17 to 18, and the rest is less than the divisor
-remained_within : post_cells program 2 (worked (over (item (plain 3)) (item (plain 0))) (target 1 how.Whole Trunc ∷ []) (Some 0) left_out) action.Done (cells (to (pos 4) (pos 5)) any any (to (pos 17) (pos 18)) any any)
+remained_within : post_cells program 2 (worked (over (item (plain 3)) (item (plain 0))) (target 1 how.Whole Trunc ∷ []) (Some (plain 0)) left_out) action.Done (cells (to (pos 4) (pos 5)) any any (to (pos 17) (pos 18)) any any)
     ≡ Some (cells (to (pos 0) (pos 4)) (to (pos 3) (pos 4)) any (to (pos 17) (pos 18)) any any)
 remained_within = refl
 
 -- where the quotient fails, the remainder may keep its value
-remainder_kept : post_cells program 2 (worked (over (item (plain 3)) (item (plain 0))) (target 1 how.Whole Trunc ∷ []) (Some 0) (given no_stmts)) action.Size (cells (to (pos 2) (pos 2)) any any (to (pos 301) (pos 301)) any any)
+remainder_kept : post_cells program 2 (worked (over (item (plain 3)) (item (plain 0))) (target 1 how.Whole Trunc ∷ []) (Some (plain 0)) (given no_stmts)) action.Size (cells (to (pos 2) (pos 2)) any any (to (pos 301) (pos 301)) any any)
     ≡ Some (cells (to (pos 1) (pos 2)) any any (to (pos 301) (pos 301)) any any)
 remainder_kept = refl
 
@@ -258,13 +259,13 @@ in_no_range : post_cells program 2 (when (member 0 (record { low = sender.Number
 in_no_range = refl
 
 -- X NUMERIC
-numeric_true : post_cells program 2 (when (numeric 4)) (action.True 0) (cells any any any any any any) ≡ Some (cells any any any any (to (pos 0) (pos 999)) any)
+numeric_true : post_cells program 2 (when (numeric (plain 4))) (action.True 0) (cells any any any any any any) ≡ Some (cells any any any any (to (pos 0) (pos 999)) any)
 numeric_true = refl
 
-numeric_false : post_cells program 2 (when (numeric 4)) (action.False 0) (cells any any any any any any) ≡ Some (cells any any any any any any)
+numeric_false : post_cells program 2 (when (numeric (plain 4))) (action.False 0) (cells any any any any any any) ≡ Some (cells any any any any any any)
 numeric_false = refl
 
-numeric_never_false : post_cells program 2 (when (numeric 4)) (action.False 0) (cells any any any any (to (pos 1) (pos 2)) any) ≡ None
+numeric_never_false : post_cells program 2 (when (numeric (plain 4))) (action.False 0) (cells any any any any (to (pos 1) (pos 2)) any) ≡ None
 numeric_never_false = refl
 
 always_true : post_cells program 2 (when always) (action.True 0) (cells any any any any any any) ≡ Some (cells any any any any any any)
@@ -303,10 +304,10 @@ handled : clears_edge program 2 (worked (alone (item (plain 0))) (target 1 how.P
 handled = refl
 
 -- MOVE D TO A is a truncation where it doesn't fit, and no size error
-truncated : clears_edge program 2 (act.move (sender.Item (plain 3)) (0 ∷ [])) action.Assign (cells any any any (to (pos 1) (pos 10)) any any) kind.Truncation ≡ false
+truncated : clears_edge program 2 (act.move (sender.Item (plain 3)) (plain 0 ∷ [])) action.Assign (cells any any any (to (pos 1) (pos 10)) any any) kind.Truncation ≡ false
 truncated = refl
 
-no_size_error : clears_edge program 2 (act.move (sender.Item (plain 3)) (0 ∷ [])) action.Assign (cells any any any (to (pos 1) (pos 10)) any any) kind.Size ≡ true
+no_size_error : clears_edge program 2 (act.move (sender.Item (plain 3)) (plain 0 ∷ [])) action.Assign (cells any any any (to (pos 1) (pos 10)) any any) kind.Size ≡ true
 no_size_error = refl
 
 numeric_operands : clears_edge program 2 (worked (alone (item (plain 0))) (target 1 how.Plus Trunc ∷ []) None left_out) action.Done (cells (to (pos 1) (pos 2)) (to (pos 0) (pos 97)) any any any any) kind.Class ≡ true
@@ -342,7 +343,7 @@ count_fits = refl
 
 -- DIVIDE D BY B GIVING D REMAINDER D ON SIZE ERROR, of which parts are tried
 abbrev dividing : Act
-dividing = worked (over (item 3) (item 1)) (target 3 how.Whole Trunc ∷ []) (Some 3) (given no_stmts)
+dividing = worked (over (item (plain 3)) (item (plain 1))) (target 3 how.Whole Trunc ∷ []) (Some (plain 3)) (given no_stmts)
 
 abbrev of_a : Known → List Known
 of_a a = cells a any any any any any
@@ -412,16 +413,16 @@ tables = record {
 }
 
 -- MOVE A TO E: one occurrence is new, and the others stay; F lies beside it, and R over one of them
-stored_in_one : post_cells tables 1 (act.move (sender.Item (plain 0)) (1 ∷ [])) action.Assign (to (pos 5) (pos 5) ∷ to (pos 1) (pos 2) ∷ to (pos 3) (pos 3) ∷ to (pos 10) (pos 10) ∷ [])
+stored_in_one : post_cells tables 1 (act.move (sender.Item (plain 0)) (plain 1 ∷ [])) action.Assign (to (pos 5) (pos 5) ∷ to (pos 1) (pos 2) ∷ to (pos 3) (pos 3) ∷ to (pos 10) (pos 10) ∷ [])
     ≡ Some (to (pos 5) (pos 5) ∷ to (pos 1) (pos 5) ∷ to (pos 3) (pos 3) ∷ any ∷ [])
 stored_in_one = refl
 
-stored_beside_unknown : post_cells tables 1 (act.move (sender.Item (plain 0)) (1 ∷ [])) action.Assign (to (pos 5) (pos 5) ∷ any ∷ any ∷ any ∷ [])
+stored_beside_unknown : post_cells tables 1 (act.move (sender.Item (plain 0)) (plain 1 ∷ [])) action.Assign (to (pos 5) (pos 5) ∷ any ∷ any ∷ any ∷ [])
     ≡ Some (to (pos 5) (pos 5) ∷ any ∷ any ∷ any ∷ [])
 stored_beside_unknown = refl
 
 -- MOVE A TO R: both columns have bytes of it
-stored_over_a_row : post_cells tables 1 (act.move (sender.Item (plain 0)) (3 ∷ [])) action.Assign (to (pos 5) (pos 5) ∷ to (pos 1) (pos 2) ∷ to (pos 3) (pos 3) ∷ any ∷ [])
+stored_over_a_row : post_cells tables 1 (act.move (sender.Item (plain 0)) (plain 3 ∷ [])) action.Assign (to (pos 5) (pos 5) ∷ to (pos 1) (pos 2) ∷ to (pos 3) (pos 3) ∷ any ∷ [])
     ≡ Some (to (pos 5) (pos 5) ∷ any ∷ any ∷ to (pos 5) (pos 5) ∷ [])
 stored_over_a_row = refl
 
@@ -435,5 +436,5 @@ below_in_one : post_cells tables 1 (when (numbers (alone (item (plain 1))) rel.L
     ≡ Some (any ∷ to (pos 1) (pos 8) ∷ any ∷ any ∷ [])
 below_in_one = refl
 
-numeric_in_one : post_cells tables 1 (when (numeric 1)) (action.True 0) (any ∷ any ∷ any ∷ any ∷ []) ≡ Some (any ∷ any ∷ any ∷ any ∷ [])
+numeric_in_one : post_cells tables 1 (when (numeric (plain 1))) (action.True 0) (any ∷ any ∷ any ∷ any ∷ []) ≡ Some (any ∷ any ∷ any ∷ any ∷ [])
 numeric_in_one = refl

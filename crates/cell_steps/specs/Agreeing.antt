@@ -5,6 +5,7 @@ use Rattle.dec_num.specs.declared.types.Mode.{Mode}
 use Rattle.dec_num.specs.Exact.{Fraction}
 use Rattle.cob_tree.specs.declared.fault.Kind.{Kind}
 use Rattle.cob_data.specs.declared.layout.Layout.{Layout}
+use Rattle.cob_data.specs.declared.layout.Place.{Place}
 use Rattle.cob_program.specs.declared.act.How.TheVariants as how
 use Rattle.cob_program.specs.Act.{Act, Program}
 use Rattle.cob_runs.specs.declared.action.Action.{Action}
@@ -48,8 +49,8 @@ pub record IsSoundEdge (p : Program) (statement : ℕ) (a : Act) (x : Action) : 
   pub act : act_at p statement ≡ Some a
   pub counts : (n : ℕ) → Contains (homes_of p) (of_count n) → IsTimesAt p n
   -- values are stored in numeric and edited items
-  pub receivers : (done rest : List Part) (place : ℕ) (mode : Mode) (y : Amount)
-      → done ++ store place mode y ∷ rest ≡ parts_of p statement a x → takes_number (form_at p.layout place) ≡ true
+  pub receivers : (done rest : List Part) (place : Place) (mode : Mode) (y : Amount)
+      → done ++ store place mode y ∷ rest ≡ parts_of p statement a x → takes_number (form_at p.layout place.item) ≡ true
   -- bytes change within storage
   pub areas : (done rest : List Part) (offset count : ℕ)
       → done ++ bytes_in offset count ∷ rest ≡ parts_of p statement a x → offset + count ≤ p.layout.storage

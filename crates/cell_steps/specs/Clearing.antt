@@ -54,13 +54,13 @@ module _ (p : Program) (a : Act) (x : Action) where
   all_count t = option_map_or (λ c. not (count_may_fail c.top.units)) t.common true
 
   abbrev pub clears_part : Part → Seen → Kind → Bool
-  clears_part (read place) s kind.Class = is_numeric p.layout (homes_of p) s.cells place
+  clears_part (read place) s kind.Class = is_numeric p.layout (homes_of p) s.cells place.item
   clears_part unread s kind.Class = false
   clears_part (subscript last k) s kind.Class = is_numeric p.layout (homes_of p) s.cells k
   clears_part (index last k count) s kind.Subscript = lies_in_table count (units_of p.layout (homes_of p) s.cells (of_item k))
   clears_part (divide d) s kind.Zero = has_phrase a || not (holds_zero (atom_range (range_at p s.cells) d))
   clears_part (store place mode amount) s fault =
-      has_phrase a || (not (is_misfit amount fault) || all_fit (with_taken p a x s) place mode amount)
+      has_phrase a || (not (is_misfit amount fault) || all_fit (with_taken p a x s) place.item mode amount)
   clears_part (read_count statement) s kind.Class = is_known (homes_of p) s.cells (of_count statement)
   clears_part (set_count statement y) s kind.Size = all_count (with_taken p a x s)
   clears_part (count_down statement) s kind.Size = not (count_may_fail (lowered (units_of p.layout (homes_of p) s.cells (of_count statement))))

@@ -121,12 +121,12 @@ module _ (p : Program) (a : Act) (x : Action) where
 
   -- Nothing where no run passes the part.
   abbrev pub step : Part → Seen → Option Seen
-  step (read place) s = Some (after_read p place s)
+  step (read place) s = Some (after_read p place.item s)
   step unread s = None
   step (subscript last k) s = Some (after_subscript p last k s)
   step (index last k count) s = after_index p last k count s
   step (divide d) s = after_divide d s
-  step (store place mode amount) s = stored p a x (with_taken p a x s) place mode amount
+  step (store place mode amount) s = stored p a x (with_taken p a x s) place.item mode amount
   step (bytes_in offset count) s = Some (after_bytes p offset count (with_taken p a x s))
   step (guard t wanted) s = with_cells_if s (guarded_cells p t wanted s.cells)
   step (read_count statement) s = Some (with_cells s (read_cells p (of_count statement) s.cells))

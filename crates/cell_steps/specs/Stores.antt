@@ -5,6 +5,7 @@ use Rattle.dec_num.specs.declared.types.Mode.{Mode}
 use Rattle.interval_domain.specs.declared.bounds.Interval.{Interval}
 use Rattle.cob_tree.specs.declared.form.Form.{Form}
 use Rattle.cob_tree.specs.declared.form.Form.TheVariants as form
+use Rattle.cob_data.specs.declared.layout.Place.{Place}
 use Rattle.cob_program.specs.declared.act.Target.{Target}
 use Rattle.cob_program.specs.Values.{◌>>=◌}
 use Rattle.cob_program.specs.Act.{Act, arith, Program}
@@ -63,7 +64,7 @@ behind_store t fails (Some known) = Some (record {
 })
 
 -- one receiver, and no REMAINDER
-abbrev pub is_one_receiver : List Target → Option ℕ → Bool
+abbrev pub is_one_receiver : List Target → Option Place → Bool
 is_one_receiver (t ∷ []) None = true
 is_one_receiver targets remainder = false
 
