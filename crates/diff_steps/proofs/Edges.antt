@@ -11,6 +11,7 @@ use Rattle.cob_tree.specs.declared.form.Form.TheVariants as form
 use Rattle.cob_tree.specs.declared.form.Usage.TheVariants as usage
 use Rattle.cob_tree.specs.declared.token.Num.{Num}
 use Rattle.cob_tree.specs.declared.token.Rel.TheVariants as rel
+use Rattle.cob_data.specs.Places.{plain}
 use Rattle.cob_data.specs.declared.layout.Item.{Item}
 use Rattle.cob_data.specs.declared.layout.Sender.{Sender}
 use Rattle.cob_data.specs.declared.layout.Sender.TheVariants as sender
@@ -40,7 +41,7 @@ item_of offset length f =
     record { name = Some (65 ∷ []); offset = offset; length = length; times = 1; stride = 0; form = f; parent = None; line = 5; value = None }
 
 abbrev loop : Act
-loop = perform (range 0 0) (times (sender.Item 0))
+loop = perform (range 0 0) (times (sender.Item (plain 0)))
 
 abbrev program : Program
 program = record {
@@ -163,7 +164,7 @@ added_quotient a b c =
     MkSum (more_parts (lone a) (more_parts (MkPart false (more_factors (by b) (more_factors (under c) no_factors))) no_parts))
 
 abbrev target : ℕ → How → Mode → Target
-target place h mode = record { item = place; how = h; mode = mode }
+target place h mode = record { item = plain place; how = h; mode = mode }
 
 abbrev worked : Sum → List Target → Phrase → Act
 worked s targets size = arith s targets None size no_stmts
@@ -185,21 +186,21 @@ are_cleared fault packs a x known ms = clears_edge2 program packs 1 a x known ms
 -- ---- stores whose receiver cuts decimals off
 
 -- MOVE C TO A where C is -9.5 to 0: what is cut off makes A no less than C, and A - C at most 10 tenths.
-cut_below_zero : behind (ac ∷ []) (act.move (sender.Item 3) (0 ∷ [])) action.Assign
+cut_below_zero : behind (ac ∷ []) (act.move (sender.Item (plain 3)) (plain 0 ∷ [])) action.Assign
     (cells any any any (to (minus 95) (pos 0)) any any any) (nothing ∷ [])
     ≡ words (pos 90) (pos 95) (pos 0) (pos 10) (pos 0) (pos 0) ∷ []
 unfolding sums_through if_small coefs_of
 cut_below_zero = refl
 
 -- Where C is -9.5 to 9.5 the error goes both ways.
-cut_across_zero : behind (ac ∷ []) (act.move (sender.Item 3) (0 ∷ [])) action.Assign
+cut_across_zero : behind (ac ∷ []) (act.move (sender.Item (plain 3)) (plain 0 ∷ [])) action.Assign
     (cells any any any (to (minus 95) (pos 95)) any any any) (nothing ∷ [])
     ≡ words (pos 90) (pos 95) (pos 90) (pos 10) (pos 95) (pos 10) ∷ []
 unfolding sums_through if_small coefs_of
 cut_across_zero = refl
 
 -- COMPUTE A ROUNDED = C: rounding errs both ways, whatever the sign. C is 0 to 9.4.
-rounded : behind (ac ∷ []) (worked (alone (item 3)) (target 0 how.Whole Round ∷ []) left_out) action.Done
+rounded : behind (ac ∷ []) (worked (alone (item (plain 3))) (target 0 how.Whole Round ∷ []) left_out) action.Done
     (cells any any any (to (pos 0) (pos 94)) any any any) (nothing ∷ [])
     ≡ words (pos 0) (pos 0) (pos 90) (pos 10) (pos 94) (pos 10) ∷ []
 unfolding sums_through if_small coefs_of
@@ -207,7 +208,7 @@ rounded = refl
 
 -- COMPUTE B = A + D, where D has no cell in the pack and is 1.25 to 2.50: as a constant it is 1 to 3, so that B before the
 -- cut is at most A + 3 and at least A + 1, and behind it at least A.
-cut_sum : behind (ab ∷ []) (worked (added (item 0) (item 4)) (target 1 how.Whole Trunc ∷ []) left_out) action.Done
+cut_sum : behind (ab ∷ []) (worked (added (item (plain 0)) (item (plain 4))) (target 1 how.Whole Trunc ∷ []) left_out) action.Done
     (cells (to (pos 0) (pos 9)) any any any (to (pos 125) (pos 250)) any any) (nothing ∷ [])
     ≡ words (pos 0) (minus 1) (pos 9) (pos 0) (pos 11) (pos 3) ∷ []
 unfolding sums_through if_small coefs_of
@@ -215,7 +216,7 @@ cut_sum = refl
 
 -- COMPUTE B = A + C / 4, where C is 1.0 to 3.0: the quotient is 0.25 to 0.75, as a constant 0 to 1.
 inner_quotient : behind (ab ∷ [])
-    (worked (added_quotient (item 0) (item 3) four) (target 1 how.Whole Trunc ∷ []) left_out) action.Done
+    (worked (added_quotient (item (plain 0)) (item (plain 3)) four) (target 1 how.Whole Trunc ∷ []) left_out) action.Done
     (cells (to (pos 1) (pos 4)) any any (to (pos 10) (pos 30)) any any any) (nothing ∷ [])
     ≡ words (minus 1) (minus 1) (pos 4) (pos 1) (pos 4) (pos 1) ∷ []
 unfolding sums_through if_small coefs_of
@@ -224,7 +225,7 @@ inner_quotient = refl
 -- ---- stores whose receiver has all decimals
 
 -- MOVE A TO C: nothing is cut off.
-moved_to_finer : behind (ac ∷ []) (act.move (sender.Item 0) (3 ∷ [])) action.Assign
+moved_to_finer : behind (ac ∷ []) (act.move (sender.Item (plain 0)) (plain 3 ∷ [])) action.Assign
     (cells (to (pos 1) (pos 4)) any any any any any any) (nothing ∷ [])
     ≡ words (minus 10) (minus 10) (pos 40) (pos 0) (pos 40) (pos 0) ∷ []
 unfolding sums_through if_small coefs_of
@@ -232,14 +233,14 @@ moved_to_finer = refl
 
 -- COMPUTE C = A + 0.5: C - A is 5 tenths.
 decimal_added : behind (ac ∷ [])
-    (worked (added (item 0) (literal 1 (53 ∷ []))) (target 3 how.Whole Trunc ∷ []) left_out) action.Done
+    (worked (added (item (plain 0)) (literal 1 (53 ∷ []))) (target 3 how.Whole Trunc ∷ []) left_out) action.Done
     (cells (to (pos 0) (pos 9)) any any any any any any) (nothing ∷ [])
     ≡ words (pos 0) (minus 5) (pos 90) (minus 5) (pos 95) (pos 5) ∷ []
 unfolding sums_through if_small coefs_of
 decimal_added = refl
 
 -- MOVE 5 TO A
-literal_moved : behind (ab ∷ []) (act.move (sender.Number (numeral 0 (53 ∷ []))) (0 ∷ [])) action.Assign
+literal_moved : behind (ab ∷ []) (act.move (sender.Number (numeral 0 (53 ∷ []))) (plain 0 ∷ [])) action.Assign
     (cells any (to (pos 0) (pos 9)) any any any any any) (nothing ∷ [])
     ≡ words (minus 5) (pos 0) (pos 5) (pos 5) (pos 9) (pos 4) ∷ []
 unfolding sums_through if_small coefs_of
@@ -257,7 +258,7 @@ subtracted = refl
 -- COMPUTE B = A * 2.0: the literal is a whole number, and A has the coefficient 2. The product has a decimal that the
 -- store cuts off: B is at most 2A and at least 2A - 1.
 doubled : behind (ab ∷ [])
-    (worked (product (item 0) (literal 1 (50 ∷ 48 ∷ []))) (target 1 how.Whole Trunc ∷ []) left_out) action.Done
+    (worked (product (item (plain 0)) (literal 1 (50 ∷ 48 ∷ []))) (target 1 how.Whole Trunc ∷ []) left_out) action.Done
     (cells (to (pos 1) (pos 4)) any any any any any any) (nothing ∷ [])
     ≡ words (minus 1) (minus 2) (pos 4) (pos 0) (pos 8) (pos 4) ∷ []
 unfolding sums_through if_small coefs_of
@@ -265,7 +266,7 @@ doubled = refl
 
 -- COMPUTE B = A * 1.5: the literal isn't whole, and the product counts by its range of 3.0 to 6.0.
 half_more : behind (ab ∷ [])
-    (worked (product (item 0) (literal 1 (49 ∷ 53 ∷ []))) (target 1 how.Whole Trunc ∷ []) left_out) action.Done
+    (worked (product (item (plain 0)) (literal 1 (49 ∷ 53 ∷ []))) (target 1 how.Whole Trunc ∷ []) left_out) action.Done
     (cells (to (pos 2) (pos 4)) any any any any any any) (nothing ∷ [])
     ≡ words (minus 2) (minus 3) (pos 4) (pos 1) (pos 6) (pos 4) ∷ []
 unfolding sums_through if_small coefs_of
@@ -273,7 +274,7 @@ half_more = refl
 
 -- COMPUTE B = 2 * 3 * A: a product of literals before A, which has no coefficient.
 behind_literals : behind (ab ∷ [])
-    (worked (product_of_three two three (item 0)) (target 1 how.Whole Trunc ∷ []) left_out) action.Done
+    (worked (product_of_three two three (item (plain 0))) (target 1 how.Whole Trunc ∷ []) left_out) action.Done
     (cells (to (pos 1) (pos 4)) any any any any any any) (nothing ∷ [])
     ≡ words (minus 1) (minus 6) (pos 4) (minus 2) (pos 24) (pos 23) ∷ []
 unfolding sums_through if_small coefs_of
@@ -281,7 +282,7 @@ behind_literals = refl
 
 -- COMPUTE B = A * 2 * 3: B is 6A, so that B - A is 5A.
 before_literals : behind (ab ∷ [])
-    (worked (product_of_three (item 0) two three) (target 1 how.Whole Trunc ∷ []) left_out) action.Done
+    (worked (product_of_three (item (plain 0)) two three) (target 1 how.Whole Trunc ∷ []) left_out) action.Done
     (cells (to (pos 1) (pos 4)) any any any any any any) (nothing ∷ [])
     ≡ words (minus 1) (minus 6) (pos 4) (minus 5) (pos 24) (pos 20) ∷ []
 unfolding sums_through if_small coefs_of
@@ -289,7 +290,7 @@ before_literals = refl
 
 -- COMPUTE B = 2 * A * 3
 between_literals : behind (ab ∷ [])
-    (worked (product_of_three two (item 0) three) (target 1 how.Whole Trunc ∷ []) left_out) action.Done
+    (worked (product_of_three two (item (plain 0)) three) (target 1 how.Whole Trunc ∷ []) left_out) action.Done
     (cells (to (pos 1) (pos 4)) any any any any any any) (nothing ∷ [])
     ≡ words (minus 1) (minus 6) (pos 4) (minus 5) (pos 24) (pos 20) ∷ []
 unfolding sums_through if_small coefs_of
@@ -306,7 +307,7 @@ multiplied = refl
 
 -- COMPUTE U = A - B, where A is at least B: the matrix alone shows that the difference isn't negative. U is at most A then,
 -- and A at most U + 9.
-positive_by_differences : behind (abu ∷ []) (worked (less (item 0) (item 1)) (target 2 how.Whole Trunc ∷ []) left_out)
+positive_by_differences : behind (abu ∷ []) (worked (less (item (plain 0)) (item (plain 1))) (target 2 how.Whole Trunc ∷ []) left_out)
     action.Done (cells (to (pos 0) (pos 9)) (to (pos 0) (pos 9)) any any any any any)
     (words3 none none none none none none none (pos 0) none none none none ∷ [])
     ≡ words3 (pos 0) (pos 0) (pos 0) (pos 9) (pos 9) (pos 9) (pos 9) (pos 0) (pos 9) (pos 9) (pos 0) (pos 9) ∷ []
@@ -314,7 +315,7 @@ unfolding sums_through if_small coefs_of
 positive_by_differences = refl
 
 -- Where A is at most B, U is B - A.
-negative_by_differences : behind (abu ∷ []) (worked (less (item 0) (item 1)) (target 2 how.Whole Trunc ∷ []) left_out)
+negative_by_differences : behind (abu ∷ []) (worked (less (item (plain 0)) (item (plain 1))) (target 2 how.Whole Trunc ∷ []) left_out)
     action.Done (cells (to (pos 0) (pos 9)) (to (pos 0) (pos 9)) any any any any any)
     (words3 none none none none (pos 0) none none none none none none none ∷ [])
     ≡ words3 (pos 0) (pos 0) (pos 0) (pos 9) (pos 0) (pos 9) (pos 9) (pos 9) (pos 9) (pos 9) (pos 9) (pos 0) ∷ []
@@ -322,7 +323,7 @@ unfolding sums_through if_small coefs_of
 negative_by_differences = refl
 
 -- Where A and B are equal, and 2 to 5, U is 0; what is known of A alone leaves 0 to 3.
-zero_by_differences : behind (abu ∷ []) (worked (less (item 0) (item 1)) (target 2 how.Whole Trunc ∷ []) left_out)
+zero_by_differences : behind (abu ∷ []) (worked (less (item (plain 0)) (item (plain 1))) (target 2 how.Whole Trunc ∷ []) left_out)
     action.Done (cells (to (pos 2) (pos 5)) (to (pos 2) (pos 5)) any any any any any)
     (words3 none none none none (pos 0) none none (pos 0) none none none none ∷ [])
     ≡ words3 (minus 2) (minus 2) (pos 0) (pos 5) (pos 0) (pos 5) (pos 5) (pos 0) (pos 5) (pos 0) (minus 2) (minus 2)
@@ -331,7 +332,7 @@ unfolding sums_through if_small coefs_of
 zero_by_differences = refl
 
 -- MOVE C TO U where C is -9.5 to -2: U is -C or up to a whole less, and 2 to 9.
-cut_and_absolute : behind (uc ∷ []) (act.move (sender.Item 3) (2 ∷ [])) action.Assign
+cut_and_absolute : behind (uc ∷ []) (act.move (sender.Item (plain 3)) (plain 2 ∷ [])) action.Assign
     (cells any any any (to (minus 95) (minus 20)) any any any) (nothing ∷ [])
     ≡ words (minus 20) (pos 95) (pos 90) (pos 185) (minus 20) (minus 40) ∷ []
 unfolding sums_through if_small coefs_of
@@ -341,7 +342,7 @@ cut_and_absolute = refl
 
 -- COMPUTE A B = A + 1: B gets what A + 1 was before A changed, of which 2 to 5 is known.
 taken_before : behind (ab ∷ [])
-    (worked (added (item 0) one) (target 0 how.Whole Trunc ∷ target 1 how.Whole Trunc ∷ []) left_out) action.Done
+    (worked (added (item (plain 0)) one) (target 0 how.Whole Trunc ∷ target 1 how.Whole Trunc ∷ []) left_out) action.Done
     (cells (to (pos 1) (pos 4)) any any any any any any) (nothing ∷ [])
     ≡ words (minus 2) (minus 2) (pos 5) (pos 3) (pos 5) (pos 3) ∷ []
 unfolding sums_through if_small coefs_of
@@ -349,14 +350,14 @@ taken_before = refl
 
 -- COMPUTE B A = A + 1: A is written last, and both are equal then.
 written_last : behind (ab ∷ [])
-    (worked (added (item 0) one) (target 1 how.Whole Trunc ∷ target 0 how.Whole Trunc ∷ []) left_out) action.Done
+    (worked (added (item (plain 0)) one) (target 1 how.Whole Trunc ∷ target 0 how.Whole Trunc ∷ []) left_out) action.Done
     (cells (to (pos 1) (pos 4)) any any any any any any) (nothing ∷ [])
     ≡ words (minus 2) (minus 2) (pos 5) (pos 0) (pos 5) (pos 0) ∷ []
 unfolding sums_through if_small coefs_of
 written_last = refl
 
 -- MOVE A TO X B, where X has A's bytes: B gets what A was.
-sender_overwritten : behind (ab ∷ []) (act.move (sender.Item 0) (6 ∷ 1 ∷ [])) action.Assign
+sender_overwritten : behind (ab ∷ []) (act.move (sender.Item (plain 0)) (plain 6 ∷ plain 1 ∷ [])) action.Assign
     (cells (to (pos 1) (pos 4)) any any any any any any) (nothing ∷ [])
     ≡ words none (minus 1) none none (pos 4) none ∷ []
 unfolding sums_through if_small coefs_of
@@ -366,7 +367,7 @@ sender_overwritten = refl
 
 -- MOVE A TO V, which has B's bytes: V is A, and B is forgotten in the pack of A and B. A was above B, and so at least 3,
 -- which stays known.
-redefined : behind (ab ∷ av ∷ []) (act.move (sender.Item 0) (5 ∷ [])) action.Assign
+redefined : behind (ab ∷ av ∷ []) (act.move (sender.Item (plain 0)) (plain 5 ∷ [])) action.Assign
     (cells (to (pos 1) (pos 4)) (to (pos 2) (pos 3)) any any any any any)
     (words none none none none none (minus 1) ∷ nothing ∷ [])
     ≡ words (minus 3) none (pos 4) none none none ∷ words (minus 1) (minus 1) (pos 4) (pos 0) (pos 4) (pos 0) ∷ []
@@ -374,7 +375,7 @@ unfolding sums_through if_small coefs_of
 redefined = refl
 
 -- The same in a pack of B and V.
-redefined_in_pack : behind (bv ∷ []) (act.move (sender.Item 0) (5 ∷ [])) action.Assign
+redefined_in_pack : behind (bv ∷ []) (act.move (sender.Item (plain 0)) (plain 5 ∷ [])) action.Assign
     (cells (to (pos 1) (pos 4)) (to (pos 2) (pos 3)) any any any any any) (nothing ∷ [])
     ≡ words none (minus 1) none none (pos 4) none ∷ []
 unfolding sums_through if_small coefs_of
@@ -384,7 +385,7 @@ redefined_in_pack = refl
 
 -- ADD A TO V ON SIZE ERROR, where V is 95 to 99 and at most A + 93: V may fit and may fail. On this edge it has failed, so
 -- that all stays that was known, of B too, which has its bytes.
-fails_alone : behind (ab ∷ av ∷ []) (worked (alone (item 0)) (target 5 how.Plus Trunc ∷ []) (given no_stmts))
+fails_alone : behind (ab ∷ av ∷ []) (worked (alone (item (plain 0))) (target 5 how.Plus Trunc ∷ []) (given no_stmts))
     action.Size (cells (to (pos 1) (pos 4)) (to (pos 95) (pos 99)) any any any (to (pos 95) (pos 99)) any)
     (nothing ∷ words none none none none none (pos 93) ∷ [])
     ≡ words (minus 1) (minus 95) (pos 4) (minus 91) (pos 99) (pos 98) ∷ words (minus 2) (minus 95) (pos 4) (minus 91) (pos 97) (pos 93)
@@ -394,7 +395,7 @@ fails_alone = refl
 
 -- ADD A TO V U ON SIZE ERROR: each may fit and may fail, so that V and B are forgotten. That A is at least 2, which V showed,
 -- stays.
-may_fail_over : behind (ab ∷ av ∷ []) (worked (alone (item 0)) (target 5 how.Plus Trunc ∷ target 2 how.Plus Trunc ∷ []) (given no_stmts))
+may_fail_over : behind (ab ∷ av ∷ []) (worked (alone (item (plain 0))) (target 5 how.Plus Trunc ∷ target 2 how.Plus Trunc ∷ []) (given no_stmts))
     action.Size (cells (to (pos 1) (pos 4)) (to (pos 95) (pos 99)) any any any (to (pos 95) (pos 99)) any)
     (nothing ∷ words none none none none none (pos 93) ∷ [])
     ≡ words (minus 1) none (pos 4) none none none ∷ words (minus 2) (minus 95) (pos 4) (minus 91) (pos 99) (pos 97)
@@ -405,7 +406,7 @@ may_fail_over = refl
 -- ADD A TO A U ON SIZE ERROR, where A is 60 to 70 and can't fit: A stays, but counts as written to, and U gets its own
 -- number and 60 to 70.
 failed_before : behind (au ∷ [])
-    (worked (alone (item 0)) (target 0 how.Plus Trunc ∷ target 2 how.Plus Trunc ∷ []) (given no_stmts)) action.Size
+    (worked (alone (item (plain 0))) (target 0 how.Plus Trunc ∷ target 2 how.Plus Trunc ∷ []) (given no_stmts)) action.Size
     (cells (to (pos 60) (pos 70)) any (to (pos 0) (pos 5)) any any any any) (nothing ∷ [])
     ≡ words (minus 60) (minus 60) (pos 70) (pos 10) (pos 75) (pos 15) ∷ []
 unfolding sums_through if_small coefs_of
@@ -414,7 +415,7 @@ failed_before = refl
 -- ---- quotients
 
 -- DIVIDE A BY 4 GIVING B: a quotient that is exact until it is stored has no form.
-divided : behind (ab ∷ []) (worked (quotient (item 0) four) (target 1 how.Whole Trunc ∷ []) left_out) action.Done
+divided : behind (ab ∷ []) (worked (quotient (item (plain 0)) four) (target 1 how.Whole Trunc ∷ []) left_out) action.Done
     (cells (to (pos 8) (pos 20)) any any any any any any) (nothing ∷ [])
     ≡ words (minus 8) (minus 2) (pos 20) (pos 18) (pos 5) (minus 3) ∷ []
 unfolding sums_through if_small coefs_of
@@ -430,7 +431,7 @@ divided_into = refl
 
 -- DIVIDE A BY 4 GIVING B REMAINDER U: a remainder has no form. It is 0 to 3, less than the divisor.
 remained : behind (ab ∷ au ∷ [])
-    (arith (quotient (item 0) four) (target 1 how.Whole Trunc ∷ []) (Some 2) left_out no_stmts) action.Done
+    (arith (quotient (item (plain 0)) four) (target 1 how.Whole Trunc ∷ []) (Some (plain 2)) left_out no_stmts) action.Done
     (cells (to (pos 8) (pos 20)) any any any any any any) (nothing ∷ nothing ∷ [])
     ≡ words (minus 8) (minus 2) (pos 20) (pos 18) (pos 5) (minus 3)
     ∷ words (minus 8) (pos 0) (pos 20) (pos 20) (pos 3) (minus 5) ∷ []
@@ -440,21 +441,21 @@ remained = refl
 -- ---- loops
 
 -- PERFORM VARYING A .. BY 2, augmented, where A is at most B
-varied : behind (ab ∷ []) (vary (sender.Item 1) (sender.Number (numeral 0 (50 ∷ [])))) action.Done
+varied : behind (ab ∷ []) (vary (sender.Item (plain 1)) (sender.Number (numeral 0 (50 ∷ [])))) action.Done
     (cells (to (pos 1) (pos 4)) (to (pos 0) (pos 9)) any any any any any) (words none none none (pos 0) none none ∷ [])
     ≡ words (minus 3) (minus 1) (pos 6) (pos 2) (pos 9) (pos 6) ∷ []
 unfolding sums_through if_small coefs_of
 varied = refl
 
 -- PERFORM VARYING A .. BY B: A - B is what A was.
-varied_by_item : behind (ab ∷ []) (vary (sender.Item 1) (sender.Item 1)) action.Done
+varied_by_item : behind (ab ∷ []) (vary (sender.Item (plain 1)) (sender.Item (plain 1))) action.Done
     (cells (to (pos 1) (pos 4)) (to (pos 0) (pos 9)) any any any any any) (nothing ∷ [])
     ≡ words (minus 1) (pos 0) (pos 13) (pos 4) (pos 9) (minus 1) ∷ []
 unfolding sums_through if_small coefs_of
 varied_by_item = refl
 
 -- PERFORM VARYING A FROM B, set
-varied_from : behind (ab ∷ []) (vary (sender.Item 1) (sender.Item 1)) action.Assign
+varied_from : behind (ab ∷ []) (vary (sender.Item (plain 1)) (sender.Item (plain 1))) action.Assign
     (cells (to (pos 1) (pos 4)) (to (pos 0) (pos 9)) any any any any any) (nothing ∷ [])
     ≡ words (pos 0) (pos 0) (pos 9) (pos 0) (pos 9) (pos 0) ∷ []
 unfolding sums_through if_small coefs_of
@@ -483,14 +484,14 @@ turns_left = refl
 -- ---- tests
 
 -- IF A <= B where it is false: B - A is at most -1.
-greater : behind (ab ∷ []) (when (numbers (alone (item 0)) rel.AtMost (alone (item 1)))) (action.False 0)
+greater : behind (ab ∷ []) (when (numbers (alone (item (plain 0))) rel.AtMost (alone (item (plain 1))))) (action.False 0)
     (cells (to (pos 0) (pos 9)) (to (pos 3) (pos 20)) any any any any any) (nothing ∷ [])
     ≡ words (minus 4) (minus 3) (pos 9) (pos 6) (pos 8) (minus 1) ∷ []
 unfolding sums_through if_small coefs_of
 greater = refl
 
 -- IF A < B + C, where C has a decimal, no cell in the pack, and is 0 to 2.5, as a constant 0 to 3: A - B is at most 3.
-less_than_finer : behind (ab ∷ []) (when (numbers (alone (item 0)) rel.Less (added (item 1) (item 3)))) (action.True 0)
+less_than_finer : behind (ab ∷ []) (when (numbers (alone (item (plain 0))) rel.Less (added (item (plain 1)) (item (plain 3))))) (action.True 0)
     (cells (to (pos 0) (pos 9)) (to (pos 0) (pos 9)) any (to (pos 0) (pos 25)) any any any) (nothing ∷ [])
     ≡ words (pos 0) (pos 0) (pos 9) (pos 3) (pos 9) (pos 9) ∷ []
 unfolding sums_through if_small coefs_of
@@ -498,7 +499,7 @@ less_than_finer = refl
 
 -- IF A * 2 = B, where A is 0 to 10 and B 3 to 7: A is at least 2, since -3 / 2 rounded down is -2, and at most 3. Both
 -- demands look at A as it was, so that B stays at most 7.
-double_equal : behind (ab ∷ []) (when (numbers (product (item 0) two) rel.Equal (alone (item 1)))) (action.True 0)
+double_equal : behind (ab ∷ []) (when (numbers (product (item (plain 0)) two) rel.Equal (alone (item (plain 1))))) (action.True 0)
     (cells (to (pos 0) (pos 10)) (to (pos 3) (pos 7)) any any any any any) (nothing ∷ [])
     ≡ words (minus 2) (minus 3) (pos 3) (pos 0) (pos 7) (pos 5) ∷ []
 unfolding sums_through if_small coefs_of
@@ -506,21 +507,21 @@ double_equal = refl
 
 -- IF 3 * A <= B - 10, where B is 0 to 5: 3A is at most -5, and A at most -2.
 tripled_at_most : behind (ab ∷ [])
-    (when (numbers (product three (item 0)) rel.AtMost (less (item 1) (literal 0 (49 ∷ 48 ∷ []))))) (action.True 0)
+    (when (numbers (product three (item (plain 0))) rel.AtMost (less (item (plain 1)) (literal 0 (49 ∷ 48 ∷ []))))) (action.True 0)
     (cells (to (minus 9) (pos 9)) (to (pos 0) (pos 5)) any any any any any) (nothing ∷ [])
     ≡ words (pos 9) (pos 0) (minus 2) (minus 2) (pos 5) (pos 14) ∷ []
 unfolding sums_through if_small coefs_of
 tripled_at_most = refl
 
 -- IF A = B where it is false adds nothing to what was known.
-differs : behind (ab ∷ []) (when (numbers (alone (item 0)) rel.Equal (alone (item 1)))) (action.False 0)
+differs : behind (ab ∷ []) (when (numbers (alone (item (plain 0))) rel.Equal (alone (item (plain 1))))) (action.False 0)
     (cells (to (pos 0) (pos 9)) (to (pos 0) (pos 9)) any any any any any) (words none none none (pos 0) none none ∷ [])
     ≡ words (pos 0) (pos 0) (pos 9) (pos 0) (pos 9) (pos 9) ∷ []
 unfolding sums_through if_small coefs_of
 differs = refl
 
 -- IF A < B, where B is at most A: no run comes, and nothing is left in the pack of A and C either.
-contradicted : behind (ab ∷ ac ∷ []) (when (numbers (alone (item 0)) rel.Less (alone (item 1)))) (action.True 0)
+contradicted : behind (ab ∷ ac ∷ []) (when (numbers (alone (item (plain 0))) rel.Less (alone (item (plain 1))))) (action.True 0)
     (cells (to (pos 0) (pos 9)) (to (pos 0) (pos 9)) any any any any any)
     (words none none none none none (pos 0) ∷ nothing ∷ [])
     ≡ bottoms (ab ∷ ac ∷ [])
@@ -530,7 +531,7 @@ contradicted = refl
 -- ---- what is cleared
 
 -- COMPUTE B ROUNDED = C, where C is at most B + 0.4: 99.4 is rounded to 99, which fits.
-rounded_high : are_cleared kind.Size (bc ∷ []) (worked (alone (item 3)) (target 1 how.Whole Round ∷ []) left_out)
+rounded_high : are_cleared kind.Size (bc ∷ []) (worked (alone (item (plain 3))) (target 1 how.Whole Round ∷ []) left_out)
     action.Done (cells any (to (pos 0) (pos 99)) any (to (pos 0) (pos 999)) any any any)
     (words none none none none none (pos 4) ∷ [])
     ≡ true
@@ -538,7 +539,7 @@ unfolding sums_through if_small coefs_of
 rounded_high = refl
 
 -- 99.5 is rounded to 100.
-rounded_too_high : are_cleared kind.Size (bc ∷ []) (worked (alone (item 3)) (target 1 how.Whole Round ∷ []) left_out)
+rounded_too_high : are_cleared kind.Size (bc ∷ []) (worked (alone (item (plain 3))) (target 1 how.Whole Round ∷ []) left_out)
     action.Done (cells any (to (pos 0) (pos 99)) any (to (pos 0) (pos 999)) any any any)
     (words none none none none none (pos 5) ∷ [])
     ≡ false
@@ -547,7 +548,7 @@ rounded_too_high = refl
 
 -- COMPUTE U = A / (B - A) where A is at most B - 1
 divisor_apart : are_cleared kind.Zero (ab ∷ [])
-    (worked (quotient (item 0) (group (less (item 1) (item 0)))) (target 2 how.Whole Trunc ∷ []) left_out) action.Done
+    (worked (quotient (item (plain 0)) (group (less (item (plain 1)) (item (plain 0))))) (target 2 how.Whole Trunc ∷ []) left_out) action.Done
     (cells (to (pos 0) (pos 9)) (to (pos 0) (pos 9)) any any any any any)
     (words none none none (minus 1) none none ∷ [])
     ≡ true
@@ -556,7 +557,7 @@ divisor_apart = refl
 
 -- and where A is at most B
 divisor_at_zero : are_cleared kind.Zero (ab ∷ [])
-    (worked (quotient (item 0) (group (less (item 1) (item 0)))) (target 2 how.Whole Trunc ∷ []) left_out) action.Done
+    (worked (quotient (item (plain 0)) (group (less (item (plain 1)) (item (plain 0))))) (target 2 how.Whole Trunc ∷ []) left_out) action.Done
     (cells (to (pos 0) (pos 9)) (to (pos 0) (pos 9)) any any any any any) (words none none none (pos 0) none none ∷ [])
     ≡ false
 unfolding sums_through if_small coefs_of
@@ -564,7 +565,7 @@ divisor_at_zero = refl
 
 -- SUBTRACT A FROM B: one pack shows that B - A is at most 5, and the other that it is at least -7.
 ends_by_two_packs : are_cleared kind.Size (ab ∷ abu ∷ [])
-    (worked (alone (item 0)) (target 1 how.Minus Trunc ∷ []) left_out) action.Done
+    (worked (alone (item (plain 0))) (target 1 how.Minus Trunc ∷ []) left_out) action.Done
     (cells (to (minus 99) (pos 99)) (to (minus 99) (pos 99)) any any any any any)
     (words none none none none none (pos 5) ∷ words3 none none none none (pos 7) none none none none none none none ∷ [])
     ≡ true
@@ -572,7 +573,7 @@ unfolding sums_through if_small coefs_of
 ends_by_two_packs = refl
 
 -- The first pack alone doesn't suffice.
-one_end_shown : are_cleared kind.Size (ab ∷ []) (worked (alone (item 0)) (target 1 how.Minus Trunc ∷ []) left_out)
+one_end_shown : are_cleared kind.Size (ab ∷ []) (worked (alone (item (plain 0))) (target 1 how.Minus Trunc ∷ []) left_out)
     action.Done (cells (to (minus 99) (pos 99)) (to (minus 99) (pos 99)) any any any any any)
     (words none none none none none (pos 5) ∷ [])
     ≡ false

@@ -82,7 +82,7 @@ abbrev alone : Atom → Sum
 alone a = MkSum (more_parts (MkPart false (more_factors (MkFactor false false a) no_factors)) no_parts)
 
 abbrev target : ℕ → How → Mode → Target
-target place h mode = record { item = place; how = h; mode = mode }
+target place h mode = record { item = plain place; how = h; mode = mode }
 
 abbrev worked : Sum → List Target → Phrase → Act
 worked s targets size = arith s targets None size no_stmts
@@ -119,7 +119,7 @@ unfolding sums_through if_small coefs_of
 added = refl
 
 -- MOVE 'ABC' TO X, which has A's bytes: A is forgotten, and B stays.
-overlapped : post_packs program (whole ∷ []) 1 (act.move (sender.Text (65 ∷ 66 ∷ 67 ∷ [])) (3 ∷ [])) action.Assign
+overlapped : post_packs program (whole ∷ []) 1 (act.move (sender.Text (65 ∷ 66 ∷ 67 ∷ [])) (plain 3 ∷ [])) action.Assign
     (Some (cells (to (pos 0) (pos 10)) (to (pos 0) (pos 20)) any any)) (words none none none (minus 2) none none ∷ [])
     ≡ words none (minus 2) none none (pos 20) none ∷ []
 unfolding sums_through if_small coefs_of
@@ -144,7 +144,7 @@ with_table = record {
 }
 
 -- MOVE B TO T, of which an occurrence has A's bytes: A is forgotten, and B stays.
-table_overlapped : post_packs with_table (whole ∷ []) 1 (act.move (sender.Item 1) (2 ∷ [])) action.Assign
+table_overlapped : post_packs with_table (whole ∷ []) 1 (act.move (sender.Item (plain 1)) (plain 2 ∷ [])) action.Assign
     (Some (to (pos 0) (pos 10) ∷ to (pos 0) (pos 20) ∷ any ∷ [])) (words none none none (minus 2) none none ∷ [])
     ≡ words none (minus 2) none none (pos 20) none ∷ []
 unfolding sums_through if_small coefs_of
@@ -152,7 +152,7 @@ table_overlapped = refl
 
 -- MOVE C TO A cuts a decimal off a number that isn't negative: in tenths A is at most C, and C at most A + 10. A is then
 -- 0 to 99.
-cut : post_packs program (tenths ∷ []) 1 (act.move (sender.Item (plain 2)) (0 ∷ [])) action.Assign
+cut : post_packs program (tenths ∷ []) 1 (act.move (sender.Item (plain 2)) (plain 0 ∷ [])) action.Assign
     (Some (cells any any (to (pos 0) (pos 999)) any)) (nothing ∷ [])
     ≡ words (pos 0) (pos 0) (pos 990) (pos 0) (pos 999) (pos 10) ∷ []
 unfolding sums_through if_small coefs_of
@@ -160,7 +160,7 @@ cut = refl
 
 -- MOVE A TO C, which has no sign, where A is -9 to -2: C is -A, so that in tenths C - A is at most 180, and A - C at most
 -- -40.
-absolute : post_packs program (tenths ∷ []) 1 (act.move (sender.Item (plain 0)) (2 ∷ [])) action.Assign
+absolute : post_packs program (tenths ∷ []) 1 (act.move (sender.Item (plain 0)) (plain 2 ∷ [])) action.Assign
     (Some (cells (to (minus 9) (minus 2)) any any any)) (nothing ∷ [])
     ≡ words (pos 90) (minus 20) (minus 20) (minus 40) (pos 90) (pos 180) ∷ []
 unfolding sums_through if_small coefs_of
@@ -168,7 +168,7 @@ absolute = refl
 
 -- MOVE A TO C where A is -9 to 2: neither sign is sure, so that C's difference from A is what their own bounds show. C is
 -- 0 to 9 then, since absolute values of -9 to 2 are.
-of_unknown_sign : post_packs program (tenths ∷ []) 1 (act.move (sender.Item (plain 0)) (2 ∷ [])) action.Assign
+of_unknown_sign : post_packs program (tenths ∷ []) 1 (act.move (sender.Item (plain 0)) (plain 2 ∷ [])) action.Assign
     (Some (cells (to (minus 9) (pos 2)) any any any)) (nothing ∷ [])
     ≡ words (pos 90) (pos 0) (pos 20) (pos 20) (pos 90) (pos 180) ∷ []
 unfolding sums_through if_small coefs_of

@@ -125,7 +125,7 @@ module _ (p : Program) (packs : List Pack) (a : Act) (x : Action) where
   clears_part2 (index last k count) s r kind.Subscript =
       ends_in_table p packs r.packs (λ pack. subscript_form p pack s [] k) count (units_of p.layout (homes_of p) s.cells (of_item k))
   clears_part2 (store place mode y) s r fault =
-      has_phrase a || (not (is_misfit y fault) || store_fits (with_taken p a x s) r place mode y)
+      has_phrase a || (not (is_misfit y fault) || store_fits (with_taken p a x s) r place.item mode y)
   clears_part2 (set_count statement y) s r kind.Size =
       option_map_or (λ c. ends_fit p packs r.packs (λ pack. set_form p pack (with_taken p a x s) r.wrote y) Trunc counter c.top.units)
       (with_taken p a x s).common true

@@ -2,6 +2,7 @@
 use Rattle.std.specs.Prelude.{ℕ, ◌==◌, ◌||◌, ◌&&◌, if◌then◌else◌, Bool, true, false, List, ℤ, pos, neg_ℤ, ◌^◌, Option, Some, None, is_some}
 use Rattle.std.specs.List.{list_any}
 use Rattle.std.specs.Option.{option_map}
+use Rattle.cob_data.specs.Places.{plain}
 use Rattle.interval_domain.specs.Corners.{interval}
 use Rattle.cob_data.specs.declared.extent.Extent.{Extent}
 use Rattle.cob_data.specs.declared.layout.Layout.{Layout}
@@ -57,7 +58,7 @@ turned_if minus a = a >>= turned_form minus
 
 -- numbers without decimals
 abbrev pub is_whole_sender : Layout → Sender → Bool
-is_whole_sender l (sender.Item place) = scale_of (form_at l place) == 0
+is_whole_sender l (sender.Item p) = scale_of (form_at l p.item) == 0
 is_whole_sender l (sender.Number n) = n.scale == 0
 is_whole_sender l x = true
 
@@ -65,7 +66,7 @@ is_whole_sender l x = true
 
 -- Operands that are read off their items have a range. No run comes to a store that can't fail where they have none.
 abbrev pub has_operands : Program → Seen → List Extent → Amount → Bool
-has_operands p t wrote (computed s h) = list_any (is_written p.layout wrote) (items_in s) || is_some (sum_range (range_at p t.cells) s)
+has_operands p t wrote (computed s h) = list_any (λ place. is_written p.layout wrote place.item) (items_in s) || is_some (sum_range (range_at p t.cells) s)
 has_operands p t wrote y = true
 
 -- Where operands were taken, by what was known of cells right before the store, and by what the edge had written to.
@@ -82,7 +83,7 @@ module _ (p : Program) (pack : Pack) (t : Seen) (wrote : List Extent) where
 
   -- What a subscript is: the units of its item, which are its number where it has no decimals.
   abbrev pub subscript_form : ℕ → Option Lin
-  subscript_form k = if is_whole_sender p.layout (sender.Item k) then own_form k else None
+  subscript_form k = if is_whole_sender p.layout (sender.Item (plain k)) then own_form k else None
 
   abbrev pub counter_form : ℕ → Option Lin
   counter_form statement =
@@ -100,7 +101,7 @@ module _ (p : Program) (pack : Pack) (t : Seen) (wrote : List Extent) where
   -- Operands to whose bytes the edge has written are what they were then.
   abbrev pub operands_form : Bool → Sum → Option Lin
   operands_form whole s =
-      if list_any (is_written p.layout wrote) (items_in s) then taken_form whole
+      if list_any (λ place. is_written p.layout wrote place.item) (items_in s) then taken_form whole
       else (if whole && is_some (root_of s) then None else sum_form decimals cell_at (range_at p t.cells) s)
 
   abbrev pub item_sent : ℕ → Option ℕ → Bool → Option Lin
@@ -109,7 +110,7 @@ module _ (p : Program) (pack : Pack) (t : Seen) (wrote : List Extent) where
   item_sent place None written = kept_form t.common
 
   abbrev pub sender_form : Sender → Option Lin
-  sender_form (sender.Item place) = item_sent place (cell_at place) (is_written p.layout wrote place)
+  sender_form (sender.Item place) = item_sent place.item (cell_at place.item) (is_written p.layout wrote place.item)
   sender_form x = kept_form t.common
 
   -- What a counter is set to: the units of a sender, which are its number where it has no decimals.

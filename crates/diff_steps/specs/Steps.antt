@@ -99,7 +99,7 @@ module _ (p : Program) (a : Act) (x : Action) where
 
   -- what a part does to a pack
   abbrev pub changed_pack : Part → Seen → List Extent → Pack → List ℤ → List ℤ
-  changed_pack (store place mode y) s wrote pack m = pack_behind_store (with_taken p a x s) wrote place mode y pack m
+  changed_pack (store place mode y) s wrote pack m = pack_behind_store (with_taken p a x s) wrote place.item mode y pack m
   changed_pack (bytes_in offset count) s wrote pack m =
       forgotten_cells (size_of pack) (is_in_extent p.layout (bytes_from offset count)) 1 pack m
   changed_pack (guard t wanted) s wrote pack m = guarded_pack s t wanted pack m
@@ -110,7 +110,7 @@ module _ (p : Program) (a : Act) (x : Action) where
 
   -- The bytes that a part writes to. On an edge that keeps its receiver a store fails, and writes nothing.
   abbrev pub written_by : Part → List Extent
-  written_by (store place mode y) = if keeps_receiver a x then [] else item_bytes p.layout place
+  written_by (store place mode y) = if keeps_receiver a x then [] else item_bytes p.layout place.item
   written_by (bytes_in offset count) = bytes_from offset count ∷ []
   written_by _ = []
 
