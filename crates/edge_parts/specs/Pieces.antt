@@ -2,6 +2,7 @@
 use Rattle.std.specs.Prelude.{ℕ, if◌then◌else◌, Bool, List, [], ◌∷◌, ◌++◌, length, Option, Some, None, is_some}
 use Rattle.std.specs.List.{list_any}
 use Rattle.cob_tree.specs.declared.form.Form.TheVariants as form
+use Rattle.cob_data.specs.declared.layout.Place.{Place}
 use Rattle.cob_data.specs.declared.layout.FileDecl.{FileDecl}
 use Rattle.cob_data.specs.declared.layout.Layout.{Layout}
 use Rattle.cob_data.specs.declared.layout.Sender.{Sender}
@@ -16,7 +17,7 @@ use Rattle.cob_runs.specs.Effects.{tests_in_list}
 use Rattle.cob_edge_parts.specs.Parts.{Part, unread, bytes_in, set_count, divides, divisors_in, divisors_in_factors, divisors_in_atom, is_under, item_reads, number_reads, is_read_for, text_reads}
 
 -- the items of a product
-abbrev pub product_items : sum.Part → List ℕ
+abbrev pub product_items : sum.Part → List Place
 product_items (MkPart minus fs) = items_in_factors fs
 
 -- the divisors of a product
@@ -49,9 +50,9 @@ abbrev pub text_number_reads : List ℕ → List Part
 text_number_reads text = if is_some (number_in (form.Text (length text)) text) then [] else unread ∷ []
 
 -- what is read of a sender for some receivers
-abbrev pub sender_reads : Layout → Sender → List ℕ → List Part
+abbrev pub sender_reads : Layout → Sender → List Place → List Part
 sender_reads l x places =
-    if list_any (λ place. is_read_for l (form_at l place) x) places then number_reads x else []
+    if list_any (λ place. is_read_for l (form_at l place.item) x) places then number_reads x else []
 
 -- what is read of two sides as text
 abbrev pub sides_reads : Layout → Sender → Sender → List Part

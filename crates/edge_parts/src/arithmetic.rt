@@ -15,7 +15,7 @@ use crate::part_items::scale_at;
 use crate::part_senders::push_number_read;
 use crate::sums::{push_divisors, push_reads};
 use crate::taker::{Going, PartTaker, no_parts, push_part, push_two};
-use cob_data::{Layout, Sender};
+use cob_data::{Layout, Place, Sender};
 use cob_program::{How, Sum, Target};
 use dec_num::Mode;
 use std::ops::ControlFlow;
@@ -60,12 +60,12 @@ fn push_divisors_of<'a>(parts: &mut PartTaker<'a>, common: &'a Sum, targets: &[T
 // ---- receivers
 
 // a receiver is read at its turn, unless it gets the whole
-fn push_own_read<'a>(parts: &mut PartTaker<'a>, how: How, item: u32) -> Going
-    ensures { Takes plain_part parts.old (own_reads how item) (goes_on result) parts.new }
+fn push_own_read<'a>(parts: &mut PartTaker<'a>, how: How, place: Place) -> Going
+    ensures { Takes plain_part parts.old (own_reads how place) (goes_on result) parts.new }
 {
     match how {
         How::Whole => no_parts(parts),
-        How::Plus | How::Minus | How::Times | How::Under => push_part(parts, EdgePart::Read(item)),
+        How::Plus | How::Minus | How::Times | How::Under => push_part(parts, EdgePart::Read(place)),
     }
 }
 
@@ -76,7 +76,7 @@ fn push_target<'a>(parts: &mut PartTaker<'a>, common: &'a Sum, target: &Target) 
     push_part(
         parts,
         EdgePart::Store {
-            item: target.item,
+            place: target.item,
             mode: target.mode,
             amount: Amount::Computed(common, target.how),
         },
@@ -97,18 +97,18 @@ fn push_remainder<'a>(
     layout: &Layout,
     common: &'a Sum,
     targets: &[Target],
-    remainder: Option<u32>,
+    remainder: Option<Place>,
 ) -> Going
     ensures { Takes plain_part parts.old (remainder_parts layout.now (plain_sum common.now) targets.now remainder)
         (goes_on result) parts.new }
 {
     match (targets, remainder) {
-        ([target], Some(place)) => push_part(
+        ([target], Some(to)) => push_part(
             parts,
             EdgePart::Store {
-                item: place,
+                place: to,
                 mode: Mode::Trunc,
-                amount: Amount::Remaining(common, scale_at(layout, target.item)),
+                amount: Amount::Remaining(common, scale_at(layout, target.item.item)),
             },
         ),
         _ => no_parts(parts),
@@ -122,7 +122,7 @@ fn push_receivers<'a>(
     layout: &Layout,
     common: &'a Sum,
     targets: &[Target],
-    remainder: Option<u32>,
+    remainder: Option<Place>,
 ) -> Going
     ensures { Takes plain_part parts.old (targets_parts (plain_sum common.now) targets.now
         ++ remainder_parts layout.now (plain_sum common.now) targets.now remainder) (goes_on result) parts.new }
@@ -136,7 +136,7 @@ fn push_results<'a>(
     layout: &Layout,
     common: &'a Sum,
     targets: &[Target],
-    remainder: Option<u32>,
+    remainder: Option<Place>,
 ) -> Going
     ensures { Takes plain_part parts.old (divides (divisors_of (plain_sum common.now) targets.now)
         ++ (targets_parts (plain_sum common.now) targets.now
@@ -152,7 +152,7 @@ pub fn push_arithmetic<'a>(
     layout: &Layout,
     common: &'a Sum,
     targets: &[Target],
-    remainder: Option<u32>,
+    remainder: Option<Place>,
 ) -> Going
     ensures { Takes plain_part parts.old (arith_parts layout.now (plain_sum common.now) targets.now remainder)
         (goes_on result) parts.new }
@@ -168,9 +168,9 @@ pub fn push_augmenting<'a>(parts: &mut PartTaker<'a>, item: u32, by: &'a Sender)
     push_number_read(parts, by)?;
     push_two(
         parts,
-        EdgePart::Read(item),
+        EdgePart::Read(Place::plain(item)),
         EdgePart::Store {
-            item,
+            place: Place::plain(item),
             mode: Mode::Trunc,
             amount: Amount::Augmented(by),
         },

@@ -16,7 +16,7 @@ use crate::arithmetic::push_comparison;
 use crate::part::EdgePart;
 use crate::part_senders::push_text_side_read;
 use crate::taker::{Going, PartTaker, no_parts, push_part, push_two};
-use cob_data::{Layout, Pair, Sender};
+use cob_data::{Layout, Pair, Place, Sender};
 use cob_program::{Act, Program, Test, Turns};
 use std::ops::ControlFlow;
 
@@ -62,7 +62,7 @@ fn push_member_read<'a>(
     if pairs.is_empty() {
         return no_parts(parts);
     }
-    push_text_side_read(parts, layout, &Sender::Item(item))?;
+    push_text_side_read(parts, layout, &Sender::Item(Place::plain(item)))?;
     push_ends_read(parts, layout, pairs)
 }
 

@@ -5,6 +5,7 @@ ghost use Rattle.cob_runs.specs.Steps.{is_given};
 ghost use Rattle.cob_edge_parts.specs.Parts.{has_phrase, is_handled};
 ghost use Rattle.cell_steps.specs.Stores.{is_one_receiver, has_one_receiver, keeps_receiver};
 
+use cob_data::Place;
 use cob_program::{Act, Stmt, Target};
 use cob_runs::Action;
 
@@ -37,7 +38,7 @@ pub fn is_handled(act: &Act, action: Action) -> bool
     }
 }
 
-fn is_one_receiver(targets: &[Target], remainder: Option<u32>) -> bool
+fn is_one_receiver(targets: &[Target], remainder: Option<Place>) -> bool
     ensures { result ≡ is_one_receiver targets.now remainder }
 {
     match (targets, remainder) {

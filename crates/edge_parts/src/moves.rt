@@ -13,17 +13,17 @@ use crate::part::EdgePart;
 use crate::part_items::{gets_value, is_read_for, item_at};
 use crate::part_senders::push_number_read;
 use crate::taker::{Going, PartTaker, no_parts, push_part};
-use cob_data::{Layout, Sender};
+use cob_data::{Layout, Place, Sender};
 use dec_num::Mode;
 use std::ops::ControlFlow;
 use transfer_ranges::Amount;
 
 // Whether the sender is read for one of the items.
-fn is_read(layout: &Layout, from: &Sender, to: &[u32]) -> bool
-    ensures { result ≡ list_any (λ place. is_read_for layout.now (form_at layout.now place) from.now) to.now }
+fn is_read(layout: &Layout, from: &Sender, to: &[Place]) -> bool
+    ensures { result ≡ list_any (λ place. is_read_for layout.now (form_at layout.now place.item) from.now) to.now }
 {
     for place in to {
-        if is_read_for(layout, *place, from) {
+        if is_read_for(layout, place.item, from) {
             return true;
         }
     }
@@ -34,7 +34,7 @@ fn push_sender_read<'a>(
     parts: &mut PartTaker<'a>,
     layout: &Layout,
     from: &Sender,
-    to: &[u32],
+    to: &[Place],
 ) -> Going
     ensures { Takes plain_part parts.old (sender_reads layout.now from.now to.now) (goes_on result) parts.new }
 {
@@ -45,11 +45,11 @@ fn push_sender_read<'a>(
     }
 }
 
-/// The bytes of the item at a place.
-pub fn push_bytes<'a>(parts: &mut PartTaker<'a>, layout: &Layout, place: u32) -> Going
+/// The bytes of an item.
+pub fn push_bytes<'a>(parts: &mut PartTaker<'a>, layout: &Layout, place: Place) -> Going
     ensures { Takes plain_part parts.old (item_bytes layout.now place) (goes_on result) parts.new }
 {
-    match item_at(layout, place) {
+    match item_at(layout, place.item) {
         None => no_parts(parts),
         Some(item) => push_part(
             parts,
@@ -65,15 +65,15 @@ fn push_receiver<'a>(
     parts: &mut PartTaker<'a>,
     layout: &Layout,
     from: &'a Sender,
-    place: u32,
+    place: Place,
 ) -> Going
     ensures { Takes plain_part parts.old (receiver_parts layout.now from.now place) (goes_on result) parts.new }
 {
-    if gets_value(layout, place, from) {
+    if gets_value(layout, place.item, from) {
         push_part(
             parts,
             EdgePart::Store {
-                item: place,
+                place,
                 mode: Mode::Trunc,
                 amount: Amount::Moved(from),
             },
@@ -87,7 +87,7 @@ fn push_receivers<'a>(
     parts: &mut PartTaker<'a>,
     layout: &Layout,
     from: &'a Sender,
-    to: &[u32],
+    to: &[Place],
 ) -> Going
     ensures { Takes plain_part parts.old (receivers_parts layout.now from.now to.now) (goes_on result) parts.new }
 {
@@ -102,7 +102,7 @@ pub fn push_move<'a>(
     parts: &mut PartTaker<'a>,
     layout: &Layout,
     from: &'a Sender,
-    to: &[u32],
+    to: &[Place],
 ) -> Going
     ensures { Takes plain_part parts.old (move_parts layout.now from.now to.now) (goes_on result) parts.new }
 {
@@ -121,7 +121,7 @@ pub fn push_from<'a>(
 {
     match from {
         None => no_parts(parts),
-        Some(sender) => push_move(parts, layout, sender, &[rec]),
+        Some(sender) => push_move(parts, layout, sender, &[Place::plain(rec)]),
     }
 }
 
@@ -131,6 +131,6 @@ pub fn push_into<'a>(parts: &mut PartTaker<'a>, layout: &Layout, into: Option<u3
 {
     match into {
         None => no_parts(parts),
-        Some(place) => push_bytes(parts, layout, place),
+        Some(item) => push_bytes(parts, layout, Place::plain(item)),
     }
 }

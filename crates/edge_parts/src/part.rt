@@ -1,5 +1,5 @@
 //! Parts of what an edge of the control graph does, borrowed from its statement.
-use cob_data::Sender;
+use cob_data::{Place, Sender};
 use cob_program::{Atom, Sum, Test};
 use dec_num::Mode;
 use transfer_ranges::Amount;
@@ -15,7 +15,7 @@ pub enum Divisor<'a> {
 #[derive(Clone, Copy)]
 pub enum EdgePart<'a> {
     /// An item's contents are a number.
-    Read(u32),
+    Read(Place),
     /// A constant that is no number is asked for one; no program of the profile has this.
     Unread,
     /// A subscript's item is a number. `last` tells a remainder's, whose turn may not come.
@@ -33,7 +33,7 @@ pub enum EdgePart<'a> {
     Divide(Divisor<'a>),
     /// An item gets a value.
     Store {
-        item: u32,
+        place: Place,
         mode: Mode,
         amount: Amount<'a>,
     },

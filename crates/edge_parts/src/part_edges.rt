@@ -19,7 +19,7 @@ use crate::part::EdgePart;
 use crate::part_senders::push_number_read;
 use crate::taker::{Going, PartTaker, no_parts, push_part, push_two};
 use crate::tests_of::test_at;
-use cob_data::Sender;
+use cob_data::{Place, Sender};
 use cob_program::{Act, Program, Stmt, Test, Turns};
 use cob_runs::Action;
 
@@ -31,7 +31,12 @@ fn push_start<'a>(parts: &mut PartTaker<'a>, program: &Program, turns: &'a Turns
         (goes_on result) parts.new }
 {
     match turns {
-        Turns::Varying { item, start, .. } => push_move(parts, &program.layout, start, &[*item]),
+        Turns::Varying { item, start, .. } => push_move(
+            parts,
+            &program.layout,
+            start,
+            &[Place::plain(*item)],
+        ),
         _ => no_parts(parts),
     }
 }

@@ -86,7 +86,7 @@ pub fn is_number_item(layout: &Layout, sender: &Sender) -> bool
     ensures { result ≡ is_number_item layout.now sender.now }
 {
     match sender {
-        Sender::Item(place) => is_number_at(layout, *place),
+        Sender::Item(place) => is_number_at(layout, place.item),
         _ => false,
     }
 }
@@ -95,7 +95,7 @@ fn is_group_sender(layout: &Layout, sender: &Sender) -> bool
     ensures { result ≡ is_group_sender layout.now sender.now }
 {
     match sender {
-        Sender::Item(place) => is_group_at(layout, *place),
+        Sender::Item(place) => is_group_at(layout, place.item),
         _ => false,
     }
 }
