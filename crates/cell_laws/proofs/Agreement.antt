@@ -2,6 +2,7 @@
 use Rattle.std.proofs.Common.{◌≡◌, ℕ, Bool, true, false, List, [], ◌∷◌, ◌++◌, Option, Some, None, pos, refl, ap, subst}
 use Rattle.dec_num.specs.declared.types.Scaled.{Scaled}
 use Rattle.dec_num.specs.Scaled.{value_of}
+use Rattle.cob_data.specs.declared.layout.Place.{Place}
 use Rattle.cob_program.specs.declared.act.How.{How}
 use Rattle.cob_program.specs.declared.act.How.TheVariants as how
 use Rattle.cob_program.specs.Sum.{Sum, MkSum, no_parts, more_parts, MkPart, Factors, no_factors, more_factors, MkFactor, Atom}
@@ -11,8 +12,8 @@ use Rattle.cob_runs.specs.Computing.{items_in, items_in_factors, items_in_atom, 
 pub use Rattle.transfer_ranges.proofs.Agreement.{Agree, same_sum}
 use Rattle.transfer_ranges.proofs.Agreement.{bind_same, agree_front, agree_back, same_product, same_atom}
 
-module _ (f g : ℕ → Scaled) where
-  agree_both : (xs ys : List ℕ) → Agree f g xs → Agree f g ys → Agree f g (xs ++ ys)
+module _ (f g : Place → Scaled) where
+  agree_both : (xs ys : List Place) → Agree f g xs → Agree f g ys → Agree f g (xs ++ ys)
   agree_both [] ys h k = k
   agree_both (x ∷ xs) ys h k = (h.0, agree_both xs ys h.1 k)
 

@@ -7,6 +7,7 @@ use Rattle.dec_num.specs.declared.types.Scaled.{Scaled}
 use Rattle.dec_num.specs.Exact.{Fraction}
 use Rattle.dec_num.specs.Scaled.{value_of}
 use Rattle.cob_tree.specs.declared.form.Form.TheVariants as form
+use Rattle.cob_data.specs.declared.layout.Place.{Place}
 use Rattle.cob_data.specs.declared.layout.Sender.{Sender}
 use Rattle.cob_data.specs.declared.layout.Sender.TheVariants as sender
 use Rattle.cob_program.specs.declared.act.Target.{Target}
@@ -50,17 +51,17 @@ mapped P f None h = h
 mapped P f (Some c) h = h
 
 module _ (given : Given) (p : Program) (sound : HasSoundItems p.layout) (cells : List Known) (first : List ℕ) (counts : List (Option ℤ)) (stands : StandsIn p cells (storage first counts)) where
-  abbrev other : ℕ → Scaled
-  other place = decimal (range_at p cells place).units.low (range_at p cells place).scale
+  abbrev other : Place → Scaled
+  other place = decimal (range_at p cells place.item).units.low (range_at p cells place.item).scale
 
-  abbrev number_or_other : ℕ → Scaled
+  abbrev number_or_other : Place → Scaled
   number_or_other place = unwrap_or (number_at p.layout first place) (other place)
 
-  all_in : (place : ℕ) → IsIn (number_or_other place) (range_at p cells place)
+  all_in : (place : Place) → IsIn (number_or_other place) (range_at p cells place.item)
   all_in place = go (number_at p.layout first place) refl
     where
-      go : (o : Option Scaled) → number_at p.layout first place ≡ o → IsIn (unwrap_or o (other place)) (range_at p cells place)
-      go None e = record { held = (omega (arith, ints), range_is_ordered p sound cells (storage first counts) stands place); scale = refl }
+      go : (o : Option Scaled) → number_at p.layout first place ≡ o → IsIn (unwrap_or o (other place)) (range_at p cells place.item)
+      go None e = record { held = (omega (arith, ints), range_is_ordered p sound cells (storage first counts) stands place.item); scale = refl }
       go (Some v) e = number_holds p sound cells (storage first counts) stands place v e
 
   -- ---- sums
@@ -147,7 +148,7 @@ module _ (given : Given) (p : Program) (sound : HasSoundItems p.layout) (cells :
   -- ---- edges
 
   abbrev IsNumeric : Act → Type 0
-  IsNumeric a = (s : Sum) (ts : List Target) (r : Option ℕ) (size : Phrase) (fine : Stmts) → a ≡ arithmetic s ts r size fine → are_numeric p.layout first (items_in s) ≡ true
+  IsNumeric a = (s : Sum) (ts : List Target) (r : Option Place) (size : Phrase) (fine : Stmts) → a ≡ arithmetic s ts r size fine → are_numeric p.layout first (items_in s) ≡ true
 
   sum_numeric : (a : Act) (x : Action) (s : Sum) → IsNumeric a → edge_amount a x ≡ Some (computed s how.Whole) → are_numeric p.layout first (items_in s) ≡ true
   sum_numeric (arithmetic u ts r size fine) x s h e =

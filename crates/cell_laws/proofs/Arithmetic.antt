@@ -7,6 +7,7 @@ use Rattle.dec_num.specs.declared.types.Mode.TheVariants.{Trunc}
 use Rattle.dec_num.specs.declared.types.Scaled.{Scaled}
 use Rattle.dec_num.specs.Exact.{Fraction}
 use Rattle.dec_num.specs.Scaled.{value_of}
+use Rattle.cob_data.specs.declared.layout.Place.{Place}
 use Rattle.cob_program.specs.declared.act.Target.{Target}
 use Rattle.cob_program.specs.declared.act.How.{How}
 use Rattle.cob_program.specs.declared.act.How.TheVariants as how
@@ -27,7 +28,7 @@ use Rattle.cell_laws.proofs.Divisors.{divisors_order, some_behind}
 -- ---- results
 
 -- the divisors of a sum are among the statement's, and so is the sum where it divides
-in_sum : (worth : ℕ → Scaled) (s : Sum) (t : Target) (ts : List Target) → list_all (divides_by worth) (divisors_of s (t ∷ ts)) ≡ true
+in_sum : (worth : Place → Scaled) (s : Sum) (t : Target) (ts : List Target) → list_all (divides_by worth) (divisors_of s (t ∷ ts)) ≡ true
     → (list_all (divides_by worth) (divisors_in s) ≡ true) × (list_any (λ u. is_under u.how) (t ∷ ts) ≡ true → divides_by worth (group s) ≡ true)
 in_sum worth s t ts e = go (list_any (λ u. is_under u.how) (t ∷ ts)) (sym (list_all-append (divides_by worth) (divisors_in s) (if list_any (λ u. is_under u.how) (t ∷ ts) then group s ∷ [] else [])) ∙ e)
   where
@@ -42,7 +43,7 @@ in_sum worth s t ts e = go (list_any (λ u. is_under u.how) (t ∷ ts)) (sym (li
         (two.0, λ k. (both (divides_by worth (group s)) true two.1).0)
     go false f = ((both (list_all (divides_by worth) (divisors_in s)) true f).0, λ k. absurd cc)
 
-result_there : (worth : ℕ → Scaled) (s : Sum) (h : How) (own : Scaled) (t : Target) (ts : List Target) → (is_under h ≡ true → list_any (λ u. is_under u.how) (t ∷ ts) ≡ true)
+result_there : (worth : Place → Scaled) (s : Sum) (h : How) (own : Scaled) (t : Target) (ts : List Target) → (is_under h ≡ true → list_any (λ u. is_under u.how) (t ∷ ts) ≡ true)
     → list_all (divides_by worth) (divisors_of s (t ∷ ts)) ≡ true → is_some (result worth s h own) ≡ true
 result_there worth s h own t ts among e = go (is_under h) among (result_counts worth s h own) (in_sum worth s t ts e)
   where
@@ -52,7 +53,7 @@ result_there worth s h own t ts among e = go (is_under h) among (result_counts w
     go false a f k = f ∙ k.0
 
 -- a quotient that is there leaves a remainder
-rest_there : (worth : ℕ → Scaled) (s : Sum) (scale : ℕ) → is_some (root_of s) ≡ true → is_some (result worth s how.Whole (whole_number (pos 0))) ≡ true → is_some (remainder_of worth scale (root_of s)) ≡ true
+rest_there : (worth : Place → Scaled) (s : Sum) (scale : ℕ) → is_some (root_of s) ≡ true → is_some (result worth s how.Whole (whole_number (pos 0))) ≡ true → is_some (remainder_of worth scale (root_of s)) ≡ true
 rest_there worth s scale r e = go (root_of s) r e
   where
     quotients : (o : Option Scaled) (q : Scaled → Option Scaled) (f : Scaled → Scaled → Option Fraction) (g : Scaled → Scaled → Fraction → Scaled)
@@ -87,7 +88,7 @@ pub record InTargets (s : Sum) (ts : List Target) (done : List Part) (y : Part) 
   pub others : List Target
   pub list : ts ≡ first ∷ others
 
-own_read : (h : How) (place : ℕ) (done rest : List Part) (y : Part) → done ++ y ∷ rest ≡ own_reads h place → (q : ℕ) × (y ≡ read q)
+own_read : (h : How) (place : Place) (done rest : List Part) (y : Part) → done ++ y ∷ rest ≡ own_reads h place → (q : Place) × (y ≡ read q)
 own_read how.Whole place done rest y e = absurd (not_empty done rest y e)
 own_read how.Plus place done rest y e = (place, (only (read place) done rest y e).1)
 own_read how.Minus place done rest y e = (place, (only (read place) done rest y e).1)
@@ -102,11 +103,11 @@ or_second : (b c : Bool) → c ≡ true → (b || c) ≡ true
 or_second true c e = refl
 or_second false c e = e
 
-pub in_targets : (s : Sum) (ts : List Target) (done rest : List Part) (y : Part) → done ++ y ∷ rest ≡ targets_parts s ts → ((q : ℕ) × (y ≡ read q)) ⊎ InTargets s ts done y
+pub in_targets : (s : Sum) (ts : List Target) (done rest : List Part) (y : Part) → done ++ y ∷ rest ≡ targets_parts s ts → ((q : Place) × (y ≡ read q)) ⊎ InTargets s ts done y
 in_targets s [] done rest y e = absurd (not_empty done rest y e)
 in_targets s (t ∷ ts) done rest y e = go (stands (target_parts s t) (targets_parts s ts) done rest y e) (λ behind f. in_targets s ts behind rest y f)
   where
-    here : (more : List Part) → done ++ y ∷ more ≡ own_reads t.how t.item ++ store t.item t.mode (computed s t.how) ∷ [] → Stands (own_reads t.how t.item) (store t.item t.mode (computed s t.how) ∷ []) done y more → ((q : ℕ) × (y ≡ read q)) ⊎ InTargets s (t ∷ ts) done y
+    here : (more : List Part) → done ++ y ∷ more ≡ own_reads t.how t.item ++ store t.item t.mode (computed s t.how) ∷ [] → Stands (own_reads t.how t.item) (store t.item t.mode (computed s t.how) ∷ []) done y more → ((q : Place) × (y ≡ read q)) ⊎ InTargets s (t ∷ ts) done y
     here more f (inl (others, g)) = inl (own_read t.how t.item done others y g)
     here more f (inr (behind, g, h)) =
         let one = only (store t.item t.mode (computed s t.how)) behind more y h in
@@ -121,7 +122,7 @@ in_targets s (t ∷ ts) done rest y e = go (stands (target_parts s t) (targets_p
           list = refl;
         })
 
-    later : (behind : List Part) → done ≡ target_parts s t ++ behind → ((q : ℕ) × (y ≡ read q)) ⊎ InTargets s ts behind y → ((q : ℕ) × (y ≡ read q)) ⊎ InTargets s (t ∷ ts) done y
+    later : (behind : List Part) → done ≡ target_parts s t ++ behind → ((q : Place) × (y ≡ read q)) ⊎ InTargets s ts behind y → ((q : Place) × (y ≡ read q)) ⊎ InTargets s (t ∷ ts) done y
     later behind f (inl k) = inl k
     later behind f (inr k) = inr (record {
       target = k.target;
@@ -134,20 +135,20 @@ in_targets s (t ∷ ts) done rest y e = go (stands (target_parts s t) (targets_p
       list = refl;
     })
 
-    go : Stands (target_parts s t) (targets_parts s ts) done y rest → ((behind : List Part) → behind ++ y ∷ rest ≡ targets_parts s ts → ((q : ℕ) × (y ≡ read q)) ⊎ InTargets s ts behind y) → ((q : ℕ) × (y ≡ read q)) ⊎ InTargets s (t ∷ ts) done y
+    go : Stands (target_parts s t) (targets_parts s ts) done y rest → ((behind : List Part) → behind ++ y ∷ rest ≡ targets_parts s ts → ((q : Place) × (y ≡ read q)) ⊎ InTargets s ts behind y) → ((q : Place) × (y ≡ read q)) ⊎ InTargets s (t ∷ ts) done y
     go (inl (more, f)) others = here more f (stands (own_reads t.how t.item) (store t.item t.mode (computed s t.how) ∷ []) done more y f)
     go (inr (behind, f, g)) others = later behind f (others behind g)
 
 -- ---- all parts
 
-module _ (p : Program) (statement : ℕ) (s : Sum) (ts : List Target) (remainder : Option ℕ) (size : Phrase) (fine : Stmts) (x : Action) (edge : (x ≡ action.Done) ⊎ (x ≡ action.Size)) where
+module _ (p : Program) (statement : ℕ) (s : Sum) (ts : List Target) (remainder : Option Place) (size : Phrase) (fine : Stmts) (x : Action) (edge : (x ≡ action.Done) ⊎ (x ≡ action.Size)) where
   abbrev its_act : Act
   its_act = arith s ts remainder size fine
 
   abbrev is_arithmetic : IsArithmetic its_act x s
   is_arithmetic = record { targets = ts; remainder = remainder; size = size; fine = fine; act = refl; edge = edge }
 
-  reads_in_place : (done : List Part) (y : Part) → (q : ℕ) × (y ≡ read q) → IsInPlace statement its_act x done y
+  reads_in_place : (done : List Part) (y : Part) → (q : Place) × (y ≡ read q) → IsInPlace statement its_act x done y
   reads_in_place done y (q, e) = subst (λ (z : Part). IsInPlace statement its_act x done z) (sym e) tt
 
   divided : (done : List Part) (y : Part) → InDivides (divisors_of s ts) done y → (all : List Part) → all ≡ item_reads (items_in s) ++ done → IsInPlace statement its_act x all y
@@ -162,7 +163,7 @@ module _ (p : Program) (statement : ℕ) (s : Sum) (ts : List Target) (remainder
         some = λ worth f. some_behind (items_in s) k.before k.atom b worth f;
       })
 
-  own_before : (h : How) (place : ℕ) (all front before : List Part) → all ≡ front ++ (before ++ own_reads h place) → ¬ h ≡ how.Whole → EndsWithRead all place
+  own_before : (h : How) (place : Place) (all front before : List Part) → all ≡ front ++ (before ++ own_reads h place) → ¬ h ≡ how.Whole → EndsWithRead all place
   own_before how.Whole place all front before e n = absurd (n refl)
   own_before how.Plus place all front before e n = record { before = front ++ before; split = e ∙ sym (append_assoc front before (read place ∷ [])) }
   own_before how.Minus place all front before e n = record { before = front ++ before; split = e ∙ sym (append_assoc front before (read place ∷ [])) }
@@ -188,7 +189,7 @@ module _ (p : Program) (statement : ℕ) (s : Sum) (ts : List Target) (remainder
             (subst (λ (us : List Target). list_all (divides_by worth) (divisors_of s us) ≡ true) k.list f);
       })
 
-  remaining_at : (behind : List Part) (place : ℕ) (scale : ℕ) (t : Target) → ts ≡ t ∷ [] → (all : List Part) → all ≡ item_reads (items_in s) ++ (divides (divisors_of s ts) ++ behind) → IsRemaining its_act x all s
+  remaining_at : (behind : List Part) (place : Place) (scale : ℕ) (t : Target) → ts ≡ t ∷ [] → (all : List Part) → all ≡ item_reads (items_in s) ++ (divides (divisors_of s ts) ++ behind) → IsRemaining its_act x all s
   remaining_at behind place scale t one all e = record {
     arithmetic = is_arithmetic;
     operands = behind_operands all behind e;
@@ -197,12 +198,12 @@ module _ (p : Program) (statement : ℕ) (s : Sum) (ts : List Target) (remainder
         (result_there worth s how.Whole (whole_number (pos 0)) t [] (λ u. absurd cc) (subst (λ (us : List Target). list_all (divides_by worth) (divisors_of s us) ≡ true) one f));
   }
 
-  remainder_in : (us : List Target) (r : Option ℕ) (all behind done rest : List Part) (y : Part) → ts ≡ us → all ≡ item_reads (items_in s) ++ (divides (divisors_of s ts) ++ behind)
+  remainder_in : (us : List Target) (r : Option Place) (all behind done rest : List Part) (y : Part) → ts ≡ us → all ≡ item_reads (items_in s) ++ (divides (divisors_of s ts) ++ behind)
       → done ++ y ∷ rest ≡ remainder_parts p.layout s us r → IsInPlace statement its_act x all y
   remainder_in (t ∷ []) (Some place) all behind done rest y one e f =
-      let last = only (store place Trunc (remaining s (scale_of (form_at p.layout t.item)))) done rest y f in
+      let last = only (store place Trunc (remaining s (scale_of (form_at p.layout t.item.item)))) done rest y f in
       subst (λ (z : Part). IsInPlace statement its_act x all z) (sym last.1)
-      (remaining_at behind place (scale_of (form_at p.layout t.item)) t one all e)
+      (remaining_at behind place (scale_of (form_at p.layout t.item.item)) t one all e)
   remainder_in (t ∷ []) None all behind done rest y one e f = absurd (not_empty done rest y f)
   remainder_in [] r all behind done rest y one e f = absurd (not_empty done rest y f)
   remainder_in (t ∷ (u ∷ us)) r all behind done rest y one e f = absurd (not_empty done rest y f)
@@ -213,7 +214,7 @@ module _ (p : Program) (statement : ℕ) (s : Sum) (ts : List Target) (remainder
       by_targets : (ds behind : List Part) → done ≡ item_reads (items_in s) ++ (divides (divisors_of s ts) ++ behind) → Stands (targets_parts s ts) (remainder_parts p.layout s ts remainder) behind y rest → IsInPlace statement its_act x done y
       by_targets ds behind f (inl (more, g)) = by_one (in_targets s ts behind more y g)
         where
-          by_one : ((q : ℕ) × (y ≡ read q)) ⊎ InTargets s ts behind y → IsInPlace statement its_act x done y
+          by_one : ((q : Place) × (y ≡ read q)) ⊎ InTargets s ts behind y → IsInPlace statement its_act x done y
           by_one (inl k) = reads_in_place done y k
           by_one (inr k) = computed_at behind y k done f
       by_targets ds behind f (inr (last, g, h)) = remainder_in ts remainder done behind last rest y refl f h

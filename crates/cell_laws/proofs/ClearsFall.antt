@@ -102,7 +102,7 @@ module _ (given : Given) (p : Program) (a : Act) (x : Action) where
       (test_le (pos 1) i.low (let l = w.low in omega (arith, ints, l, low))) (test_le i.high (pos count) (let m = w.high in omega (arith, ints, m, high)))
 
   pub clears_below : (y : Part) (s t : Seen) (fault : Kind) → SeenBelow p a x s t → clears_part p a x y t fault ≡ true → clears_part p a x y s fault ≡ true
-  clears_below (read place) s t kind.Class h e = numeric_below p.layout (homes_of p) s.cells t.cells h.cells place e
+  clears_below (read place) s t kind.Class h e = numeric_below p.layout (homes_of p) s.cells t.cells h.cells place.item e
   clears_below (read place) s t kind.Size h e = refl
   clears_below (read place) s t kind.Zero h e = refl
   clears_below (read place) s t kind.Truncation h e = refl
@@ -127,7 +127,7 @@ module _ (given : Given) (p : Program) (a : Act) (x : Action) where
   clears_below (divide d) s t kind.Class h e = refl
   clears_below (divide d) s t kind.Truncation h e = refl
   clears_below (divide d) s t kind.Subscript h e = refl
-  clears_below (store place mode y) s t fault h e = store_clears_below place mode y s t fault h e
+  clears_below (store place mode y) s t fault h e = store_clears_below place.item mode y s t fault h e
   clears_below (bytes_in offset count) s t fault h e = refl
   clears_below (guard v wanted) s t fault h e = refl
   clears_below (read_count n) s t kind.Class h e = is_known_below p.layout (homes_of p) s.cells t.cells h.cells (of_count n) e

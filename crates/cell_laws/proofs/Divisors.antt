@@ -4,6 +4,7 @@ use Rattle.std.specs.List.{list_all, list_any, Contains}
 use Rattle.std.proofs.lemmas.List.{append_assoc, append-nil}
 use Rattle.std.proofs.lemmas.List.Folds.{list_all-append}
 use Rattle.dec_num.specs.declared.types.Scaled.{Scaled}
+use Rattle.cob_data.specs.declared.layout.Place.{Place}
 use Rattle.cob_program.specs.declared.act.Target.{Target}
 use Rattle.cob_program.specs.Sum as sum
 use Rattle.cob_program.specs.Sum.{Sum, MkSum, no_parts, more_parts, MkPart, Factors, no_factors, more_factors, MkFactor, Atom, item, number, group}
@@ -15,28 +16,28 @@ use Rattle.cob_edge_parts.proofs.Divisors.{atom_counts}
 use Rattle.cell_laws.proofs.Splits.{Stands, stands, not_empty, only, contains_front, contains_back}
 
 -- Right before each divisor stand those in it, and its items are among these.
-pub record IsBehindItsOwn (places : List ℕ) (before : List Atom) (d : Atom) : Type 0 where
+pub record IsBehindItsOwn (places : List Place) (before : List Atom) (d : Atom) : Type 0 where
   pub others : List Atom
   pub split : before ≡ others ++ divisors_in_atom d
-  pub items : (place : ℕ) → Contains (items_in_atom d) place → Contains places place
+  pub items : (place : Place) → Contains (items_in_atom d) place → Contains places place
 
-abbrev pub AreInOrder : List ℕ → List Atom → Type 0
+abbrev pub AreInOrder : List Place → List Atom → Type 0
 AreInOrder places atoms = (before after : List Atom) (d : Atom) → before ++ d ∷ after ≡ atoms → IsBehindItsOwn places before d
 
-more_places : (places others : List ℕ) (before : List Atom) (d : Atom) → IsBehindItsOwn places before d → IsBehindItsOwn (places ++ others) before d
+more_places : (places others : List Place) (before : List Atom) (d : Atom) → IsBehindItsOwn places before d → IsBehindItsOwn (places ++ others) before d
 more_places places others before d b = record { others = b.others; split = b.split; items = λ place c. contains_front places others place (b.items place c) }
 
-other_places : (others places : List ℕ) (before : List Atom) (d : Atom) → IsBehindItsOwn places before d → IsBehindItsOwn (others ++ places) before d
+other_places : (others places : List Place) (before : List Atom) (d : Atom) → IsBehindItsOwn places before d → IsBehindItsOwn (others ++ places) before d
 other_places others places before d b = record { others = b.others; split = b.split; items = λ place c. contains_back others places place (b.items place c) }
 
-later : (as_ before behind : List Atom) (places : List ℕ) (d : Atom) → before ≡ as_ ++ behind → IsBehindItsOwn places behind d → IsBehindItsOwn places before d
+later : (as_ before behind : List Atom) (places : List Place) (d : Atom) → before ≡ as_ ++ behind → IsBehindItsOwn places behind d → IsBehindItsOwn places before d
 later as_ before behind places d e b = record {
   others = as_ ++ b.others;
   split = e ∙ (ap (λ (ks : List Atom). as_ ++ ks) b.split ∙ sym (append_assoc as_ b.others (divisors_in_atom d)));
   items = b.items;
 }
 
-pub order_append : (as_ bs : List Atom) (places others : List ℕ) → AreInOrder places as_ → AreInOrder others bs → AreInOrder (places ++ others) (as_ ++ bs)
+pub order_append : (as_ bs : List Atom) (places others : List Place) → AreInOrder places as_ → AreInOrder others bs → AreInOrder (places ++ others) (as_ ++ bs)
 order_append as_ bs places others h k before after d e = go (stands as_ bs before after d e)
   where
     go : Stands as_ bs before d after → IsBehindItsOwn (places ++ others) before d
@@ -84,7 +85,7 @@ divisors_order s [] before after d e = absurd (not_empty before after d e)
 divisors_order s (t ∷ ts) before after d e = with_itself (group s) (list_any (λ u. is_under u.how) (t ∷ ts)) (sum_order s) before after d e
 
 -- where those before it aren't 0, a divisor has a value
-pub some_behind : (places : List ℕ) (before : List Atom) (d : Atom) → IsBehindItsOwn places before d → (worth : ℕ → Scaled) → list_all (divides_by worth) before ≡ true → is_some (atom_value worth d) ≡ true
+pub some_behind : (places : List Place) (before : List Atom) (d : Atom) → IsBehindItsOwn places before d → (worth : Place → Scaled) → list_all (divides_by worth) before ≡ true → is_some (atom_value worth d) ≡ true
 some_behind places before d b worth e =
     atom_counts worth d ∙ last_all b.others (divisors_in_atom d) (sym (list_all-append (divides_by worth) b.others (divisors_in_atom d)) ∙ (ap (list_all (divides_by worth)) (sym b.split) ∙ e))
   where

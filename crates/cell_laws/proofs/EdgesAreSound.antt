@@ -3,6 +3,7 @@ use Rattle.std.proofs.Common.{◌≡◌, ℕ, Bool, true, false, ◌&&◌, ◌||
 use Rattle.std.specs.List.{list_any}
 use Rattle.std.specs.Option.{option_map_or}
 use Rattle.cob_tree.specs.declared.fault.Kind.{Kind}
+use Rattle.cob_data.specs.declared.layout.Place.{Place}
 use Rattle.cob_program.specs.declared.act.Target.{Target}
 use Rattle.cob_program.specs.Sum.{Sum}
 use Rattle.cob_program.specs.Values.{◌>>=◌}
@@ -111,12 +112,12 @@ module _ (given : Given) (p : Program) (statement : ℕ) (a : Act) (x : Action) 
   target_stores : (s : Sum) (t : Target) → list_any is_store (target_parts s t) ≡ true
   target_stores s t = any_behind (own_reads t.how t.item) _ refl
 
-  no_divisors : (s : Sum) (r : Option ℕ) (m n : Moment) → m.by_zero ≡ false → PassesParts p.layout (handled p a x) (item_reads (items_in s) ++ (divides (divisors_of s []) ++ ([] ++ remainder_parts p.layout s [] r))) m n → n.by_zero ≡ false
+  no_divisors : (s : Sum) (r : Option Place) (m n : Moment) → m.by_zero ≡ false → PassesParts p.layout (handled p a x) (item_reads (items_in s) ++ (divides (divisors_of s []) ++ ([] ++ remainder_parts p.layout s [] r))) m n → n.by_zero ≡ false
   no_divisors s r m n z h =
       let k = read_first p.layout (handled p a x) (items_in s) [] m n z h in
       ap (λ (j : Moment). j.by_zero) k.passes ∙ k.zero
 
-  size_stores : (s : Sum) (ts : List Target) (r : Option ℕ) (m n : Moment) → m.by_zero ≡ false → n.by_zero ≡ true
+  size_stores : (s : Sum) (ts : List Target) (r : Option Place) (m n : Moment) → m.by_zero ≡ false → n.by_zero ≡ true
       → PassesParts p.layout (handled p a x) (item_reads (items_in s) ++ (divides (divisors_of s ts) ++ (targets_parts s ts ++ remainder_parts p.layout s ts r))) m n
       → list_any is_store (item_reads (items_in s) ++ (divides (divisors_of s ts) ++ (targets_parts s ts ++ remainder_parts p.layout s ts r))) ≡ true
   size_stores s [] r m n z e h = absurd (let f = no_divisors s r m n z h in cc)

@@ -5,6 +5,8 @@ use Rattle.std.specs.List.{Contains}
 use Rattle.std.specs.Option.{option_map, option_map_or}
 use Rattle.std.proofs.lemmas.Int.{ints}
 use Rattle.dec_num.specs.declared.types.Scaled.{Scaled}
+use Rattle.cob_data.specs.Places.{plain}
+use Rattle.cob_data.specs.declared.layout.Place.{Place}
 use Rattle.interval_domain.specs.declared.bounds.Interval.{Interval}
 use Rattle.interval_domain.specs.Bounds.{Holds}
 use Rattle.cob_data.specs.declared.layout.Item.{Item}
@@ -94,8 +96,8 @@ some_times l sound place = go (item_at l place) refl
 
 -- What is no table's has one: what holds of the first holds of each.
 pub each_of_one : (l : Layout) → HasSoundItems l → (place : ℕ) → is_table l place ≡ false → (P : ℕ → Type 0) → P 0 → (n : ℕ) → n < times_at l place → P n
-each_of_one l sound place plain P first n less =
-    let one = sound.one place plain in
+each_of_one l sound place single P first n less =
+    let one = sound.one place single in
     let same : 0 ≡ n = omega (arith, less, one) in
     subst P same first
 
@@ -116,8 +118,8 @@ module _ (p : Program) (sound : HasSoundItems p.layout) (cells : List Known) (s 
           let same : scaled_by (scale_of (form_at p.layout place)) z ≡ v = cc in
           subst (λ (w : Scaled). IsIn w (range_at p cells place)) same (record { held = units_hold place n z less f; scale = refl })
 
-  pub number_holds : (place : ℕ) (v : Scaled) → number_at p.layout s.bytes place ≡ Some v → IsIn v (range_at p cells place)
-  number_holds place v e = occurrence_holds place 0 v (some_times p.layout sound place) e
+  pub number_holds : (place : Place) (v : Scaled) → number_at p.layout s.bytes place ≡ Some v → IsIn v (range_at p cells place.item)
+  number_holds place v e = occurrence_holds place.item 0 v (some_times p.layout sound place.item) e
 
   pub range_is_ordered : (place : ℕ) → IsOrdered (range_at p cells place)
   range_is_ordered place =
@@ -133,7 +135,7 @@ module _ (p : Program) (sound : HasSoundItems p.layout) (cells : List Known) (s 
       mapped None f = f
       mapped (Some z) f = refl
 
-  pub numeric_there : (place : ℕ) → is_numeric p.layout (homes_of p) cells place ≡ true → is_some (number_at p.layout s.bytes place) ≡ true
+  pub numeric_there : (place : ℕ) → is_numeric p.layout (homes_of p) cells place ≡ true → is_some (number_at p.layout s.bytes (plain place)) ≡ true
   numeric_there place e = occurrence_there place 0 (some_times p.layout sound place) e
 
   pub items_hold : ItemsHold p.layout (range_at p cells) (is_numeric p.layout (homes_of p) cells) s.bytes

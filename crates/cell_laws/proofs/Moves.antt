@@ -6,6 +6,8 @@ use Rattle.std.proofs.lemmas.List.{append_assoc}
 use Rattle.dec_num.specs.declared.types.Mode.TheVariants.{Trunc}
 use Rattle.cob_tree.specs.declared.form.Form.{Form}
 use Rattle.cob_tree.specs.declared.form.Form.TheVariants as form
+use Rattle.cob_data.specs.Places.{plain}
+use Rattle.cob_data.specs.declared.layout.Place.{Place}
 use Rattle.cob_data.specs.declared.layout.FileDecl.{FileDecl}
 use Rattle.cob_data.specs.declared.layout.Item.{Item}
 use Rattle.cob_data.specs.declared.layout.Layout.{Layout}
@@ -28,7 +30,7 @@ IsRead (read place) = Unit {0}
 IsRead unread = Unit {0}
 IsRead y = ⊥
 
-pub read_is : (y : Part) (place : ℕ) → y ≡ read place → IsRead y
+pub read_is : (y : Part) (place : Place) → y ≡ read place → IsRead y
 read_is y place e = subst (λ (z : Part). IsRead z) (sym e) tt
 
 pub in_number_reads : (x : Sender) (done rest : List Part) (y : Part) → done ++ y ∷ rest ≡ number_reads x → IsRead y
@@ -52,8 +54,8 @@ bytes_is : (y : Part) (offset count : ℕ) → y ≡ bytes_in offset count → I
 bytes_is y offset count e = subst (λ (z : Part). IsBytes z) (sym e) tt
 
 module _ (l : Layout) where
-  pub in_item_bytes : (place : ℕ) (done rest : List Part) (y : Part) → done ++ y ∷ rest ≡ item_bytes l place → IsBytes y
-  in_item_bytes place done rest y e = go (item_at l place) e
+  pub in_item_bytes : (place : Place) (done rest : List Part) (y : Part) → done ++ y ∷ rest ≡ item_bytes l place → IsBytes y
+  in_item_bytes place done rest y e = go (item_at l place.item) e
     where
       go : (o : Option Item) → done ++ y ∷ rest ≡ option_map_or (λ i. bytes_in i.offset i.length ∷ []) o [] → IsBytes y
       go None f = absurd (not_empty done rest y f)
@@ -85,7 +87,7 @@ module _ (l : Layout) where
 
   pub in_into : (o : Option ℕ) (done rest : List Part) (y : Part) → done ++ y ∷ rest ≡ into_parts l o → IsBytes y
   in_into None done rest y e = absurd (not_empty done rest y e)
-  in_into (Some place) done rest y e = in_item_bytes place done rest y e
+  in_into (Some place) done rest y e = in_item_bytes (plain place) done rest y e
 
   -- ---- MOVE
 
@@ -133,8 +135,8 @@ module _ (l : Layout) where
   value_read (form.Edited picture digits scale) x e = e
 
   -- a receiver of the list: a store says that the sender is read
-  abbrev IsReceived : Sender → List ℕ → Part → Type 0
-  IsReceived x places y = IsBytes y ⊎ ((place : ℕ) × (y ≡ store place Trunc (moved x)) × (list_any (λ q. is_read_for l (form_at l q) x) places ≡ true))
+  abbrev IsReceived : Sender → List Place → Part → Type 0
+  IsReceived x places y = IsBytes y ⊎ ((place : Place) × (y ≡ store place Trunc (moved x)) × (list_any (λ q. is_read_for l (form_at l q.item) x) places ≡ true))
 
   or_first : (b c : Bool) → b ≡ true → (b || c) ≡ true
   or_first true c e = refl
@@ -144,26 +146,26 @@ module _ (l : Layout) where
   or_second true c e = refl
   or_second false c e = e
 
-  received : (x : Sender) (places : List ℕ) (done rest : List Part) (y : Part) → done ++ y ∷ rest ≡ receivers_parts l x places → IsReceived x places y
+  received : (x : Sender) (places : List Place) (done rest : List Part) (y : Part) → done ++ y ∷ rest ≡ receivers_parts l x places → IsReceived x places y
   received x [] done rest y e = absurd (not_empty done rest y e)
   received x (place ∷ places) done rest y e = go (stands (receiver_parts l x place) (receivers_parts l x places) done rest y e) (λ behind f. received x places behind rest y f)
     where
-      here : (more : List Part) (b : Bool) → gets_value l (form_at l place) x ≡ b → done ++ y ∷ more ≡ (if b then store place Trunc (moved x) ∷ [] else item_bytes l place) → IsReceived x (place ∷ places) y
-      here more true f g = inr (place, (only (store place Trunc (moved x)) done more y g).1, or_first (is_read_for l (form_at l place) x) (list_any (λ q. is_read_for l (form_at l q) x) places) (value_read (form_at l place) x f))
+      here : (more : List Part) (b : Bool) → gets_value l (form_at l place.item) x ≡ b → done ++ y ∷ more ≡ (if b then store place Trunc (moved x) ∷ [] else item_bytes l place) → IsReceived x (place ∷ places) y
+      here more true f g = inr (place, (only (store place Trunc (moved x)) done more y g).1, or_first (is_read_for l (form_at l place.item) x) (list_any (λ q. is_read_for l (form_at l q.item) x) places) (value_read (form_at l place.item) x f))
       here more false f g = inl (in_item_bytes place done more y g)
 
       later : IsReceived x places y → IsReceived x (place ∷ places) y
       later (inl h) = inl h
-      later (inr (q, f, g)) = inr (q, f, or_second (is_read_for l (form_at l place) x) (list_any (λ k. is_read_for l (form_at l k) x) places) g)
+      later (inr (q, f, g)) = inr (q, f, or_second (is_read_for l (form_at l place.item) x) (list_any (λ k. is_read_for l (form_at l k.item) x) places) g)
 
       go : Stands (receiver_parts l x place) (receivers_parts l x places) done y rest → ((behind : List Part) → behind ++ y ∷ rest ≡ receivers_parts l x places → IsReceived x places y) → IsReceived x (place ∷ places) y
-      go (inl (more, f)) others = here more (gets_value l (form_at l place) x) refl f
+      go (inl (more, f)) others = here more (gets_value l (form_at l place.item) x) refl f
       go (inr (behind, f, g)) others = later (others behind g)
 
-  pub in_move : (x : Sender) (places : List ℕ) (done rest : List Part) (y : Part) → done ++ y ∷ rest ≡ move_parts l x places → IsMoved x done y
+  pub in_move : (x : Sender) (places : List Place) (done rest : List Part) (y : Part) → done ++ y ∷ rest ≡ move_parts l x places → IsMoved x done y
   in_move x places done rest y e =
-      go (list_any (λ place. is_read_for l (form_at l place) x) places) refl
-      (stands (if list_any (λ place. is_read_for l (form_at l place) x) places then number_reads x else []) (receivers_parts l x places) done rest y e)
+      go (list_any (λ place. is_read_for l (form_at l place.item) x) places) refl
+      (stands (if list_any (λ place. is_read_for l (form_at l place.item) x) places then number_reads x else []) (receivers_parts l x places) done rest y e)
     where
       front : (b : Bool) (more : List Part) → done ++ y ∷ more ≡ (if b then number_reads x else []) → IsMoved x done y
       front true more f = read_moved x done y (in_number_reads x done more y f)
@@ -173,13 +175,13 @@ module _ (l : Layout) where
       behind_sender true behind f g = record { behind = behind; split = f }
       behind_sender false behind f g = absurd cc
 
-      back : (b : Bool) (behind : List Part) → list_any (λ place. is_read_for l (form_at l place) x) places ≡ b → done ≡ (if b then number_reads x else []) ++ behind → IsReceived x places y → IsMoved x done y
+      back : (b : Bool) (behind : List Part) → list_any (λ place. is_read_for l (form_at l place.item) x) places ≡ b → done ≡ (if b then number_reads x else []) ++ behind → IsReceived x places y → IsMoved x done y
       back b behind f g (inl h) = bytes_moved x done y h
       back b behind f g (inr (place, same, any)) = subst (λ (z : Part). IsMoved x done z) (sym same) (refl, behind_sender b behind g (sym f ∙ any))
 
-      go : (b : Bool) → list_any (λ place. is_read_for l (form_at l place) x) places ≡ b → Stands (if list_any (λ place. is_read_for l (form_at l place) x) places then number_reads x else []) (receivers_parts l x places) done y rest → IsMoved x done y
-      go b f (inl (more, g)) = front (list_any (λ place. is_read_for l (form_at l place) x) places) more g
-      go b f (inr (behind, g, h)) = back (list_any (λ place. is_read_for l (form_at l place) x) places) behind refl g (received x places behind rest y h)
+      go : (b : Bool) → list_any (λ place. is_read_for l (form_at l place.item) x) places ≡ b → Stands (if list_any (λ place. is_read_for l (form_at l place.item) x) places then number_reads x else []) (receivers_parts l x places) done y rest → IsMoved x done y
+      go b f (inl (more, g)) = front (list_any (λ place. is_read_for l (form_at l place.item) x) places) more g
+      go b f (inr (behind, g, h)) = back (list_any (λ place. is_read_for l (form_at l place.item) x) places) behind refl g (received x places behind rest y h)
 
   -- ---- tests
 
@@ -227,7 +229,7 @@ module _ (l : Layout) where
   in_compare : (a b : Sum) (done rest : List Part) (y : Part) → done ++ y ∷ rest ≡ compare_parts a b → IsTested done y
   in_compare a b done rest y e = first (stands (item_reads (items_in a)) (item_reads (items_in b) ++ divides (divisors_in a ++ divisors_in b)) done rest y e)
     where
-      reads : (q : ℕ) × (y ≡ read q) → IsTested done y
+      reads : (q : Place) × (y ≡ read q) → IsTested done y
       reads (q, f) = read_tested done y (read_is y q f)
 
       divided : (behind last : List Part) → done ≡ item_reads (items_in a) ++ behind → behind ≡ item_reads (items_in b) ++ last → InDivides (divisors_in a ++ divisors_in b) last y → IsTested done y
@@ -259,10 +261,10 @@ module _ (l : Layout) where
       go (inl (k, f)) = read_tested done y (in_text_reads a done k y f)
       go (inr (behind, f, g)) = read_tested done y (in_text_reads b behind rest y g)
   in_test_reads (member place []) done rest y e = absurd (not_empty done rest y e)
-  in_test_reads (member place (q ∷ ps)) done rest y e = go (stands (text_reads l (sender.Item place)) (end_reads l (q ∷ ps)) done rest y e)
+  in_test_reads (member place (q ∷ ps)) done rest y e = go (stands (text_reads l (sender.Item (plain place))) (end_reads l (q ∷ ps)) done rest y e)
     where
-      go : Stands (text_reads l (sender.Item place)) (end_reads l (q ∷ ps)) done y rest → IsTested done y
-      go (inl (k, f)) = read_tested done y (in_text_reads (sender.Item place) done k y f)
+      go : Stands (text_reads l (sender.Item (plain place))) (end_reads l (q ∷ ps)) done y rest → IsTested done y
+      go (inl (k, f)) = read_tested done y (in_text_reads (sender.Item (plain place)) done k y f)
       go (inr (behind, f, g)) = read_tested done y (in_end_reads (q ∷ ps) behind rest y g)
   in_test_reads (numeric place) done rest y e = absurd (not_empty done rest y e)
   in_test_reads always done rest y e = absurd (not_empty done rest y e)

@@ -4,6 +4,7 @@ use Rattle.std.specs.List.{list_any}
 use Rattle.std.proofs.lemmas.Bool.{or_parts}
 use Rattle.std.proofs.lemmas.List.{append_assoc, append-nil}
 use Rattle.cob_tree.specs.declared.fault.Kind.{Kind}
+use Rattle.cob_data.specs.declared.layout.Place.{Place}
 use Rattle.cob_data.specs.declared.layout.Layout.{Layout}
 use Rattle.cob_program.specs.declared.act.How.{How}
 use Rattle.cob_program.specs.declared.act.How.TheVariants as how
@@ -34,7 +35,7 @@ pub record EndsInStore (ys : List Part) : Type 0 where
   pub none : list_any is_store front ≡ false
 
 -- what is read and divided for a receiver stores nothing
-none_stored : (places : List ℕ) (atoms : List Atom) (h : How) (place : ℕ) → list_any is_store (item_reads places ++ (divides atoms ++ own_reads h place)) ≡ false
+none_stored : (places : List Place) (atoms : List Atom) (h : How) (place : Place) → list_any is_store (item_reads places ++ (divides atoms ++ own_reads h place)) ≡ false
 none_stored [] [] how.Whole place = refl
 none_stored [] [] how.Plus place = refl
 none_stored [] [] how.Minus place = refl

@@ -2,6 +2,7 @@
 use Rattle.std.proofs.Common.{◌≡◌, ℕ, Bool, true, false, ◌&&◌, ◌||◌, if◌then◌else◌, ◌⊎◌, inl, inr, Option, Some, None, pos, refl, sym, subst, arith}
 use Rattle.std.specs.Option.{option_map}
 use Rattle.std.proofs.lemmas.Int.{ints}
+use Rattle.cob_data.specs.Places.{plain}
 use Rattle.cob_program.specs.Sum.{Sum, MkSum, no_parts, more_parts, MkPart, Factors, no_factors, more_factors, MkFactor, Atom, item}
 use Rattle.cob_program.specs.Values.{whole_number, with_factor, Root, root_in, root_of, behind_factor, ◌>>=◌}
 use Rattle.cob_program.specs.Act.{Act, move, arith as arithmetic, if_, evaluate, perform, go, nothing, stop, open_files, close_files, read, write, show}
@@ -188,7 +189,7 @@ module _ (narrow wide : ℕ → Ranged) (within : (place : ℕ) → IsNarrower (
 zero_alone : (a u : Ranged) → IsOrdered a → IsOrdered u → quotient_range a u ≡ None → holds_zero (Some u) ≡ true
 zero_alone a u o k e =
     let missing : (quotient_range a u >>= λ c. Some c) ≡ None = rw e refl in
-    elim (or_either (holds_zero (Some u)) false (product_missing (λ place. u) (λ place. k) (more_factors (MkFactor true false (item 0)) no_factors) a o missing)) [
+    elim (or_either (holds_zero (Some u)) false (product_missing (λ place. u) (λ place. k) (more_factors (MkFactor true false (item (plain 0))) no_factors) a o missing)) [
       | inl f ↦ f
       | inr f ↦ absurd cc
     ]

@@ -3,6 +3,8 @@ use Rattle.std.proofs.Common.{◌≡◌, ℕ, Bool, true, false, ◌⊎◌, inl,
 use Rattle.std.specs.Prelude.{slice_get}
 use Rattle.std.specs.Option.{option_map}
 use Rattle.dec_num.specs.declared.types.Mode.TheVariants.{Trunc}
+use Rattle.cob_data.specs.Places.{plain}
+use Rattle.cob_data.specs.declared.layout.Place.{Place}
 use Rattle.cob_data.specs.declared.layout.Sender.{Sender}
 use Rattle.cob_program.specs.declared.act.Target.{Target}
 use Rattle.cob_program.specs.Sum.{Sum}
@@ -20,7 +22,7 @@ use Rattle.cell_laws.proofs.Moves.{IsRead, in_number_reads, IsBytes, in_file, in
 
 -- what does no arithmetic
 abbrev IsNoArithmetic : Act → Type 0
-IsNoArithmetic a = (s : Sum) (targets : List Target) (remainder : Option ℕ) (size : Phrase) (fine : Stmts) → ¬ a ≡ arith s targets remainder size fine
+IsNoArithmetic a = (s : Sum) (targets : List Target) (remainder : Option Place) (size : Phrase) (fine : Stmts) → ¬ a ≡ arith s targets remainder size fine
 
 module _ (p : Program) (statement : ℕ) where
   read_in_place : (a : Act) (x : Action) (done : List Part) (y : Part) → IsRead y → IsInPlace statement a x done y
@@ -89,32 +91,32 @@ module _ (p : Program) (statement : ℕ) where
 
   augment_in_place : (body : Body) (after : Bool) (place : ℕ) (start by : Sender) (t : Logic) (x : Action) → (x ≡ action.Done) ⊎ (x ≡ action.Size) → (done rest : List Part) (y : Part)
       → done ++ y ∷ rest ≡ augment_parts place by → IsInPlace statement (perform body (varying after place start by t)) x done y
-  augment_in_place body after place start by t x edge done rest y e = go (stands (number_reads by) (read place ∷ store place Trunc (augmented by) ∷ []) done rest y e)
+  augment_in_place body after place start by t x edge done rest y e = go (stands (number_reads by) (read (plain place) ∷ store (plain place) Trunc (augmented by) ∷ []) done rest y e)
     where
-      go : Stands (number_reads by) (read place ∷ store place Trunc (augmented by) ∷ []) done y rest → IsInPlace statement (perform body (varying after place start by t)) x done y
+      go : Stands (number_reads by) (read (plain place) ∷ store (plain place) Trunc (augmented by) ∷ []) done y rest → IsInPlace statement (perform body (varying after place start by t)) x done y
       go (inl (more, f)) = read_in_place (perform body (varying after place start by t)) x done y (in_number_reads by done more y f)
-      go (inr (behind, f, g)) = two (stands (read place ∷ []) (store place Trunc (augmented by) ∷ []) behind rest y g)
+      go (inr (behind, f, g)) = two (stands (read (plain place) ∷ []) (store (plain place) Trunc (augmented by) ∷ []) behind rest y g)
         where
-          two : Stands (read place ∷ []) (store place Trunc (augmented by) ∷ []) behind y rest → IsInPlace statement (perform body (varying after place start by t)) x done y
-          two (inl (more, h)) = subst (λ (z : Part). IsInPlace statement (perform body (varying after place start by t)) x done z) (sym (only (read place) behind more y h).1) tt
+          two : Stands (read (plain place) ∷ []) (store (plain place) Trunc (augmented by) ∷ []) behind y rest → IsInPlace statement (perform body (varying after place start by t)) x done y
+          two (inl (more, h)) = subst (λ (z : Part). IsInPlace statement (perform body (varying after place start by t)) x done z) (sym (only (read (plain place)) behind more y h).1) tt
           two (inr (last, h, k)) =
-              let one = only (store place Trunc (augmented by)) last rest y k in
-              let all : done ≡ number_reads by ++ (read place ∷ []) = f ∙ ap (λ (xs : List Part). number_reads by ++ xs) (h ∙ ap (λ (xs : List Part). read place ∷ xs) one.0) in
+              let one = only (store (plain place) Trunc (augmented by)) last rest y k in
+              let all : done ≡ number_reads by ++ (read (plain place) ∷ []) = f ∙ ap (λ (xs : List Part). number_reads by ++ xs) (h ∙ ap (λ (xs : List Part). read (plain place) ∷ xs) one.0) in
               subst (λ (z : Part). IsInPlace statement (perform body (varying after place start by t)) x done z) (sym one.1)
-              ((refl, edge), record { behind = read place ∷ []; split = all }, record { before = number_reads by; split = all })
+              ((refl, edge), record { behind = read (plain place) ∷ []; split = all }, record { before = number_reads by; split = all })
 
   -- ---- edges
 
   assign_in_place : (a : Act) (done rest : List Part) (y : Part) → done ++ y ∷ rest ≡ assign_parts p statement a → IsInPlace statement a action.Assign done y
   assign_in_place (move z places) done rest y e = moved_in_place (move z places) action.Assign z done y (λ s ts r size fine f. cc) (refl, refl) (in_move p.layout z places done rest y e)
   assign_in_place (perform body (varying after place start by t)) done rest y e =
-      moved_in_place (perform body (varying after place start by t)) action.Assign start done y (λ s ts r size fine f. cc) (refl, refl) (in_move p.layout start (place ∷ []) done rest y e)
+      moved_in_place (perform body (varying after place start by t)) action.Assign start done y (λ s ts r size fine f. cc) (refl, refl) (in_move p.layout start (plain place ∷ []) done rest y e)
   assign_in_place (perform body once) done rest y e = nothing_in_place (perform body once) action.Assign done rest y e
   assign_in_place (perform body (times z)) done rest y e = nothing_in_place (perform body (times z)) action.Assign done rest y e
   assign_in_place (perform body (until after t)) done rest y e = nothing_in_place (perform body (until after t)) action.Assign done rest y e
   assign_in_place (reading f into end fine) done rest y e = bytes_in_place (reading f into end fine) action.Assign done y (λ s ts r size fine g. cc) (in_into p.layout into done rest y e)
   assign_in_place (write r None) done rest y e = nothing_in_place (write r None) action.Assign done rest y e
-  assign_in_place (write r (Some z)) done rest y e = moved_in_place (write r (Some z)) action.Assign z done y (λ s ts q size fine f. cc) (refl, refl) (in_move p.layout z (r ∷ []) done rest y e)
+  assign_in_place (write r (Some z)) done rest y e = moved_in_place (write r (Some z)) action.Assign z done y (λ s ts q size fine f. cc) (refl, refl) (in_move p.layout z (plain r ∷ []) done rest y e)
   assign_in_place (arith s ts r size fine) done rest y e = nothing_in_place (arith s ts r size fine) action.Assign done rest y e
   assign_in_place (if_ t held other) done rest y e = nothing_in_place (if_ t held other) action.Assign done rest y e
   assign_in_place (evaluate ws other) done rest y e = nothing_in_place (evaluate ws other) action.Assign done rest y e

@@ -10,6 +10,8 @@ use Rattle.dec_num.specs.declared.types.Mode.{Mode}
 use Rattle.dec_num.specs.declared.types.Scaled.{Scaled}
 use Rattle.dec_num.specs.Exact.{Fraction}
 use Rattle.cob_tree.specs.declared.fault.Kind.{Kind}
+use Rattle.cob_data.specs.Places.{plain}
+use Rattle.cob_data.specs.declared.layout.Place.{Place}
 use Rattle.cob_data.specs.declared.layout.Sender.{Sender}
 use Rattle.interval_domain.specs.declared.bounds.Interval.{Interval}
 use Rattle.interval_domain.specs.Bounds.{Holds}
@@ -97,9 +99,9 @@ module _ (given : Given) (p : Program) (statement : ℕ) (a : Act) (x : Action) 
 
   -- ---- reads
 
-  read_cleared : (done : List Part) (place : ℕ) (s : Seen) (m : Moment) → Agrees p statement a x done s m → is_numeric p.layout (homes_of p) s.cells place ≡ true → number_at p.layout m.storage place ≡ None → ⊥
+  read_cleared : (done : List Part) (place : Place) (s : Seen) (m : Moment) → Agrees p statement a x done s m → is_numeric p.layout (homes_of p) s.cells place.item ≡ true → number_at p.layout m.storage place ≡ None → ⊥
   read_cleared done place s m g e f =
-      let there = numeric_there p g.sound.items s.cells (storage m.storage m.counts) g.stands place e in
+      let there = numeric_there p g.sound.items s.cells (storage m.storage m.counts) g.stands place.item e in
       let gone : is_some (number_at p.layout m.storage place) ≡ false = ap is_some f in
       cc
 
@@ -154,20 +156,20 @@ module _ (given : Given) (p : Program) (statement : ℕ) (a : Act) (x : Action) 
   root_of_amount (moved y) e = tt
   root_of_amount (augmented y) e = tt
 
-  store_cleared : (done : List Part) (place : ℕ) (mode : Mode) (y : Amount) (t : Seen) (m : Moment) → TakenAt p statement a x done t m → IsStored a x done place y → m.by_zero ≡ false → all_fit p a x t place mode y ≡ true → stored_bytes p.layout m place mode y ≡ None → ⊥
+  store_cleared : (done : List Part) (place : Place) (mode : Mode) (y : Amount) (t : Seen) (m : Moment) → TakenAt p statement a x done t m → IsStored a x done place y → m.by_zero ≡ false → all_fit p a x t place.item mode y ≡ true → stored_bytes p.layout m place mode y ≡ None → ⊥
   store_cleared done place mode y t m g q unzero clear e =
-      let two = both_true (has_quotient y) (option_map_or (all_fit_of p a x t place mode y) t.common true) clear in
+      let two = both_true (has_quotient y) (option_map_or (all_fit_of p a x t place.item mode y) t.common true) clear in
       let v = is_there (amount p.layout m y) (amount_there p statement a x done place y t m g q unzero (root_of_amount y two.0)) in
       go v.0 t.common (amount_meant p statement a x done place y t m g q unzero v.0 v.1) two.1
-      (subst (λ (o : Option Fraction). (o >>= stored_units mode (form_at p.layout place)) ≡ None) v.1 e)
+      (subst (λ (o : Option Fraction). (o >>= stored_units mode (form_at p.layout place.item)) ≡ None) v.1 e)
     where
-      amounts : (v : Fraction) (o : Option AmountRange) → IsSomeAnd o (λ r. IsAmount r v) → option_map_or (λ r. not (may_fail mode (receiver_of (form_at p.layout place)) r)) o true ≡ true → stored_units mode (form_at p.layout place) v ≡ None → ⊥
+      amounts : (v : Fraction) (o : Option AmountRange) → IsSomeAnd o (λ r. IsAmount r v) → option_map_or (λ r. not (may_fail mode (receiver_of (form_at p.layout place.item)) r)) o true ≡ true → stored_units mode (form_at p.layout place.item) v ≡ None → ⊥
       amounts v None h k f = h
-      amounts v (Some r) h k f = not_both (may_fail mode (receiver_of (form_at p.layout place)) r) (given.fails_ mode (form_at p.layout place) r v h f) k
+      amounts v (Some r) h k f = not_both (may_fail mode (receiver_of (form_at p.layout place.item)) r) (given.fails_ mode (form_at p.layout place.item) r v h f) k
 
-      go : (v : Fraction) (o : Option Taken) → IsSomeAnd (o >>= amount_of y (range_at p t.cells place)) (λ r. IsAmount r v) → option_map_or (all_fit_of p a x t place mode y) o true ≡ true → stored_units mode (form_at p.layout place) v ≡ None → ⊥
+      go : (v : Fraction) (o : Option Taken) → IsSomeAnd (o >>= amount_of y (range_at p t.cells place.item)) (λ r. IsAmount r v) → option_map_or (all_fit_of p a x t place.item mode y) o true ≡ true → stored_units mode (form_at p.layout place.item) v ≡ None → ⊥
       go v None h k f = h
-      go v (Some c) h k f = amounts v (amount_of y (range_at p t.cells place) c) h k f
+      go v (Some c) h k f = amounts v (amount_of y (range_at p t.cells place.item) c) h k f
 
   misfit_is : (y : Amount) → is_misfit y (misfit_of y) ≡ true
   misfit_is (computed s h) = refl
@@ -207,13 +209,13 @@ module _ (given : Given) (p : Program) (statement : ℕ) (a : Act) (x : Action) 
         | inr none ↦ divide_cleared done d s m (given.places_ p statement a x done rest (divide d) e) g (off_zero given p statement a x done s m g off) none f
       ]
 
-  store_part : (done rest : List Part) (place : ℕ) (mode : Mode) (y : Amount) (s : Seen) (m : Moment) (fault : Kind) → done ++ store place mode y ∷ rest ≡ parts_of p statement a x → Agrees p statement a x done s m
+  store_part : (done rest : List Part) (place : Place) (mode : Mode) (y : Amount) (s : Seen) (m : Moment) (fault : Kind) → done ++ store place mode y ∷ rest ≡ parts_of p statement a x → Agrees p statement a x done s m
       → clears_part p a x (store place mode y) s fault ≡ true → fault_edge a x ≡ x → (b : Bool) → handled p a x ≡ b → Faults p.layout b (store place mode y) m fault → ⊥
   store_part done rest place mode y s m fault e g clear its true on f = f
   store_part done rest place mode y s m fault e g clear its false off (f, is) =
       elim (or_either (has_phrase a) _ (subst (λ (k : Kind). clears_part p a x (store place mode y) s k ≡ true) is clear)) [
         | inl has ↦ phrase_off done rest (store place mode y) refl e off its has
-        | inr some_ ↦ elim (or_either (not (is_misfit y (misfit_of y))) (all_fit p a x (with_taken p a x s) place mode y) some_) [
+        | inr some_ ↦ elim (or_either (not (is_misfit y (misfit_of y))) (all_fit p a x (with_taken p a x s) place.item mode y) some_) [
           | inl other ↦ not_both (is_misfit y (misfit_of y)) (misfit_is y) other
           | inr fits ↦ store_cleared done place mode y (with_taken p a x s) m (taken_at p statement a x given done (store place mode y) s m refl (given.places_ p statement a x done rest (store place mode y) e) g)
               (given.places_ p statement a x done rest (store place mode y) e) (off_zero given p statement a x done s m g off) fits f
@@ -225,7 +227,7 @@ module _ (given : Given) (p : Program) (statement : ℕ) (a : Act) (x : Action) 
   cleared done rest (read place) s m fault e g clear (its, inr (is, f)) = f
   cleared done rest unread s m fault e g clear (its, inl is) = let f = subst (λ (k : Kind). clears_part p a x unread s k ≡ true) is clear in cc
   cleared done rest unread s m fault e g clear (its, inr (is, f)) = f
-  cleared done rest (subscript last k) s m fault e g clear (its, inl (comes, none, is)) = read_cleared done k s m g (subst (λ (w : Kind). clears_part p a x (subscript last k) s w ≡ true) is clear) none
+  cleared done rest (subscript last k) s m fault e g clear (its, inl (comes, none, is)) = read_cleared done (plain k) s m g (subst (λ (w : Kind). clears_part p a x (subscript last k) s w ≡ true) is clear) none
   cleared done rest (subscript last k) s m fault e g clear (its, inr (is, f)) = f
   cleared done rest (index last k count) s m fault e g clear (its, inl (comes, v, has, none)) =
       index_cleared p statement a x done k count s m v fault g (subst (λ (w : Kind). clears_part p a x (index last k count) s w ≡ true) (fault_is count v.units fault none) clear) has none

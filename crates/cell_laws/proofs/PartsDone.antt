@@ -3,6 +3,7 @@ use Rattle.std.proofs.Common.{◌≡◌, ℕ, zero, suc, Bool, true, false, ◌&
 use Rattle.std.specs.List.{list_all, list_any, Contains}
 use Rattle.dec_num.specs.declared.types.Mode.{Mode}
 use Rattle.dec_num.specs.declared.types.Scaled.{Scaled}
+use Rattle.cob_data.specs.declared.layout.Place.{Place}
 use Rattle.cob_data.specs.declared.layout.Layout.{Layout}
 use Rattle.cob_program.specs.Sum.{Atom}
 use Rattle.cob_runs.specs.Contents.{number_at}
@@ -44,7 +45,7 @@ any_last f (x ∷ xs) y e = go (f x) e (λ g. any_last f xs y g)
     go false g rest = rest g
 
 -- reads and divisions write nothing
-pub none_written : (places : List ℕ) (atoms : List Atom) → (list_any writes (item_reads places ++ divides atoms) ≡ false) × (list_any is_store (item_reads places ++ divides atoms) ≡ false)
+pub none_written : (places : List Place) (atoms : List Atom) → (list_any writes (item_reads places ++ divides atoms) ≡ false) × (list_any is_store (item_reads places ++ divides atoms) ≡ false)
 none_written [] [] = (refl, refl)
 none_written [] (d ∷ atoms) = none_written [] atoms
 none_written (place ∷ places) atoms = none_written places atoms
@@ -58,15 +59,15 @@ module _ (l : Layout) (handled : Bool) where
 
   -- ---- divisors that were 0
 
-  pub read_zero : (b : Bool) (place : ℕ) (m n : Moment) → ReadsAt l b place m n → n.by_zero ≡ m.by_zero
+  pub read_zero : (b : Bool) (place : Place) (m n : Moment) → ReadsAt l b place m n → n.by_zero ≡ m.by_zero
   read_zero true place m n e = ap (λ (k : Moment). k.by_zero) e
   read_zero false place m n (v, f, e) = ap (λ (k : Moment). k.by_zero) e
 
-  kept_zero : (m : Moment) (place : ℕ) (o : Option (List ℕ)) → (stored_or_kept l m place o).by_zero ≡ m.by_zero
+  kept_zero : (m : Moment) (place : Place) (o : Option (List ℕ)) → (stored_or_kept l m place o).by_zero ≡ m.by_zero
   kept_zero m place None = refl
   kept_zero m place (Some bytes) = refl
 
-  pub store_zero : (h : Bool) (place : ℕ) (mode : Mode) (y : Amount) (m n : Moment) → Stores l h place mode y m n → n.by_zero ≡ m.by_zero
+  pub store_zero : (h : Bool) (place : Place) (mode : Mode) (y : Amount) (m n : Moment) → Stores l h place mode y m n → n.by_zero ≡ m.by_zero
   store_zero true place mode y m n e = ap (λ (k : Moment). k.by_zero) e ∙ go (is_left_alone m y)
     where
       go : (b : Bool) → (if b then m else stored_or_kept l m place (stored_bytes l m place mode y)).by_zero ≡ m.by_zero
@@ -105,7 +106,7 @@ module _ (l : Layout) (handled : Bool) where
 
   -- ---- items that were read
 
-  pub record ReadFirst (places : List ℕ) (rest : List Part) (m n : Moment) : Type 0 where
+  pub record ReadFirst (places : List Place) (rest : List Part) (m n : Moment) : Type 0 where
     pub numeric : are_numeric l m.storage places ≡ true
     pub next : Moment
     pub passes : PassesParts l handled rest next n
@@ -113,7 +114,7 @@ module _ (l : Layout) (handled : Bool) where
     pub first : next.first ≡ m.first
     pub zero : next.by_zero ≡ false
 
-  pub read_first : (places : List ℕ) (rest : List Part) (m n : Moment) → m.by_zero ≡ false → PassesParts l handled (item_reads places ++ rest) m n → ReadFirst places rest m n
+  pub read_first : (places : List Place) (rest : List Part) (m n : Moment) → m.by_zero ≡ false → PassesParts l handled (item_reads places ++ rest) m n → ReadFirst places rest m n
   read_first [] rest m n z h = record { numeric = refl; next = m; passes = h; storage = refl; first = refl; zero = z }
   read_first (place ∷ places) rest m n z (k, h, hs) =
       let one = one_read (subst (λ (b : Bool). ReadsAt l b place m k) z h.0) in
@@ -151,12 +152,12 @@ module _ (l : Layout) (handled : Bool) where
 
 -- ---- all of these items
 
-pub all_contained : (l : Layout) (bytes : List ℕ) (places : List ℕ) (place : ℕ) → are_numeric l bytes places ≡ true → Contains places place → is_some (number_at l bytes place) ≡ true
+pub all_contained : (l : Layout) (bytes : List ℕ) (places : List Place) (place : Place) → are_numeric l bytes places ≡ true → Contains places place → is_some (number_at l bytes place) ≡ true
 all_contained l bytes [] place e (k, h, f) = absurd (omega (arith, h))
-all_contained l bytes (q ∷ places) place e (zero, h, f) = subst (λ (r : ℕ). is_some (number_at l bytes r) ≡ true) f (both_true (is_some (number_at l bytes q)) (are_numeric l bytes places) e).0
+all_contained l bytes (q ∷ places) place e (zero, h, f) = subst (λ (r : Place). is_some (number_at l bytes r) ≡ true) f (both_true (is_some (number_at l bytes q)) (are_numeric l bytes places) e).0
 all_contained l bytes (q ∷ places) place e (suc k, h, f) = all_contained l bytes places place (both_true (is_some (number_at l bytes q)) (are_numeric l bytes places) e).1 (k, omega (arith, h), f)
 
-pub contained_all : (l : Layout) (bytes : List ℕ) (places : List ℕ) → ((place : ℕ) → Contains places place → is_some (number_at l bytes place) ≡ true) → are_numeric l bytes places ≡ true
+pub contained_all : (l : Layout) (bytes : List ℕ) (places : List Place) → ((place : Place) → Contains places place → is_some (number_at l bytes place) ≡ true) → are_numeric l bytes places ≡ true
 contained_all l bytes [] h = refl
 contained_all l bytes (q ∷ places) h =
     and_true (is_some (number_at l bytes q)) (are_numeric l bytes places) (h q (0, omega (arith), refl))

@@ -10,6 +10,7 @@ use Rattle.dec_num.specs.declared.types.Mode.{Mode}
 use Rattle.dec_num.specs.declared.types.Scaled.{Scaled}
 use Rattle.dec_num.specs.Exact.{Fraction}
 use Rattle.dec_num.specs.Scaled.{value_of}
+use Rattle.cob_data.specs.declared.layout.Place.{Place}
 use Rattle.cob_data.specs.declared.layout.Sender.{Sender}
 use Rattle.interval_domain.specs.declared.bounds.Interval.{Interval}
 use Rattle.interval_domain.specs.Bounds.{Holds}
@@ -114,17 +115,17 @@ module _ (given : Given) (p : Program) (statement : ℕ) (a : Act) (x : Action) 
         contained_all p.layout m.first (items_in_atom d) (λ place c. all_contained p.layout m.first q.places place r.numeric (q.items place c))
 
     -- a number of the range for each item: its own, where it has one
-    abbrev pub other : ℕ → Scaled
-    other place = decimal (range_at p s.cells place).units.low (range_at p s.cells place).scale
+    abbrev pub other : Place → Scaled
+    other place = decimal (range_at p s.cells place.item).units.low (range_at p s.cells place.item).scale
 
-    abbrev pub amount_or_other : ℕ → Scaled
+    abbrev pub amount_or_other : Place → Scaled
     amount_or_other place = unwrap_or (number_at p.layout m.first place) (other place)
 
-    pub all_in : (place : ℕ) → IsIn (amount_or_other place) (range_at p s.cells place)
+    pub all_in : (place : Place) → IsIn (amount_or_other place) (range_at p s.cells place.item)
     all_in place = go (number_at p.layout m.first place) refl
       where
-        go : (o : Option Scaled) → number_at p.layout m.first place ≡ o → IsIn (unwrap_or o (other place)) (range_at p s.cells place)
-        go None e = record { held = (omega (arith, ints), range_is_ordered p g.sound.items s.cells (storage m.first m.counts) first_stands place); scale = refl }
+        go : (o : Option Scaled) → number_at p.layout m.first place ≡ o → IsIn (unwrap_or o (other place)) (range_at p s.cells place.item)
+        go None e = record { held = (omega (arith, ints), range_is_ordered p g.sound.items s.cells (storage m.first m.counts) first_stands place.item); scale = refl }
         go (Some v) e = number_holds p g.sound.items s.cells (storage m.first m.counts) first_stands place v e
 
     pub same_value : (d : Atom) → are_numeric p.layout m.first (items_in_atom d) ≡ true → atom_value (worth p.layout m.first) d ≡ atom_value amount_or_other d
@@ -357,12 +358,12 @@ module _ (given : Given) (p : Program) (statement : ℕ) (a : Act) (x : Action) 
 
   -- ---- stores
 
-  module _ (done : List Part) (place : ℕ) (mode : Mode) (y : Amount) (t : Seen) (m : Moment) (g : TakenAt p statement a x done t m) (takes : takes_number (form_at p.layout place) ≡ true) where
+  module _ (done : List Part) (place : Place) (mode : Mode) (y : Amount) (t : Seen) (m : Moment) (g : TakenAt p statement a x done t m) (takes : takes_number (form_at p.layout place.item) ≡ true) where
     abbrev kept_or_stored : Bool → Option Interval → Option (List Known)
-    kept_or_stored f o = stored_element f t.cells (option_map (stored_cells p place t.cells) o)
+    kept_or_stored f o = stored_element f t.cells (option_map (stored_cells p place.item t.cells) o)
 
-    same_length : (i : Interval) → length t.cells ≡ length (stored_cells p place t.cells i)
-    same_length i = sym (with_known_length (homes_of p) (forgotten (is_beside p.layout place) (homes_of p) t.cells) (of_item place) _ ∙ forgotten_length (is_beside p.layout place) (homes_of p) t.cells)
+    same_length : (i : Interval) → length t.cells ≡ length (stored_cells p place.item t.cells i)
+    same_length i = sym (with_known_length (homes_of p) (forgotten (is_beside p.layout place.item) (homes_of p) t.cells) (of_item place.item) _ ∙ forgotten_length (is_beside p.layout place.item) (homes_of p) t.cells)
 
     -- less is known of the same storage
     stands_in_more : (cells known : List Known) (bytes : List ℕ) (counts : List (Option ℤ)) → CellsBelow cells known → StandsIn p cells (storage bytes counts) → StandsIn p known (storage bytes counts)
@@ -380,24 +381,24 @@ module _ (given : Given) (p : Program) (statement : ℕ) (a : Act) (x : Action) 
         (λ e k. all_fail e)
 
     -- the receiver gets its bytes
-    fit_keeps : (f : Bool) (o : Option Interval) (held : List ℕ) → m.by_zero ≡ false → IfSome o (λ i. KnownFits (form_range (form_at p.layout place)) (Some i)) → IsSomeAnd o (λ i. (z : ℤ) × Holds i z × (held ≡ bytes_of (form_at p.layout place) z))
+    fit_keeps : (f : Bool) (o : Option Interval) (held : List ℕ) → m.by_zero ≡ false → IfSome o (λ i. KnownFits (form_range (form_at p.layout place.item)) (Some i)) → IsSomeAnd o (λ i. (z : ℤ) × Holds i z × (held ≡ bytes_of (form_at p.layout place.item) z))
         → PassesPart p.layout (handled p a x) (store place mode y) m (with_storage m (filled_at p.layout m.storage place held))
         → SeenNow (done ++ store place mode y ∷ []) (behind_store t f (kept_or_stored f o)) (with_storage m (filled_at p.layout m.storage place held))
     fit_keeps f None held unzero fits h passes = absurd h
     fit_keeps f (Some i) held unzero fits (z, holds, is) passes = go f
       where
-        stands : StandsIn p (stored_cells p place t.cells i) (storage (filled_at p.layout m.storage place held) m.counts)
-        stands = stored_stands p g.sound.items place 0 (some_times p.layout g.sound.items place) takes t.cells m.storage m.counts i z held fits holds is g.stands
+        stands : StandsIn p (stored_cells p place.item t.cells i) (storage (filled_at p.layout m.storage place held) m.counts)
+        stands = stored_stands p g.sound.items place.item 0 (some_times p.layout g.sound.items place.item) takes t.cells m.storage m.counts i z held fits holds is g.stands
 
         not_zero : {B : Type 0} → m.by_zero ≡ true → B
         not_zero e = absurd cc
 
         go : (f : Bool) → SeenNow (done ++ store place mode y ∷ []) (behind_store t f (kept_or_stored f (Some i))) (with_storage m (filled_at p.layout m.storage place held))
-        go true = behind_agrees true (joined t.cells (stored_cells p place t.cells i)) (with_storage m (filled_at p.layout m.storage place held)) passes refl refl
-            (stands_in_more (stored_cells p place t.cells i) (joined t.cells (stored_cells p place t.cells i)) (filled_at p.layout m.storage place held) m.counts
-            (joined_right t.cells (stored_cells p place t.cells i) (same_length i)) stands)
+        go true = behind_agrees true (joined t.cells (stored_cells p place.item t.cells i)) (with_storage m (filled_at p.layout m.storage place held)) passes refl refl
+            (stands_in_more (stored_cells p place.item t.cells i) (joined t.cells (stored_cells p place.item t.cells i)) (filled_at p.layout m.storage place held) m.counts
+            (joined_right t.cells (stored_cells p place.item t.cells i) (same_length i)) stands)
             (λ e k. or_right t.any_fail true refl) (λ e. or_right t.any_fail true refl)
-        go false = behind_agrees false (stored_cells p place t.cells i) (with_storage m (filled_at p.layout m.storage place held)) passes refl refl stands
+        go false = behind_agrees false (stored_cells p place.item t.cells i) (with_storage m (filled_at p.layout m.storage place held)) passes refl refl stands
             (λ e k. or_left t.any_fail false (g.fails e k)) (λ e. not_zero e)
 
     -- it keeps its value
@@ -406,26 +407,26 @@ module _ (given : Given) (p : Program) (statement : ℕ) (a : Act) (x : Action) 
     kept_keeps false o n e passes first z stands = absurd cc
     kept_keeps true None n e passes first z stands = behind_agrees true t.cells n passes first z stands (λ e k. or_right t.any_fail true refl) (λ e. or_right t.any_fail true refl)
     kept_keeps true (Some i) n e passes first z stands =
-        behind_agrees true (joined t.cells (stored_cells p place t.cells i)) n passes first z
-        (stands_in_more t.cells (joined t.cells (stored_cells p place t.cells i)) n.storage n.counts (joined_left t.cells (stored_cells p place t.cells i) (same_length i)) stands)
+        behind_agrees true (joined t.cells (stored_cells p place.item t.cells i)) n passes first z
+        (stands_in_more t.cells (joined t.cells (stored_cells p place.item t.cells i)) n.storage n.counts (joined_left t.cells (stored_cells p place.item t.cells i) (same_length i)) stands)
         (λ e k. or_right t.any_fail true refl) (λ e. or_right t.any_fail true refl)
 
-    amounts_fit : (o : Option AmountRange) → IfSome (o >>= result_range mode (receiver_of (form_at p.layout place))) (λ i. KnownFits (form_range (form_at p.layout place)) (Some i))
+    amounts_fit : (o : Option AmountRange) → IfSome (o >>= result_range mode (receiver_of (form_at p.layout place.item))) (λ i. KnownFits (form_range (form_at p.layout place.item)) (Some i))
     amounts_fit None = tt
-    amounts_fit (Some r) = result_fits given.rising mode (form_at p.layout place) r
+    amounts_fit (Some r) = result_fits given.rising mode (form_at p.layout place.item) r
 
-    results_fit : (b : Bool) (o : Option AmountRange) → IfSome (if b then None else (o >>= result_range mode (receiver_of (form_at p.layout place)))) (λ i. KnownFits (form_range (form_at p.layout place)) (Some i))
+    results_fit : (b : Bool) (o : Option AmountRange) → IfSome (if b then None else (o >>= result_range mode (receiver_of (form_at p.layout place.item)))) (λ i. KnownFits (form_range (form_at p.layout place.item)) (Some i))
     results_fit true o = tt
     results_fit false o = amounts_fit o
 
     store_keeps : IsStored a x done place y → (n : Moment) → (handled p a x ≡ false → m.by_zero ≡ false) → (keeps_receiver a x ≡ true → FailsAt p.layout (store place mode y) m) → PassesPart p.layout (handled p a x) (store place mode y) m n
-        → SeenNow (done ++ store place mode y ∷ []) (stored p a x t place mode y) n
+        → SeenNow (done ++ store place mode y ∷ []) (stored p a x t place.item mode y) n
     store_keeps q n off_zero fails_there h =
         each_outcome given p statement a x done place mode y t m g q
-        (λ (j : Moment). PassesPart p.layout (handled p a x) (store place mode y) m j → SeenNow (done ++ store place mode y ∷ []) (stored p a x t place mode y) j)
-        (λ fails passes. kept_keeps (may_fail p a x t place mode y) (result_at p a x t place mode y) m fails passes refl refl g.stands)
-        (λ fails passes. kept_keeps (may_fail p a x t place mode y) (result_at p a x t place mode y) (with_failure m) fails passes refl refl g.stands)
-        (λ off held unzero e passes. fit_keeps (may_fail p a x t place mode y) (result_at p a x t place mode y) held unzero (results_fit (keeps_receiver a x) (amount_at p a x t place y)) (result_meant given p statement a x done place mode y t m g q off held unzero e) passes)
+        (λ (j : Moment). PassesPart p.layout (handled p a x) (store place mode y) m j → SeenNow (done ++ store place mode y ∷ []) (stored p a x t place.item mode y) j)
+        (λ fails passes. kept_keeps (may_fail p a x t place.item mode y) (result_at p a x t place.item mode y) m fails passes refl refl g.stands)
+        (λ fails passes. kept_keeps (may_fail p a x t place.item mode y) (result_at p a x t place.item mode y) (with_failure m) fails passes refl refl g.stands)
+        (λ off held unzero e passes. fit_keeps (may_fail p a x t place.item mode y) (result_at p a x t place.item mode y) held unzero (results_fit (keeps_receiver a x) (amount_at p a x t place.item y)) (result_meant given p statement a x done place mode y t m g q off held unzero e) passes)
         n off_zero fails_there h.0 h
 
   -- ---- off edges of size errors no divisor was 0

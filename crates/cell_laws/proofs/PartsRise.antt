@@ -564,12 +564,12 @@ module _ (given : Given) (p : Program) (a : Act) (x : Action) where
   -- ---- all parts
 
   pub rises : (y : Part) (s t : Seen) → SeenBelow p a x s t → BelowIf p a x (step p a x y s) (step p a x y t)
-  rises (read place) s t h = read_rises place s t h
+  rises (read place) s t h = read_rises place.item s t h
   rises unread s t h = tt
   rises (subscript last k) s t h = subscript_rises last k s t h
   rises (index last k count) s t h = index_rises last k count s t h
   rises (divide d) s t h = divide_rises d s t h
-  rises (store place mode y) s t h = store_rises (with_taken p a x s) (with_taken p a x t) (taken_rises s t h) place mode y
+  rises (store place mode y) s t h = store_rises (with_taken p a x s) (with_taken p a x t) (taken_rises s t h) place.item mode y
   rises (bytes_in offset count) s t h =
       let k = (taken_rises s t h).below in
       cells_below (with_taken p a x s) (with_taken p a x t) (forgotten (is_in_extent p.layout (bytes_from offset count)) (homes_of p) (with_taken p a x s).cells) (forgotten (is_in_extent p.layout (bytes_from offset count)) (homes_of p) (with_taken p a x t).cells) k

@@ -183,16 +183,16 @@ module _ (bound : ℕ → Bound) where
   some_divides : (s : Sum) (ts : List Target) → are_small_results bound s ts ≡ true → list_any (λ u. is_under u.how) ts ≡ true → is_small_sum bound s ≡ true
   some_divides s [] e under = absurd cc
   some_divides s (t ∷ ts) e under =
-      let l = and_parts (is_small_result bound s t.item t.how) (are_small_results bound s ts) e in
+      let l = and_parts (is_small_result bound s t.item.item t.how) (are_small_results bound s ts) e in
       elim (or_cases (is_under t.how) (list_any (λ u. is_under u.how) ts) under) as (λ _. is_small_sum bound s ≡ true) [
-        | inl here ↦ divides_small s t.item t.how l.0 here
+        | inl here ↦ divides_small s t.item.item t.how l.0 here
         | inr later ↦ some_divides s ts l.1 later
       ]
 
   pub of_targets : (s : Sum) (ts : List Target) → are_small_results bound s ts ≡ true → AreSmall (divisors_of s ts)
   of_targets s [] e = tt
   of_targets s (t ∷ ts) e =
-      let l = and_parts (is_small_result bound s t.item t.how) (are_small_results bound s ts) e in
+      let l = and_parts (is_small_result bound s t.item.item t.how) (are_small_results bound s ts) e in
       let under = list_any (λ (u : Target). is_under u.how) (t ∷ ts) in
       together (divisors_in s) (if under then group s ∷ [] else [])
-      (in_stored s (result_is_stored s t.item t.how l.0)) (itself under (group s) (λ f. some_divides s (t ∷ ts) e f))
+      (in_stored s (result_is_stored s t.item.item t.how l.0)) (itself under (group s) (λ f. some_divides s (t ∷ ts) e f))

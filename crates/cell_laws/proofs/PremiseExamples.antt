@@ -21,9 +21,9 @@ parts a x = parts_of program 9 a x
 -- ---- MOVE A TO B G
 
 abbrev to_both : List Part
-to_both = parts (act.move (sender.Item (plain 1)) (2 ∷ 0 ∷ [])) action.Assign
+to_both = parts (act.move (sender.Item (plain 1)) (plain 2 ∷ plain 0 ∷ [])) action.Assign
 
-value_and_bytes : to_both ≡ read 1 ∷ store 2 Trunc (moved (sender.Item (plain 1))) ∷ bytes_in 0 7 ∷ []
+value_and_bytes : to_both ≡ read (plain 1) ∷ store (plain 2) Trunc (moved (sender.Item (plain 1))) ∷ bytes_in 0 7 ∷ []
 value_and_bytes = refl
 
 both_sound : AreSound program.layout to_both
@@ -45,9 +45,9 @@ area_sound = (omega arith, (omega arith, tt))
 abbrev a : Sum
 a = MkSum (more_parts (MkPart false (more_factors (MkFactor false false (item (plain 1))) no_factors)) no_parts)
 
-added : parts (arith_ a (record { item = 3; mode = Trunc; how = how.Plus } ∷ []) None left_out no_stmts) action.Done
-    ≡ read 1 ∷ read 3 ∷ store 3 Trunc (computed a how.Plus) ∷ []
+added : parts (arith_ a (record { item = plain 3; mode = Trunc; how = how.Plus } ∷ []) None left_out no_stmts) action.Done
+    ≡ read (plain 1) ∷ read (plain 3) ∷ store (plain 3) Trunc (computed a how.Plus) ∷ []
 added = refl
 
-refused : take_numbers program.layout (record { item = 3; mode = Trunc; how = how.Plus } ∷ []) ≡ false
+refused : take_numbers program.layout (record { item = plain 3; mode = Trunc; how = how.Plus } ∷ []) ≡ false
 refused = refl

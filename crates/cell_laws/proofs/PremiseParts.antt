@@ -11,6 +11,8 @@ use Rattle.dec_num.specs.declared.types.Mode.TheVariants.{Trunc}
 use Rattle.cob_tree.specs.declared.form.Form.{Form}
 use Rattle.cob_tree.specs.declared.form.Form.TheVariants as form
 use Rattle.cob_tree.specs.Forms.{is_number_form}
+use Rattle.cob_data.specs.Places.{plain}
+use Rattle.cob_data.specs.declared.layout.Place.{Place}
 use Rattle.cob_data.specs.declared.layout.FileDecl.{FileDecl}
 use Rattle.cob_data.specs.declared.layout.Item.{Item}
 use Rattle.cob_data.specs.declared.layout.Layout.{Layout}
@@ -69,7 +71,7 @@ module _ (l : Layout) where
 
   abbrev pub IsSourcePart : Act → Action → Part → Type 0
   IsSourcePart a x (divide d) = is_small_atom (bound_at l) d ≡ true
-  IsSourcePart a x (store place mode y) = (takes_number (form_at l place) ≡ true) × IsSourceAmount a x place y
+  IsSourcePart a x (store place mode y) = (takes_number (form_at l place.item) ≡ true) × IsSourceAmount a x place.item y
   IsSourcePart a x (bytes_in offset count) = (offset + count ≤ l.storage) × (is_arithmetic a ≡ false)
   IsSourcePart a x (index last k count) = is_small (bound_at l k) ≡ true
   IsSourcePart a x (guard t wanted) = CanTest l t
@@ -78,7 +80,7 @@ module _ (l : Layout) where
 
 -- what of it an analysis of cells needs
 abbrev pub IsSoundPart : Layout → Part → Type 0
-IsSoundPart l (store place mode y) = takes_number (form_at l place) ≡ true
+IsSoundPart l (store place mode y) = takes_number (form_at l place.item) ≡ true
 IsSoundPart l (bytes_in offset count) = offset + count ≤ l.storage
 IsSoundPart l _ = Unit {0}
 
@@ -120,7 +122,7 @@ module _ (l : Layout) (a : Act) (x : Action) where
 
   -- ---- what is read
 
-  items_read : (places : List ℕ) → AreKept (item_reads places)
+  items_read : (places : List Place) → AreKept (item_reads places)
   items_read [] = tt
   items_read (place ∷ places) = (tt, items_read places)
 
@@ -135,7 +137,7 @@ module _ (l : Layout) (a : Act) (x : Action) where
   number_read (sender.Fill byte) = (tt, tt)
   number_read sender.Zero = tt
 
-  own_read : (h : How) (place : ℕ) → AreKept (own_reads h place)
+  own_read : (h : How) (place : Place) → AreKept (own_reads h place)
   own_read how.Whole place = tt
   own_read how.Plus place = (tt, tt)
   own_read how.Minus place = (tt, tt)
@@ -166,7 +168,7 @@ module _ (l : Layout) (a : Act) (x : Action) where
 
   among : (place : ℕ) (ps : List Pair) → AreKept (member_reads l place ps)
   among place [] = tt
-  among place (p ∷ ps) = both (text_reads l (sender.Item place)) (end_reads l (p ∷ ps)) (read_as_text (sender.Item place)) (ends (p ∷ ps))
+  among place (p ∷ ps) = both (text_reads l (sender.Item (plain place))) (end_reads l (p ∷ ps)) (read_as_text (sender.Item (plain place))) (ends (p ∷ ps))
 
   test_read : (t : Test) → CanTest l t → AreKept (test_reads l t)
   test_read (numbers u r v) can =
@@ -188,28 +190,28 @@ module _ (l : Layout) (a : Act) (x : Action) where
     targets_stored : (ts : List Target) → take_numbers l ts ≡ true → are_small_results (bound_at l) s ts ≡ true → AreKept (targets_parts s ts)
     targets_stored [] take small = tt
     targets_stored (t ∷ ts) take small =
-        let takes = and_parts (takes_number (form_at l t.item)) (take_numbers l ts) take in
-        let results = and_parts (is_small_result (bound_at l) s t.item t.how) (are_small_results (bound_at l) s ts) small in
+        let takes = and_parts (takes_number (form_at l t.item.item)) (take_numbers l ts) take in
+        let results = and_parts (is_small_result (bound_at l) s t.item.item t.how) (are_small_results (bound_at l) s ts) small in
         both (target_parts s t) (targets_parts s ts)
         (both (own_reads t.how t.item) (store t.item t.mode (computed s t.how) ∷ []) (own_read t.how t.item) ((takes.0, (its, results.0)), tt))
         (targets_stored ts takes.1 results.1)
 
-    rest_stored : (ts : List Target) (remainder : Option ℕ) → take_numbers l ts ≡ true → is_sound_remainder l s ts remainder ≡ true → AreKept (remainder_parts l s ts remainder)
+    rest_stored : (ts : List Target) (remainder : Option Place) → take_numbers l ts ≡ true → is_sound_remainder l s ts remainder ≡ true → AreKept (remainder_parts l s ts remainder)
     rest_stored [] None take sound = tt
     rest_stored [] (Some place) take sound = tt
     rest_stored (t ∷ []) None take sound = tt
     rest_stored (t ∷ []) (Some place) take sound =
         let rests = are_small_rests (bound_at l) l (root_of s) (t ∷ []) in
-        let receives = and_parts (takes_number (form_at l place)) (is_small_stored (bound_at l) s && rests) sound in
+        let receives = and_parts (takes_number (form_at l place.item)) (is_small_stored (bound_at l) s && rests) sound in
         let small = and_parts (is_small_stored (bound_at l) s) rests receives.1 in
-        let rest = and_parts (is_small_rest (bound_at l) (scale_of (form_at l t.item)) (root_of s)) true small.1 in
-        let takes = and_parts (takes_number (form_at l t.item)) true take in
-        let left : IsRest l s (scale_of (form_at l t.item)) = record { stored = small.0; rest = rest.0; item = t.item; takes = takes.0; its = refl } in
+        let rest = and_parts (is_small_rest (bound_at l) (scale_of (form_at l t.item.item)) (root_of s)) true small.1 in
+        let takes = and_parts (takes_number (form_at l t.item.item)) true take in
+        let left : IsRest l s (scale_of (form_at l t.item.item)) = record { stored = small.0; rest = rest.0; item = t.item.item; takes = takes.0; its = refl } in
         ((receives.0, (its, left)), tt)
     rest_stored (t ∷ u ∷ ts) None take sound = tt
     rest_stored (t ∷ u ∷ ts) (Some place) take sound = tt
 
-    arithmetic : (ts : List Target) (remainder : Option ℕ) → CanCompute l s ts remainder → AreKept (arith_parts l s ts remainder)
+    arithmetic : (ts : List Target) (remainder : Option Place) → CanCompute l s ts remainder → AreKept (arith_parts l s ts remainder)
     arithmetic ts remainder can =
         both (item_reads (items_in s)) _ (items_read (items_in s))
         (both (divides (divisors_of s ts)) _ (divided (divisors_of s ts) (of_targets (bound_at l) s ts can.results))
@@ -218,7 +220,7 @@ module _ (l : Layout) (a : Act) (x : Action) where
 
   augments : (place : ℕ) (by : Sender) → edge_amount a x ≡ Some (augmented by) → is_number_form (form_at l place) ≡ true → IsNumber l by → AreKept (augment_parts place by)
   augments place by its is number =
-      both (number_reads by) (read place ∷ store place Trunc (augmented by) ∷ []) (number_read by)
+      both (number_reads by) (read (plain place) ∷ store (plain place) Trunc (augmented by) ∷ []) (number_read by)
       (tt, ((numeric_takes (form_at l place) is, (its, is, number)), tt))
 
   counts : (statement : ℕ) (y : Sender) → edge_amount a x ≡ Some (moved y) → IsNumber l y → AreKept (number_reads y ++ set_count statement y ∷ [])
@@ -226,39 +228,39 @@ module _ (l : Layout) (a : Act) (x : Action) where
 
   -- ---- bytes of storage
 
-  module _ (items : HasWellFormedItems l) (plain : is_arithmetic a ≡ false) where
+  module _ (items : HasWellFormedItems l) (no_sum : is_arithmetic a ≡ false) where
     file_sound : (place : ℕ) (d : FileDecl) → decl_at l place ≡ Some d → IsWellFormedFile l d
     file_sound place d at = holds_at (IsWellFormedFile l) l.files place d (recursion_from_All (IsWellFormedFile l) l.files items.files) at
 
     found_bytes : (place : ℕ) (o : Option Item) → item_at l place ≡ o → AreKept (option_map_or (λ i. bytes_in i.offset i.length ∷ []) o [])
     found_bytes place None at = tt
-    found_bytes place (Some i) at = ((first_within l i (item_sound l items place i at), plain), tt)
+    found_bytes place (Some i) at = ((first_within l i (item_sound l items place i at), no_sum), tt)
 
-    bytes_put : (place : ℕ) → AreKept (item_bytes l place)
-    bytes_put place = found_bytes place (item_at l place) refl
+    bytes_put : (place : Place) → AreKept (item_bytes l place)
+    bytes_put place = found_bytes place.item (item_at l place.item) refl
 
     -- ---- MOVE
 
     module _ (y : Sender) (its : edge_amount a x ≡ Some (moved y)) where
-      value_or_bytes : (place : ℕ) (b : Bool) → CanMoveTo l y place → gets_value l (form_at l place) y ≡ b →
+      value_or_bytes : (place : Place) (b : Bool) → CanMoveTo l y place.item → gets_value l (form_at l place.item) y ≡ b →
           AreKept (if b then store place Trunc (moved y) ∷ [] else item_bytes l place)
-      value_or_bytes place true can gets = (((and_parts (takes_number (form_at l place)) _ gets).0, (its, can)), tt)
+      value_or_bytes place true can gets = (((and_parts (takes_number (form_at l place.item)) _ gets).0, (its, can)), tt)
       value_or_bytes place false can gets = bytes_put place
 
-      receives : (places : List ℕ) → AllByRecursion (CanMoveTo l y) places → AreKept (receivers_parts l y places)
+      receives : (places : List Place) → AllByRecursion (λ q. CanMoveTo l y q.item) places → AreKept (receivers_parts l y places)
       receives [] can = tt
       receives (place ∷ places) can =
           both (receiver_parts l y place) (receivers_parts l y places)
-          (value_or_bytes place (gets_value l (form_at l place) y) can.0 refl) (receives places can.1)
+          (value_or_bytes place (gets_value l (form_at l place.item) y) can.0 refl) (receives places can.1)
 
-      moves : (places : List ℕ) → AllByRecursion (CanMoveTo l y) places → AreKept (move_parts l y places)
+      moves : (places : List Place) → AllByRecursion (λ q. CanMoveTo l y q.item) places → AreKept (move_parts l y places)
       moves places can =
-          both (if list_any (λ place. is_read_for l (form_at l place) y) places then number_reads y else []) (receivers_parts l y places)
-          (where_so (list_any (λ place. is_read_for l (form_at l place) y) places) (number_reads y) (number_read y)) (receives places can)
+          both (if list_any (λ place. is_read_for l (form_at l place.item) y) places then number_reads y else []) (receivers_parts l y places)
+          (where_so (list_any (λ place. is_read_for l (form_at l place.item) y) places) (number_reads y) (number_read y)) (receives places can)
 
     moves_into : (into : Option ℕ) → AreKept (into_parts l into)
     moves_into None = tt
-    moves_into (Some place) = bytes_put place
+    moves_into (Some place) = bytes_put (plain place)
 
     -- ---- files
 
@@ -268,7 +270,7 @@ module _ (l : Layout) (a : Act) (x : Action) where
     two_bytes place (Some i) at two =
         let whole = first_within l i (item_sound l items place i at) in
         let long : length_at l place ≡ i.length = ap (λ o. option_map_or (λ (j : Item). j.length) o 0) at in
-        ((omega (arith, whole, long, two), plain), tt)
+        ((omega (arith, whole, long, two), no_sum), tt)
 
     status : (o : Option ℕ) → IfSome o (λ place. length_at l place ≡ 2) → AreKept (status_parts l o)
     status None two = tt
@@ -279,7 +281,7 @@ module _ (l : Layout) (a : Act) (x : Action) where
     file fills place (Some d) at =
         let sound = file_sound place d at in
         both (status_parts l d.status) (if fills then bytes_in d.offset d.length ∷ [] else []) (status d.status sound.status)
-        (where_so fills (bytes_in d.offset d.length ∷ []) ((sound.within, plain), tt))
+        (where_so fills (bytes_in d.offset d.length ∷ []) ((sound.within, no_sum), tt))
 
     call : (fills : Bool) (o : Option ℕ) → AreKept (file_call_parts l fills o)
     call fills None = tt
@@ -294,13 +296,13 @@ module _ (p : Program) (items : HasWellFormedItems p.layout) (statement : ℕ) w
   assigned : (a : Act) → CanDoAct p.layout a → Kept a action.Assign (assign_parts p statement a)
   assigned (move y places) can = moves p.layout (move y places) action.Assign items refl y refl places can
   assigned (perform body (varying after place start by t)) can =
-      moves p.layout (perform body (varying after place start by t)) action.Assign items refl start refl (place ∷ []) (can.0.0.start_, tt)
+      moves p.layout (perform body (varying after place start by t)) action.Assign items refl start refl (plain place ∷ []) (can.0.0.start_, tt)
   assigned (perform body once) can = tt
   assigned (perform body (times y)) can = tt
   assigned (perform body (until after t)) can = tt
   assigned (read_ f into end fine) can = moves_into p.layout (read_ f into end fine) action.Assign items refl into
   assigned (write r None) can = tt
-  assigned (write r (Some y)) can = moves p.layout (write r (Some y)) action.Assign items refl y refl (r ∷ []) (can, tt)
+  assigned (write r (Some y)) can = moves p.layout (write r (Some y)) action.Assign items refl y refl (plain r ∷ []) (can, tt)
   assigned a can = tt
 
   -- VARYING goes on by what it augments

@@ -4,6 +4,8 @@ use Rattle.std.specs.Prelude.{IfSome, IsSomeAnd}
 use Rattle.std.specs.List.{Contains}
 use Rattle.std.specs.Option.{option_map}
 use Rattle.dec_num.specs.declared.types.Scaled.{Scaled}
+use Rattle.cob_data.specs.Places.{plain}
+use Rattle.cob_data.specs.declared.layout.Place.{Place}
 use Rattle.cob_data.specs.declared.layout.Layout.{Layout}
 use Rattle.interval_domain.specs.declared.bounds.Interval.{Interval}
 use Rattle.interval_domain.specs.Bounds.{Holds}
@@ -69,7 +71,7 @@ own_moment m n v e = record {
   failed = ap (λ (k : Moment). k.failed) e;
 }
 
-pub read_moment : (l : Layout) (b : Bool) (place : ℕ) (m n : Moment) → ReadsAt l b place m n → SameMoment m n
+pub read_moment : (l : Layout) (b : Bool) (place : Place) (m n : Moment) → ReadsAt l b place m n → SameMoment m n
 read_moment l true place m n e = same_moment m n e
 read_moment l false place m n (v, f, e) = own_moment m n v e
 
@@ -139,28 +141,28 @@ module _ (p : Program) (statement : ℕ) (a : Act) (x : Action) where
 
   -- what is read is known
   pub item_known : HasSoundItems p.layout → (cells : List Known) (m : Moment) (place : ℕ) (v : Scaled) (i : Interval) → is_table p.layout place ≡ false → AllKnown cells m
-      → number_at p.layout m.storage place ≡ Some v → Holds i v.units → AllKnown (known_as p (of_item place) cells i) m
-  item_known sound cells m place v i plain known e h =
+      → number_at p.layout m.storage (plain place) ≡ Some v → Holds i v.units → AllKnown (known_as p (of_item place) cells i) m
+  item_known sound cells m place v i single known e h =
       home_set p cells (storage m.storage m.counts) (of_item place) (Some i)
-      (λ there. each_of_one p.layout sound place plain (λ n. KnownStands (Some i) (value_at p.layout (storage m.storage m.counts) (of_item place) n))
+      (λ there. each_of_one p.layout sound place single (λ n. KnownStands (Some i) (value_at p.layout (storage m.storage m.counts) (of_item place) n))
       (subst (λ (w : Option ℤ). KnownStands (Some i) w)
-      (sym (value_of_number (scale_of (form_at p.layout place)) (contents_value (form_at p.layout place) (bytes_at p.layout m.storage place)) v e)) h))
+      (sym (value_of_number (scale_of (form_at p.layout place)) (contents_value (form_at p.layout place) (bytes_at p.layout m.storage (plain place))) v e)) h))
       (λ g there d. known g)
 
-  read_known : (done : List Part) (place : ℕ) (s : Seen) (m n : Moment) → Agrees p statement a x done s m → is_table p.layout place ≡ false → ReadsAt p.layout false place m n → AllKnown (read_cells p (of_item place) s.cells) m
-  read_known done place s m n g plain (v, e, same) =
-      item_known g.sound.items s.cells m place v (units_of p.layout (homes_of p) s.cells (of_item place)) plain g.stands.known e
-      (units_hold p g.sound.items s.cells (storage m.storage m.counts) g.stands place 0 v.units (some_times p.layout g.sound.items place)
-      (value_of_number (scale_of (form_at p.layout place)) (contents_value (form_at p.layout place) (bytes_at p.layout m.storage place)) v e))
+  read_known : (done : List Part) (place : Place) (s : Seen) (m n : Moment) → Agrees p statement a x done s m → is_table p.layout place.item ≡ false → ReadsAt p.layout false place m n → AllKnown (read_cells p (of_item place.item) s.cells) m
+  read_known done place s m n g single (v, e, same) =
+      item_known g.sound.items s.cells m place.item v (units_of p.layout (homes_of p) s.cells (of_item place.item)) single g.stands.known e
+      (units_hold p g.sound.items s.cells (storage m.storage m.counts) g.stands place.item 0 v.units (some_times p.layout g.sound.items place.item)
+      (value_of_number (scale_of (form_at p.layout place.item)) (contents_value (form_at p.layout place.item) (bytes_at p.layout m.storage place)) v e))
 
-  pub read_keeps : (done : List Part) (place : ℕ) (s : Seen) (m n : Moment) → Agrees p statement a x done s m → PassesPart p.layout (handled p a x) (read place) m n
-      → Agrees p statement a x (done ++ read place ∷ []) (after_read p place s) n
+  pub read_keeps : (done : List Part) (place : Place) (s : Seen) (m n : Moment) → Agrees p statement a x done s m → PassesPart p.layout (handled p a x) (read place) m n
+      → Agrees p statement a x (done ++ read place ∷ []) (after_read p place.item s) n
   read_keeps done place s m n g h =
       let same = read_moment p.layout m.by_zero place m n h.0 in
-      chosen (λ (t : Seen). Agrees p statement a x (done ++ read place ∷ []) t n) (s.may_zero || is_table p.layout place) s (with_cells s (read_cells p (of_item place) s.cells))
+      chosen (λ (t : Seen). Agrees p statement a x (done ++ read place ∷ []) t n) (s.may_zero || is_table p.layout place.item) s (with_cells s (read_cells p (of_item place.item) s.cells))
       (λ e. quiet done (read place) s s m n g h refl refl same (seen_on s) g.stands.known)
-      (λ e. quiet done (read place) s (with_cells s (read_cells p (of_item place) s.cells)) m n g h refl refl same (cells_on s (read_cells p (of_item place) s.cells))
-      (let neither = or_false s.may_zero (is_table p.layout place) e in
+      (λ e. quiet done (read place) s (with_cells s (read_cells p (of_item place.item) s.cells)) m n g h refl refl same (cells_on s (read_cells p (of_item place.item) s.cells))
+      (let neither = or_false s.may_zero (is_table p.layout place.item) e in
       read_known done place s m n g neither.1 (subst (λ (b : Bool). ReadsAt p.layout b place m n) (not_zero neither.0 m.by_zero refl) h.0)))
     where
       or_false : (b c : Bool) → (b || c) ≡ false → (b ≡ false) × (c ≡ false)

@@ -43,7 +43,7 @@ module _ (bound : ℕ → Bound) (items : ℕ → Ranged) (bounded : AreBounded 
       (short_is_small (of_digits (length text) 0) (digits_are_short (length text) 0 short (omega arith)))
 
   sender_small : (y : Sender) → is_small_sender bound y ≡ true → IfSome (sender_range items y) IsSmallRange
-  sender_small (sender.Item place) e = small_range_of (items place) (bound place) (bounded.held place) e
+  sender_small (sender.Item place) e = small_range_of (items place.item) (bound place.item) (bounded.held place.item) e
   sender_small (sender.Number n) e = small_range_of (point (literal n)) (literal_bound n) (point_within (literal n) (literal_bound n) (literal_within n)) e
   sender_small (sender.Text text) e = text_small text (contents_value (form.Text (length text)) text) (leb-true (length text) 18 e) refl
   sender_small (sender.Fill byte) e = tt
@@ -78,7 +78,7 @@ text_is_none l text is = absurd cc
 
 pub number_sent : (l : Layout) → HasWellFormedItems l → (items : ℕ → Ranged) → AreBounded items (bound_at l) → (y : Sender) → IsNumber l y → IfSome (sender_range items y) IsShortSent
 number_sent l sound items bounded (sender.Item place) number =
-    record { most = bound_at l place; short = end_short l sound (sender.Item place) number.number number.literal; within = bounded.held place }
+    record { most = bound_at l place.item; short = end_short l sound (sender.Item place) number.number number.literal; within = bounded.held place.item }
 number_sent l sound items bounded (sender.Number n) number =
     record { most = literal_bound n; short = end_short l sound (sender.Number n) number.number number.literal; within = point_within (literal n) (literal_bound n) (literal_within n) }
 number_sent l sound items bounded (sender.Text text) number = absurd (text_is_none l text number.number)

@@ -114,7 +114,7 @@ literal_short n short = digits_are_short (length n.digits) n.scale short.digits 
 
 -- what receivers that take numbers are sent
 pub countable_small : (l : Layout) → HasWellFormedItems l → (y : Sender) → IsCountable l y → is_small_sender (bound_at l) y ≡ true
-countable_small l items (sender.Item place) can = short_is_small (bound_at l place) (countable_at l items place can)
+countable_small l items (sender.Item place) can = short_is_small (bound_at l place.item) (countable_at l items place.item can)
 countable_small l items (sender.Number n) can = short_is_small (literal_bound n) (literal_short n can)
 countable_small l items (sender.Text text) can = le-leb (length text) 18 can
 countable_small l items (sender.Fill byte) can = refl
@@ -122,14 +122,14 @@ countable_small l items sender.Zero can = refl
 
 -- numeric items and numerals
 pub end_short : (l : Layout) → HasWellFormedItems l → (y : Sender) → is_number_end l [] y ≡ true → IsShortEnd y → is_short (end_bound (bound_at l) y) ≡ true
-end_short l items (sender.Item place) is short = number_at_short l items place is
+end_short l items (sender.Item place) is short = number_at_short l items place.item is
 end_short l items (sender.Number n) is short = literal_short n short
 end_short l items (sender.Text text) is short = absurd cc
 end_short l items (sender.Fill byte) is short = absurd cc
 end_short l items sender.Zero is short = refl
 
 pub number_small : (l : Layout) → HasWellFormedItems l → (y : Sender) → IsNumber l y → is_small_sender (bound_at l) y ≡ true
-number_small l items (sender.Item place) number = short_is_small (bound_at l place) (end_short l items (sender.Item place) number.number number.literal)
+number_small l items (sender.Item place) number = short_is_small (bound_at l place.item) (end_short l items (sender.Item place) number.number number.literal)
 number_small l items (sender.Number n) number = short_is_small (literal_bound n) (literal_short n number.literal)
 number_small l items (sender.Text text) number = absurd (text_is_none number.number)
   where

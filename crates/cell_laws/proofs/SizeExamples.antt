@@ -15,7 +15,7 @@ use Rattle.cell_laws.specs.Sizes.{sends_small, IsSmallEdge}
 -- ---- a text of 40 bytes, of which a text item gets the first
 
 abbrev long : Act
-long = act.move (sender.Text (replicate 40 57)) (3 ∷ [])
+long = act.move (sender.Text (replicate 40 57)) (plain 3 ∷ [])
 
 bytes_alone : parts_of program 9 long action.Assign ≡ bytes_in 7 5 ∷ []
 bytes_alone = refl

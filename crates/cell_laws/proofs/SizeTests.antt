@@ -3,6 +3,7 @@ use Rattle.std.proofs.Common.{◌≡◌, ℕ, ◌&&◌, Bool, true, false, List,
 use Rattle.std.specs.Prelude.{if◌then◌else◌}
 use Rattle.std.specs.List.{list_all}
 use Rattle.std.proofs.lemmas.Bool.{and_from, and_parts}
+use Rattle.cob_data.specs.Places.{plain}
 use Rattle.cob_data.specs.declared.layout.Layout.{Layout}
 use Rattle.cob_data.specs.declared.layout.Pair.{Pair}
 use Rattle.cob_data.specs.declared.layout.Sender.TheVariants as sender
@@ -34,9 +35,9 @@ module _ (l : Layout) (items : HasWellFormedItems l) where
       (is_short (bound_at l place) && list_all (is_short_pair (bound_at l)) ps) ≡ true
   short_member place [] short e = absurd cc
   short_member place (p ∷ ps) short e =
-      let all = and_parts (is_number_end l [] (sender.Item place)) (list_all (is_number_pair l) (p ∷ ps)) e in
+      let all = and_parts (is_number_end l [] (sender.Item (plain place))) (list_all (is_number_pair l) (p ∷ ps)) e in
       and_from (is_short (bound_at l place)) (list_all (is_short_pair (bound_at l)) (p ∷ ps))
-      (end_short l items (sender.Item place) all.0 tt) (short_pairs (p ∷ ps) short all.1)
+      (end_short l items (sender.Item (plain place)) all.0 tt) (short_pairs (p ∷ ps) short all.1)
 
   pub test_small : (t : Test) → CanTest l t → is_small_test (bound_at l) l t ≡ true
   test_small (numbers a r b) can = can.1.1

@@ -118,7 +118,7 @@ module _ (p : Program) (sound : HasWellFormedItems p.layout) (a : Act) (x : Acti
 
   part_small : (y : Part) → IsSourcePart p.layout a x y → IsSmallPart p a x y
   part_small (divide d) kept = kept
-  part_small (store place mode y) kept = store_small place kept.0 y kept.1
+  part_small (store place mode y) kept = store_small place.item kept.0 y kept.1
   part_small (bytes_in offset count) kept = plain_sum a kept.1
   part_small (set_count n y) kept = (moved_sum a y kept.0, sent (moved y) kept.0 (number_small p.layout sound y kept.1))
   part_small (index last k count) kept = kept

@@ -1,6 +1,7 @@
 -- Where an element stands in a list that is put together from others.
 use Rattle.std.proofs.Common.{◌≡◌, ℕ, zero, suc, ◌⊎◌, inl, inr, List, [], ◌∷◌, ◌++◌, refl, ap, ◌∙◌, arith}
 use Rattle.std.specs.List.{Contains}
+use Rattle.cob_data.specs.declared.layout.Place.{Place}
 use Rattle.cob_program.specs.Sum.{Atom}
 use Rattle.cob_edge_parts.specs.Parts.{Part, read, divide, item_reads, divides}
 
@@ -47,7 +48,7 @@ module _ {A : Type 0} where
 
 -- ---- reads and divisions
 
-pub in_reads : (places : List ℕ) (done rest : List Part) (y : Part) → done ++ y ∷ rest ≡ item_reads places → (place : ℕ) × (y ≡ read place)
+pub in_reads : (places : List Place) (done rest : List Part) (y : Part) → done ++ y ∷ rest ≡ item_reads places → (place : Place) × (y ≡ read place)
 in_reads [] done rest y e = absurd (not_empty done rest y e)
 in_reads (place ∷ places) [] rest y e = (place, head_is y (read place) rest (item_reads places) e)
 in_reads (place ∷ places) (d ∷ done) rest y e = in_reads places done rest y (tail_is d (read place) (done ++ y ∷ rest) (item_reads places) e)
@@ -74,6 +75,6 @@ in_divides (d ∷ atoms) (z ∷ done) rest y e =
       split = ap (λ (ks : List Atom). d ∷ ks) k.split;
     }
 
-pub reads_append : (as_ bs : List ℕ) → item_reads (as_ ++ bs) ≡ item_reads as_ ++ item_reads bs
+pub reads_append : (as_ bs : List Place) → item_reads (as_ ++ bs) ≡ item_reads as_ ++ item_reads bs
 reads_append [] bs = refl
 reads_append (a ∷ as_) bs = ap (λ (xs : List Part). read a ∷ xs) (reads_append as_ bs)

@@ -11,6 +11,7 @@ use Rattle.dec_num.proofs.Powers.{ten_positive}
 use Rattle.cob_tree.specs.declared.form.Form.{Form}
 use Rattle.cob_tree.specs.declared.form.Usage.{Usage}
 use Rattle.cob_tree.specs.declared.form.Form.TheVariants as form
+use Rattle.cob_data.specs.declared.layout.Place.{Place}
 use Rattle.cob_data.specs.declared.layout.Layout.{Layout}
 use Rattle.cob_data.specs.declared.layout.Item.{Item}
 use Rattle.cob_data.specs.declared.layout.Sender.{Sender}
@@ -83,7 +84,7 @@ module _ (p : Program) (statement : ℕ) (a : Act) (x : Action) where
   same_sum_numeric : (bytes : List ℕ) (s u : Sum) → s ≡ u → are_numeric p.layout bytes (items_in u) ≡ true → are_numeric p.layout bytes (items_in s) ≡ true
   same_sum_numeric bytes s u e h = subst (λ (k : Sum). are_numeric p.layout bytes (items_in k) ≡ true) (sym e) h
 
-  arithmetic_sum : (s u : Sum) (ts us : List Target) (r q : Option ℕ) (size more : Phrase) (fine other : Stmts) → arithmetic s ts r size fine ≡ arithmetic u us q more other → s ≡ u
+  arithmetic_sum : (s u : Sum) (ts us : List Target) (r q : Option Place) (size more : Phrase) (fine other : Stmts) → arithmetic s ts r size fine ≡ arithmetic u us q more other → s ≡ u
   arithmetic_sum s u ts us r q size more fine other e = cc
 
   behind_numeric : (done : List Part) (first : List ℕ) (counts : List (Option ℤ)) (m : Moment) (s : Sum) (ts : List Target) → IsBehindOperands s ts done → PassesParts p.layout (handled p a x) done (at_first first counts) m
@@ -102,7 +103,7 @@ module _ (p : Program) (statement : ℕ) (a : Act) (x : Action) where
 
   -- a writer's operands were read
   numeric_operands : (done : List Part) (first : List ℕ) (counts : List (Option ℤ)) (m : Moment) (y : Part) → writes y ≡ true → IsInPlace statement a x done y → PassesParts p.layout (handled p a x) done (at_first first counts) m
-      → (s : Sum) (ts : List Target) (r : Option ℕ) (size : Phrase) (fine : Stmts) → a ≡ arithmetic s ts r size fine → are_numeric p.layout first (items_in s) ≡ true
+      → (s : Sum) (ts : List Target) (r : Option Place) (size : Phrase) (fine : Stmts) → a ≡ arithmetic s ts r size fine → are_numeric p.layout first (items_in s) ≡ true
   numeric_operands done first counts m (store place mode (computed u h)) w q passed s ts r size fine e =
       let k = q.arithmetic in
       same_sum_numeric first s u (arithmetic_sum s u ts k.targets r k.remainder size k.size fine k.fine (sym e ∙ k.act)) (behind_numeric done first counts m u k.targets q.operands passed)
@@ -231,28 +232,28 @@ module _ (p : Program) (statement : ℕ) (a : Act) (x : Action) where
   HasRoot (remaining s scale) = is_some (root_of s) ≡ true
   HasRoot y = Unit {0}
 
-  pub amount_there : (done : List Part) (place : ℕ) (y : Amount) (t : Seen) (m : Moment) → TakenAt done t m → IsStored a x done place y → m.by_zero ≡ false → HasRoot y → is_some (amount p.layout m y) ≡ true
+  pub amount_there : (done : List Part) (place : Place) (y : Amount) (t : Seen) (m : Moment) → TakenAt done t m → IsStored a x done place y → m.by_zero ≡ false → HasRoot y → is_some (amount p.layout m y) ≡ true
   amount_there done place (computed s h) t m g q z r = q.some (worth p.layout m.first) m.own (behind_divisors done m.first g.counts m s q.arithmetic.targets q.operands g.passed z)
   amount_there done place (remaining s scale) t m g q z r = q.some (worth p.layout m.first) scale r (behind_divisors done m.first g.counts m s q.arithmetic.targets q.operands g.passed z)
   amount_there done place (moved y) t m g q z r = mapped_there value_of (number_of p.layout m.first y) (sent_there done m.first g.counts m y q.1 g.passed)
   amount_there done place (augmented y) t m g q z r = mapped_there _ (number_of p.layout m.first y) (sent_there done m.first g.counts m y q.1 g.passed)
 
   -- the receiver's own number lies in its range
-  own_holds : (done : List Part) (place : ℕ) (t : Seen) (m : Moment) → TakenAt done t m → EndsWithRead done place → m.by_zero ≡ false → IsIn m.own (range_at p t.cells place)
+  own_holds : (done : List Part) (place : Place) (t : Seen) (m : Moment) → TakenAt done t m → EndsWithRead done place → m.by_zero ≡ false → IsIn m.own (range_at p t.cells place.item)
   own_holds done place t m g e z = last e.before (run.beginning m.first g.counts) (subst (λ (xs : List Part). PassesParts p.layout (handled p a x) xs (run.beginning m.first g.counts) m) e.split g.passed)
     where
-      read_last : (k : Moment) (b : Bool) → k.by_zero ≡ b → ReadsAt p.layout b place k m → IsIn m.own (range_at p t.cells place)
+      read_last : (k : Moment) (b : Bool) → k.by_zero ≡ b → ReadsAt p.layout b place k m → IsIn m.own (range_at p t.cells place.item)
       read_last k true f h = absurd (let zeros : m.by_zero ≡ k.by_zero = ap (λ (j : Moment). j.by_zero) h in cc)
       read_last k false f (v, number, same) =
           number_holds p g.sound.items t.cells (storage m.storage m.counts) g.stands place m.own
           (subst (λ (j : Moment). number_at p.layout j.storage place ≡ Some j.own) (sym same) number)
 
-      last : (xs : List Part) (k : Moment) → PassesParts p.layout (handled p a x) (xs ++ read place ∷ []) k m → IsIn m.own (range_at p t.cells place)
+      last : (xs : List Part) (k : Moment) → PassesParts p.layout (handled p a x) (xs ++ read place ∷ []) k m → IsIn m.own (range_at p t.cells place.item)
       last [] k (next, h, same) = read_last k k.by_zero refl (subst (λ (j : Moment). ReadsAt p.layout k.by_zero place k j) (sym same) h.0)
       last (y ∷ xs) k (next, h, hs) = last xs next hs
 
   -- the amount of a store is one of the edge's
-  pub its_amount : (done : List Part) (place : ℕ) (y : Amount) → IsStored a x done place y → edge_amount a x ≡ Some (of_operands y)
+  pub its_amount : (done : List Part) (place : Place) (y : Amount) → IsStored a x done place y → edge_amount a x ≡ Some (of_operands y)
   its_amount done place (computed s h) q = ap (λ (b : Act). edge_amount b x) q.arithmetic.act
   its_amount done place (remaining s scale) q = ap (λ (b : Act). edge_amount b x) q.arithmetic.act
   its_amount done place (moved y) q = moves_amount a x y q.0
@@ -319,30 +320,30 @@ module _ (p : Program) (statement : ℕ) (a : Act) (x : Action) where
   counts_amount (show xs) x y k = absurd k
 
   -- what the receiver gets is among what is known of it
-  pub amount_meant : (done : List Part) (place : ℕ) (y : Amount) (t : Seen) (m : Moment) → TakenAt done t m → IsStored a x done place y → m.by_zero ≡ false → (v : Fraction) → amount p.layout m y ≡ Some v
-      → IsSomeAnd (amount_at p a x t place y) (λ r. IsAmount r v)
+  pub amount_meant : (done : List Part) (place : Place) (y : Amount) (t : Seen) (m : Moment) → TakenAt done t m → IsStored a x done place y → m.by_zero ≡ false → (v : Fraction) → amount p.layout m y ≡ Some v
+      → IsSomeAnd (amount_at p a x t place.item y) (λ r. IsAmount r v)
   amount_meant done place y t m g q z v e =
-      then_holds (λ (c : Taken). IsSomeAnd (amount_of y (range_at p t.cells place) c) (λ r. IsAmount r v)) (λ r. IsAmount r v) t.common (amount_of y (range_at p t.cells place)) (by_kind y q e) (λ c h. h)
+      then_holds (λ (c : Taken). IsSomeAnd (amount_of y (range_at p t.cells place.item) c) (λ r. IsAmount r v)) (λ r. IsAmount r v) t.common (amount_of y (range_at p t.cells place.item)) (by_kind y q e) (λ c h. h)
     where
       -- where the receiver's own number isn't asked for
       any_own : Moment
-      any_own = with_own m (decimal (range_at p t.cells place).units.low (range_at p t.cells place).scale)
+      any_own = with_own m (decimal (range_at p t.cells place.item).units.low (range_at p t.cells place.item).scale)
 
-      any_in : IsIn any_own.own (range_at p t.cells place)
-      any_in = record { held = (omega (arith, ints), range_is_ordered p g.sound.items t.cells (storage m.storage m.counts) g.stands place); scale = refl }
+      any_in : IsIn any_own.own (range_at p t.cells place.item)
+      any_in = record { held = (omega (arith, ints), range_is_ordered p g.sound.items t.cells (storage m.storage m.counts) g.stands place.item); scale = refl }
 
-      by_how : (s : Sum) (h : How) → IsComputed a x done place s h → amount p.layout m (computed s h) ≡ Some v → IsSomeAnd t.common (λ c. IsSomeAnd (amount_of (computed s h) (range_at p t.cells place) c) (λ r. IsAmount r v))
-      by_how s how.Whole k f = g.took any_own (computed s how.Whole) (range_at p t.cells place) v refl (its_amount done place (computed s how.Whole) k) any_in f
-      by_how s how.Plus k f = g.took m (computed s how.Plus) (range_at p t.cells place) v refl (its_amount done place (computed s how.Plus) k) (own_holds done place t m g (k.own (λ u. cc)) z) f
-      by_how s how.Minus k f = g.took m (computed s how.Minus) (range_at p t.cells place) v refl (its_amount done place (computed s how.Minus) k) (own_holds done place t m g (k.own (λ u. cc)) z) f
-      by_how s how.Times k f = g.took m (computed s how.Times) (range_at p t.cells place) v refl (its_amount done place (computed s how.Times) k) (own_holds done place t m g (k.own (λ u. cc)) z) f
-      by_how s how.Under k f = g.took m (computed s how.Under) (range_at p t.cells place) v refl (its_amount done place (computed s how.Under) k) (own_holds done place t m g (k.own (λ u. cc)) z) f
+      by_how : (s : Sum) (h : How) → IsComputed a x done place s h → amount p.layout m (computed s h) ≡ Some v → IsSomeAnd t.common (λ c. IsSomeAnd (amount_of (computed s h) (range_at p t.cells place.item) c) (λ r. IsAmount r v))
+      by_how s how.Whole k f = g.took any_own (computed s how.Whole) (range_at p t.cells place.item) v refl (its_amount done place (computed s how.Whole) k) any_in f
+      by_how s how.Plus k f = g.took m (computed s how.Plus) (range_at p t.cells place.item) v refl (its_amount done place (computed s how.Plus) k) (own_holds done place t m g (k.own (λ u. cc)) z) f
+      by_how s how.Minus k f = g.took m (computed s how.Minus) (range_at p t.cells place.item) v refl (its_amount done place (computed s how.Minus) k) (own_holds done place t m g (k.own (λ u. cc)) z) f
+      by_how s how.Times k f = g.took m (computed s how.Times) (range_at p t.cells place.item) v refl (its_amount done place (computed s how.Times) k) (own_holds done place t m g (k.own (λ u. cc)) z) f
+      by_how s how.Under k f = g.took m (computed s how.Under) (range_at p t.cells place.item) v refl (its_amount done place (computed s how.Under) k) (own_holds done place t m g (k.own (λ u. cc)) z) f
 
-      by_kind : (y : Amount) → IsStored a x done place y → amount p.layout m y ≡ Some v → IsSomeAnd t.common (λ c. IsSomeAnd (amount_of y (range_at p t.cells place) c) (λ r. IsAmount r v))
+      by_kind : (y : Amount) → IsStored a x done place y → amount p.layout m y ≡ Some v → IsSomeAnd t.common (λ c. IsSomeAnd (amount_of y (range_at p t.cells place.item) c) (λ r. IsAmount r v))
       by_kind (computed s h) k f = by_how s h k f
-      by_kind (remaining s scale) k f = g.took any_own (remaining s scale) (range_at p t.cells place) v refl (its_amount done place (remaining s scale) k) any_in f
-      by_kind (moved u) k f = g.took any_own (moved u) (range_at p t.cells place) v refl (its_amount done place (moved u) k) any_in f
-      by_kind (augmented u) k f = g.took m (augmented u) (range_at p t.cells place) v refl (its_amount done place (augmented u) k) (own_holds done place t m g k.2 z) f
+      by_kind (remaining s scale) k f = g.took any_own (remaining s scale) (range_at p t.cells place.item) v refl (its_amount done place (remaining s scale) k) any_in f
+      by_kind (moved u) k f = g.took any_own (moved u) (range_at p t.cells place.item) v refl (its_amount done place (moved u) k) any_in f
+      by_kind (augmented u) k f = g.took m (augmented u) (range_at p t.cells place.item) v refl (its_amount done place (augmented u) k) (own_holds done place t m g k.2 z) f
 
 -- ---- bytes are stored
 

@@ -7,6 +7,7 @@ use Rattle.std.proofs.lemmas.Bool.Decides.{nat_tests}
 use Rattle.dec_num.specs.declared.types.Scaled.{Scaled}
 use Rattle.cob_tree.specs.declared.fault.Kind.{Kind}
 use Rattle.cob_tree.specs.declared.fault.Kind.TheVariants as kind
+use Rattle.cob_data.specs.Places.{plain}
 use Rattle.interval_domain.specs.declared.bounds.Interval.{Interval}
 use Rattle.interval_domain.specs.Bounds.{Holds}
 use Rattle.interval_domain.specs.Known.{Known}
@@ -101,11 +102,11 @@ module _ (p : Program) (statement : ℕ) (a : Act) (x : Action) where
   pub subscript_holds : (done : List Part) (k : ℕ) (s : Seen) (m : Moment) (v : Scaled) → Agrees p statement a x done s m → subscript_in p.layout m k ≡ Some v → Holds (units_of p.layout (homes_of p) s.cells (of_item k)) v.units
   subscript_holds done k s m v g e =
       units_hold p g.sound.items s.cells (storage m.storage m.counts) g.stands k 0 v.units (some_times p.layout g.sound.items k)
-      (value_of_number (scale_of (form_at p.layout k)) (contents_value (form_at p.layout k) (bytes_at p.layout m.storage k)) v e)
+      (value_of_number (scale_of (form_at p.layout k)) (contents_value (form_at p.layout k) (bytes_at p.layout m.storage (plain k))) v e)
 
   read_known : (done : List Part) (k : ℕ) (s : Seen) (m n : Moment) → Agrees p statement a x done s m → is_table p.layout k ≡ false → ReadsSubscript p.layout false k m n → AllKnown p statement a x (read_cells p (of_item k) s.cells) m
-  read_known done k s m n g plain (v, e, same) =
-      item_known p statement a x g.sound.items s.cells m k v (units_of p.layout (homes_of p) s.cells (of_item k)) plain g.stands.known e (subscript_holds done k s m v g e)
+  read_known done k s m n g single (v, e, same) =
+      item_known p statement a x g.sound.items s.cells m k v (units_of p.layout (homes_of p) s.cells (of_item k)) single g.stands.known e (subscript_holds done k s m v g e)
 
   pub subscript_keeps : (done : List Part) (last : Bool) (k : ℕ) (s : Seen) (m n : Moment) → Agrees p statement a x done s m → PassesPart p.layout (handled p a x) (subscript last k) m n
       → Agrees p statement a x (done ++ subscript last k ∷ []) (after_subscript p last k s) n
@@ -120,13 +121,13 @@ module _ (p : Program) (statement : ℕ) (a : Act) (x : Action) where
   -- the item's numbers that name an occurrence
   cut_known : (done : List Part) (k count : ℕ) (s : Seen) (m n : Moment) → Agrees p statement a x done s m → is_table p.layout k ≡ false → Finds p.layout false k count m n
       → IsSomeAnd (indexed_cells p k count s.cells) (λ cells. AllKnown p statement a x cells m)
-  cut_known done k count s m n g plain (v, e, at, found, same) =
+  cut_known done k count s m n g single (v, e, at, found, same) =
       go (met (units_of p.layout (homes_of p) s.cells (of_item k)) (table count))
       (met_holds (units_of p.layout (homes_of p) s.cells (of_item k)) (table count) v.units (subscript_holds done k s m v g e) (found_in count v.units at found))
     where
       go : (o : Option Interval) → IsSomeAnd o (λ i. Holds i v.units) → IsSomeAnd (option_map (known_as p (of_item k) s.cells) o) (λ cells. AllKnown p statement a x cells m)
       go None f = absurd f
-      go (Some i) f = item_known p statement a x g.sound.items s.cells m k v i plain g.stands.known e f
+      go (Some i) f = item_known p statement a x g.sound.items s.cells m k v i single g.stands.known e f
 
   pub index_keeps : (done : List Part) (last : Bool) (k count : ℕ) (s : Seen) (m n : Moment) → Agrees p statement a x done s m → PassesPart p.layout (handled p a x) (index last k count) m n
       → IsSeen (walking p statement a x) (after_index p last k count s) (λ t. Agrees p statement a x (done ++ index last k count ∷ []) t n)

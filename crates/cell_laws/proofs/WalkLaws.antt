@@ -6,6 +6,7 @@ use Rattle.dec_num.specs.Exact.{Fraction}
 use Rattle.interval_domain.specs.declared.bounds.Interval.{Interval}
 use Rattle.interval_domain.specs.Bounds.{Holds}
 use Rattle.cob_tree.specs.declared.form.Form.{Form}
+use Rattle.cob_data.specs.declared.layout.Place.{Place}
 use Rattle.cob_data.specs.declared.layout.Layout.{Layout}
 use Rattle.cob_program.specs.declared.act.Target.{Target}
 use Rattle.cob_program.specs.Sum.{Sum}
@@ -48,9 +49,9 @@ pub record Given : Type 0 where
   pub counts_ : (wanted : Bool) (i : Interval) (v : ℤ) → Holds i v → is_positive v ≡ wanted → IsSomeAnd (count_kept wanted i) (λ j. Holds j v)
   pub operands_ : (p : Program) (statement : ℕ) (a : Act) (x : Action) (cells : List Known) (first : List ℕ) (counts : List (Option ℤ))
       → HasSoundItems p.layout → StandsIn p cells (storage first counts)
-      → ((s : Sum) (ts : List Target) (r : Option ℕ) (size : Phrase) (fine : Stmts) → a ≡ arith s ts r size fine → are_numeric p.layout first (items_in s) ≡ true)
+      → ((s : Sum) (ts : List Target) (r : Option Place) (size : Phrase) (fine : Stmts) → a ≡ arith s ts r size fine → are_numeric p.layout first (items_in s) ≡ true)
       → OperandsHold p statement a x first (edge_operands (range_at p cells) a x)
   pub places_ : PartsAreInPlace
   pub edges_ : ArithmeticIsDone
-  pub numeric_sum_ : (l : Layout) (bytes : List ℕ) (other : ℕ → Scaled) (s : Sum) → are_numeric l bytes (items_in s) ≡ true
+  pub numeric_sum_ : (l : Layout) (bytes : List ℕ) (other : Place → Scaled) (s : Sum) → are_numeric l bytes (items_in s) ≡ true
       → sum_value (worth l bytes) s ≡ sum_value (λ place. unwrap_or (number_at l bytes place) (other place)) s

@@ -2,6 +2,7 @@
 use Rattle.std.specs.Prelude.{◌≡◌, ◌⊎◌, ℕ, Bool, true, false, List, [], ◌∷◌, ◌++◌, Option, Some, is_some}
 use Rattle.std.specs.List.{list_all, Contains}
 use Rattle.dec_num.specs.declared.types.Scaled.{Scaled}
+use Rattle.cob_data.specs.declared.layout.Place.{Place}
 use Rattle.cob_data.specs.declared.layout.Sender.{Sender}
 use Rattle.cob_program.specs.declared.act.Target.{Target}
 use Rattle.cob_program.specs.declared.act.How.{How}
@@ -21,7 +22,7 @@ use Rattle.cob_edge_parts.specs.Meaning.{divides_by}
 -- the statement works out a sum, and the edge stores what comes of it
 pub record IsArithmetic (a : Act) (x : Action) (s : Sum) : Type 0 where
   pub targets : List Target
-  pub remainder : Option ℕ
+  pub remainder : Option Place
   pub size : Phrase
   pub fine : Stmts
   pub act : a ≡ arith s targets remainder size fine
@@ -33,22 +34,22 @@ pub record IsBehindOperands (s : Sum) (targets : List Target) (done : List Part)
   pub split : done ≡ item_reads (items_in s) ++ (divides (divisors_of s targets) ++ behind)
 
 -- the last part reads the item
-pub record EndsWithRead (done : List Part) (place : ℕ) : Type 0 where
+pub record EndsWithRead (done : List Part) (place : Place) : Type 0 where
   pub before : List Part
   pub split : done ≡ before ++ read place ∷ []
 
-pub record IsComputed (a : Act) (x : Action) (done : List Part) (place : ℕ) (s : Sum) (h : How) : Type 0 where
+pub record IsComputed (a : Act) (x : Action) (done : List Part) (place : Place) (s : Sum) (h : How) : Type 0 where
   pub arithmetic : IsArithmetic a x s
   pub operands : IsBehindOperands s arithmetic.targets done
   pub own : ¬ h ≡ how.Whole → EndsWithRead done place
   -- where no divisor is 0 there is a result
-  pub some : (worth : ℕ → Scaled) (own : Scaled) → list_all (divides_by worth) (divisors_of s arithmetic.targets) ≡ true
+  pub some : (worth : Place → Scaled) (own : Scaled) → list_all (divides_by worth) (divisors_of s arithmetic.targets) ≡ true
       → is_some (result worth s h own) ≡ true
 
 pub record IsRemaining (a : Act) (x : Action) (done : List Part) (s : Sum) : Type 0 where
   pub arithmetic : IsArithmetic a x s
   pub operands : IsBehindOperands s arithmetic.targets done
-  pub some : (worth : ℕ → Scaled) (scale : ℕ) → is_some (root_of s) ≡ true
+  pub some : (worth : Place → Scaled) (scale : ℕ) → is_some (root_of s) ≡ true
       → list_all (divides_by worth) (divisors_of s arithmetic.targets) ≡ true
       → is_some (remainder_of worth scale (root_of s)) ≡ true
 
@@ -80,13 +81,13 @@ Counts _ x y = ⊥
 
 -- Items of a divisor are read before it, and divisors in it count before it; nothing else stands there.
 pub record IsDivided (done : List Part) (d : Atom) : Type 0 where
-  pub places : List ℕ
+  pub places : List Place
   pub atoms : List Atom
   pub split : done ≡ item_reads places ++ divides atoms
-  pub items : (place : ℕ) → Contains (items_in_atom d) place → Contains places place
-  pub some : (worth : ℕ → Scaled) → list_all (divides_by worth) atoms ≡ true → is_some (atom_value worth d) ≡ true
+  pub items : (place : Place) → Contains (items_in_atom d) place → Contains places place
+  pub some : (worth : Place → Scaled) → list_all (divides_by worth) atoms ≡ true → is_some (atom_value worth d) ≡ true
 
-abbrev pub IsStored : Act → Action → List Part → ℕ → Amount → Type 0
+abbrev pub IsStored : Act → Action → List Part → Place → Amount → Type 0
 IsStored a x done place (computed s h) = IsComputed a x done place s h
 IsStored a x done place (remaining s scale) = IsRemaining a x done s
 IsStored a x done place (moved y) = Moves a x y × IsBehindSender y done
@@ -100,7 +101,7 @@ IsInPlace statement a x done (count_down n) = (n ≡ statement) × (done ≡ rea
 IsInPlace statement a x done (guard_count n wanted) = (n ≡ statement) × (is_times a ≡ true)
 -- arithmetic changes no bytes but by storing values
 IsInPlace statement a x done (bytes_in offset count) =
-    (s : Sum) (targets : List Target) (remainder : Option ℕ) (size : Phrase) (fine : Stmts) → ¬ a ≡ arith s targets remainder size fine
+    (s : Sum) (targets : List Target) (remainder : Option Place) (size : Phrase) (fine : Stmts) → ¬ a ≡ arith s targets remainder size fine
 IsInPlace statement a x done y = Unit {0}
 
 abbrev pub PartsAreInPlace : Type 0
@@ -116,6 +117,6 @@ is_worked _ = false
 -- Arithmetic is worked on two edges alone.
 abbrev pub ArithmeticIsDone : Type 0
 ArithmeticIsDone =
-    (p : Program) (statement : ℕ) (s : Sum) (targets : List Target) (remainder : Option ℕ) (size : Phrase) (fine : Stmts) (x : Action)
+    (p : Program) (statement : ℕ) (s : Sum) (targets : List Target) (remainder : Option Place) (size : Phrase) (fine : Stmts) (x : Action)
     (done rest : List Part) (y : Part) → done ++ y ∷ rest ≡ parts_of p statement (arith s targets remainder size fine) x → is_worked y ≡ true
     → (x ≡ action.Done) ⊎ (x ≡ action.Size)

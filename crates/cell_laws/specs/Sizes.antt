@@ -44,7 +44,7 @@ pub record IsSmallStore (p : Program) (a : Act) (x : Action) (place : ℕ) (y : 
 -- Operands are taken before the first part that writes, a change of bytes among them.
 abbrev pub IsSmallPart : Program → Act → Action → Part → Type 0
 IsSmallPart p a x (divide d) = is_small_atom (bound_at p.layout) d ≡ true
-IsSmallPart p a x (store place mode y) = IsSmallStore p a x place y
+IsSmallPart p a x (store place mode y) = IsSmallStore p a x place.item y
 IsSmallPart p a x (bytes_in offset count) = has_small_sum (bound_at p.layout) a ≡ true
 IsSmallPart p a x (set_count n y) = (has_small_sum (bound_at p.layout) a ≡ true) × (sends_small p a x ≡ true)
 -- the numbers of a subscript's item are compared with the table's
