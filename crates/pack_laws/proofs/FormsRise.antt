@@ -3,6 +3,7 @@ use Rattle.std.proofs.Common.{◌≡◌, ℕ, ◌^◌, Bool, true, false, ◌&&�
 use Rattle.std.specs.Prelude.{IsSomeAnd, if◌then◌else◌, neg_ℤ}
 use Rattle.std.specs.List.{list_any}
 use Rattle.std.proofs.lemmas.Int.{ints}
+use Rattle.cob_data.specs.Places.{plain}
 use Rattle.interval_domain.specs.Corners.{interval}
 use Rattle.cob_data.specs.declared.extent.Extent.{Extent}
 use Rattle.cob_data.specs.declared.layout.Sender.{Sender}
@@ -127,7 +128,7 @@ module _ (p : Program) (a : Act) (x : Action) (pack : Pack) (less more : Seen) (
     own_narrower place = item_narrower decimals (cell place) (range_at p less.cells place) (range_at p more.cells place) (items_narrower place)
 
     pub subscript_narrower : (k : ℕ) → IsNarrowerIfAny (subscript_form p pack less wrote k) (subscript_form p pack more wrote k)
-    subscript_narrower k = either_narrower (is_whole_sender p.layout (sender.Item k)) (own_form p pack less wrote k) (own_form p pack more wrote k) None None (own_narrower k) tt
+    subscript_narrower k = either_narrower (is_whole_sender p.layout (sender.Item (plain k))) (own_form p pack less wrote k) (own_form p pack more wrote k) None None (own_narrower k) tt
 
     counter_narrower : (statement : ℕ) → IsNarrowerIfAny (counter_form p pack less wrote statement) (counter_form p pack more wrote statement)
     counter_narrower statement =
@@ -149,10 +150,10 @@ module _ (p : Program) (a : Act) (x : Action) (pack : Pack) (less more : Seen) (
     kept_narrower (Some c) None n = absurd n
     kept_narrower (Some c) (Some d) n = top_narrower decimals c d n
 
-    operands_narrower : (whole : Bool) (s : Sum) → (list_any (is_written p.layout wrote) (items_in s) || is_some (sum_range (range_at p less.cells) s)) ≡ true
+    operands_narrower : (whole : Bool) (s : Sum) → (list_any (λ q. is_written p.layout wrote q.item) (items_in s) || is_some (sum_range (range_at p less.cells) s)) ≡ true
         → IsNarrowerIfAny (taken_form p pack less wrote whole) (taken_form p pack more wrote whole)
         → IsNarrowerIfAny (operands_form p pack less wrote whole s) (operands_form p pack more wrote whole s)
-    operands_narrower whole s has taken = by_written (list_any (is_written p.layout wrote) (items_in s)) has
+    operands_narrower whole s has taken = by_written (list_any (λ q. is_written p.layout wrote q.item) (items_in s)) has
       where
         by_range : (o : Option Ranged) → sum_range (range_at p less.cells) s ≡ o → is_some o ≡ true
             → IsNarrowerIfAny (sum_form decimals cell (range_at p less.cells) s) (sum_form decimals cell (range_at p more.cells) s)
@@ -166,10 +167,10 @@ module _ (p : Program) (a : Act) (x : Action) (pack : Pack) (less more : Seen) (
         by_written false e = either_narrower (whole && is_some (root_of s)) None None _ _ tt (by_range (sum_range (range_at p less.cells) s) refl e)
 
     pub sender_narrower : (y : Sender) → AreTaken less.common more.common → IsNarrowerIfAny (sender_form p pack less wrote y) (sender_form p pack more wrote y)
-    sender_narrower (sender.Item place) n = by_cell (cell place) (is_written p.layout wrote place)
+    sender_narrower (sender.Item place) n = by_cell (cell place.item) (is_written p.layout wrote place.item)
       where
-        by_cell : (o : Option ℕ) (b : Bool) → IsNarrowerIfAny (item_sent p pack less wrote place o b) (item_sent p pack more wrote place o b)
-        by_cell (Some k) false = own_narrower place
+        by_cell : (o : Option ℕ) (b : Bool) → IsNarrowerIfAny (item_sent p pack less wrote place.item o b) (item_sent p pack more wrote place.item o b)
+        by_cell (Some k) false = own_narrower place.item
         by_cell (Some k) true = kept_narrower less.common more.common n
         by_cell None b = kept_narrower less.common more.common n
     sender_narrower (sender.Number m) n = kept_narrower less.common more.common n

@@ -61,6 +61,7 @@ use Rattle.pack_laws.proofs.FormsShowValues.{IsTold, Told, range_told, scaled_to
 use Rattle.pack_laws.proofs.FormsShowSums.{item_told, sum_told, sum_ranged}
 use Rattle.cell_laws.proofs.Roots.{plus_zero}
 use Rattle.std.proofs.lemmas.Bool.{or_parts}
+use Rattle.cob_data.specs.declared.layout.Place.{Place}
 
 -- ---- decimals
 
@@ -83,7 +84,7 @@ whole_negated : (minus : Bool) (k : ℤ) (y : Scaled) → y.units ≡ k *ℤ pos
 whole_negated false k y e = e
 whole_negated true k y e = ap neg_ℤ e ∙ sym (neg_ℤ_times k (10 ^ y.scale))
 
-whole_literal : (minus m : Bool) (over : Bool) (worth_ : ℕ → Scaled) (atom : Atom) (k : ℤ) (v : Scaled) → option_map (negated_if minus) (whole_factor over m atom) ≡ Some k
+whole_literal : (minus m : Bool) (over : Bool) (worth_ : Place → Scaled) (atom : Atom) (k : ℤ) (v : Scaled) → option_map (negated_if minus) (whole_factor over m atom) ≡ Some k
     → sum_value worth_ (MkSum (more_parts (MkPart minus (more_factors (MkFactor over m atom) no_factors)) no_parts)) ≡ Some v → v.units ≡ k *ℤ pos (10 ^ v.scale)
 whole_literal minus m true worth_ atom k v e is = absurd cc
 whole_literal minus m false worth_ atom k v e is =
@@ -101,7 +102,7 @@ whole_literal minus m false worth_ atom k v e is =
         subst (λ (w : Scaled). w.units ≡ k *ℤ pos (10 ^ w.scale)) (sym same)
         (subst (λ (z : ℤ). (negated minus (negated m c)).units ≡ z *ℤ pos (10 ^ (negated minus (negated m c)).scale)) (some_same (negated_if minus j) k e) (whole_negated minus j (negated m c) fact.1))
 
-whole_sum_is : (worth_ : ℕ → Scaled) (s : Sum) (k : ℤ) (v : Scaled) → whole_sum s ≡ Some k → sum_value worth_ s ≡ Some v → v.units ≡ k *ℤ pos (10 ^ v.scale)
+whole_sum_is : (worth_ : Place → Scaled) (s : Sum) (k : ℤ) (v : Scaled) → whole_sum s ≡ Some k → sum_value worth_ s ≡ Some v → v.units ≡ k *ℤ pos (10 ^ v.scale)
 whole_sum_is worth_ (MkSum no_parts) k v e is = absurd cc
 whole_sum_is worth_ (MkSum (more_parts (MkPart minus no_factors) no_parts)) k v e is = absurd cc
 whole_sum_is worth_ (MkSum (more_parts (MkPart minus (more_factors (MkFactor over m atom) no_factors)) no_parts)) k v e is = whole_literal minus m over worth_ atom k v e is
@@ -127,19 +128,19 @@ module _ (cells : ℕ → Option ℤ) (f : ℕ) where
 -- ---- items that weren't written
 
 module _ (l : Layout) (sound : HasSoundItems l) (wrote : List Extent) (m : Moment) (tracked : IsTracked l wrote m) where
-  same_number : (place : ℕ) → is_written l wrote place ≡ false → number_at l m.storage place ≡ number_at l m.first place
-  same_number place e = tracked.same place 0 (some_times l sound place) e
+  same_number : (place : Place) → is_written l wrote place.item ≡ false → number_at l m.storage place ≡ number_at l m.first place
+  same_number place e = tracked.same place.item 0 (some_times l sound place.item) e
 
-  same_worths : (places : List ℕ) → list_any (is_written l wrote) places ≡ false → Agree (worth l m.storage) (worth l m.first) places
+  same_worths : (places : List Place) → list_any (λ q. is_written l wrote q.item) places ≡ false → Agree (worth l m.storage) (worth l m.first) places
   same_worths [] e = tt
   same_worths (place ∷ places) e =
-      let two = or_parts (is_written l wrote place) (list_any (is_written l wrote) places) e in
+      let two = or_parts (is_written l wrote place.item) (list_any (λ q. is_written l wrote q.item) places) e in
       (ap (λ (o : Option Scaled). unwrap_or o (whole_number (pos 0))) (same_number place two.0), same_worths places two.1)
 
-  still_numeric : (places : List ℕ) → list_any (is_written l wrote) places ≡ false → are_numeric l m.first places ≡ true → are_numeric l m.storage places ≡ true
+  still_numeric : (places : List Place) → list_any (λ q. is_written l wrote q.item) places ≡ false → are_numeric l m.first places ≡ true → are_numeric l m.storage places ≡ true
   still_numeric [] e numeric = refl
   still_numeric (place ∷ places) e numeric =
-      let two = or_parts (is_written l wrote place) (list_any (is_written l wrote) places) e in
+      let two = or_parts (is_written l wrote place.item) (list_any (λ q. is_written l wrote q.item) places) e in
       let both = both_true (is_some (number_at l m.first place)) (are_numeric l m.first places) numeric in
       and_true (is_some (number_at l m.storage place)) (are_numeric l m.storage places) (ap is_some (same_number place two.0) ∙ both.0) (still_numeric places two.1 both.1)
 
@@ -156,7 +157,7 @@ module _ (p : Program) (statement : ℕ) (a : Act) (x : Action) (pack : Pack) (f
 
     -- ---- the receiver's own number
 
-    own_read : (place : ℕ) → EndsWithRead done place → m.by_zero ≡ false → number_at p.layout m.storage place ≡ Some m.own
+    own_read : (place : Place) → EndsWithRead done place → m.by_zero ≡ false → number_at p.layout m.storage place ≡ Some m.own
     own_read place e z = last e.before (run.beginning m.first g.counts) (subst (λ (xs : List Part). PassesParts p.layout (handled p a x) xs (run.beginning m.first g.counts) m) e.split g.passed)
       where
         read_last : (k : Moment) (b : Bool) → k.by_zero ≡ b → ReadsAt p.layout b place k m → number_at p.layout m.storage place ≡ Some m.own
@@ -167,7 +168,7 @@ module _ (p : Program) (statement : ℕ) (a : Act) (x : Action) (pack : Pack) (f
         last [] k (next, h, same) = read_last k k.by_zero refl (subst (λ (j : Moment). ReadsAt p.layout k.by_zero place k j) (sym same) h.0)
         last (y ∷ xs) k (next, h, hs) = last xs next hs
 
-    own_told : (place : ℕ) (v : Scaled) → number_at p.layout m.storage place ≡ Some v → Tells (own_form p pack t wrote place) v
+    own_told : (place : Place) (v : Scaled) → number_at p.layout m.storage place ≡ Some v → Tells (own_form p pack t wrote place.item) v
     own_told place v e = item_told p g.sound.items t.cells m.storage m.counts g.stands pack few place v e
 
     -- ---- operands that were kept
@@ -233,13 +234,13 @@ module _ (p : Program) (statement : ℕ) (a : Act) (x : Action) (pack : Pack) (f
         kept_sent : Tells (kept_form p pack t wrote t.common) v
         kept_sent = told_of_value cells f (kept_form p pack t wrote t.common) v (kept_told t.common (value_of v) kept)
 
-        by_cell : (place : ℕ) → number_at p.layout m.first place ≡ Some v → (o : Option ℕ) (b : Bool) → is_written p.layout wrote place ≡ b → Tells (item_sent p pack t wrote place o b) v
+        by_cell : (place : Place) → number_at p.layout m.first place ≡ Some v → (o : Option ℕ) (b : Bool) → is_written p.layout wrote place.item ≡ b → Tells (item_sent p pack t wrote place.item o b) v
         by_cell place is (Some k) false e = own_told place v (same_number p.layout g.sound.items wrote m tracked place e ∙ is)
         by_cell place is (Some k) true e = kept_sent
         by_cell place is None b e = kept_sent
 
         by_kind : (y : Sender) → number_of p.layout m.first y ≡ Some v → Tells (sender_form p pack t wrote y) v
-        by_kind (sender.Item place) is = by_cell place is (cell_of pack (of_item place)) (is_written p.layout wrote place) refl
+        by_kind (sender.Item place) is = by_cell place is (cell_of pack (of_item place.item)) (is_written p.layout wrote place.item) refl
         by_kind (sender.Number n) is = kept_sent
         by_kind (sender.Text text) is = kept_sent
         by_kind (sender.Fill byte) is = kept_sent
@@ -256,28 +257,28 @@ module _ (p : Program) (statement : ℕ) (a : Act) (x : Action) (pack : Pack) (f
           (read_first p.layout (handled p a x) (items_in s) (divides (divisors_of s ts) ++ behind.behind) (run.beginning m.first g.counts) m refl
           (subst (λ (xs : List Part). PassesParts p.layout (handled p a x) xs (run.beginning m.first g.counts) m) behind.split g.passed)).numeric
 
-      unwritten_told : (v : Scaled) → list_any (is_written p.layout wrote) (items_in s) ≡ false → sum_value (worth p.layout m.first) s ≡ Some v → Tells (sum_form f (λ place. cell_of pack (of_item place)) (range_at p t.cells) s) v
+      unwritten_told : (v : Scaled) → list_any (λ q. is_written p.layout wrote q.item) (items_in s) ≡ false → sum_value (worth p.layout m.first) s ≡ Some v → Tells (sum_form f (λ place. cell_of pack (of_item place)) (range_at p t.cells) s) v
       unwritten_told v e is =
           sum_told p g.sound.items t.cells m.storage m.counts g.stands pack few s v (still_numeric p.layout g.sound.items wrote m tracked (items_in s) e numeric_first)
           (same_sum (worth p.layout m.storage) (worth p.layout m.first) s (same_worths p.layout g.sound.items wrote m tracked (items_in s) e) ∙ is)
 
       summand_told : (v : Scaled) → sum_value (worth p.layout m.first) s ≡ Some v → Tells (operands_form p pack t wrote false s) v
-      summand_told v is = by_written (list_any (is_written p.layout wrote) (items_in s)) refl
+      summand_told v is = by_written (list_any (λ q. is_written p.layout wrote q.item) (items_in s)) refl
         where
-          by_written : (b : Bool) → list_any (is_written p.layout wrote) (items_in s) ≡ b → Tells (if b then taken_form p pack t wrote false else sum_form f (λ place. cell_of pack (of_item place)) (range_at p t.cells) s) v
+          by_written : (b : Bool) → list_any (λ q. is_written p.layout wrote q.item) (items_in s) ≡ b → Tells (if b then taken_form p pack t wrote false else sum_form f (λ place. cell_of pack (of_item place)) (range_at p t.cells) s) v
           by_written true e = told_of_value cells f (kept_form p pack t wrote (t.common >>= settled)) v (kept_told (t.common >>= settled) (value_of v) (summand_kept s v its is))
           by_written false e = unwritten_told v e is
 
       whole_told : (v : Fraction) → amount p.layout m (computed s how.Whole) ≡ Some v → ValueTold cells f (operands_form p pack t wrote true s) v
-      whole_told v is = by_written (list_any (is_written p.layout wrote) (items_in s)) refl
+      whole_told v is = by_written (list_any (λ q. is_written p.layout wrote q.item) (items_in s)) refl
         where
-          by_root : (o : Option Root) → list_any (is_written p.layout wrote) (items_in s) ≡ false → stored_from (worth p.layout m.first) s o ≡ Some v → ValueTold cells f (if is_some o then None else sum_form f (λ place. cell_of pack (of_item place)) (range_at p t.cells) s) v
+          by_root : (o : Option Root) → list_any (λ q. is_written p.layout wrote q.item) (items_in s) ≡ false → stored_from (worth p.layout m.first) s o ≡ Some v → ValueTold cells f (if is_some o then None else sum_form f (λ place. cell_of pack (of_item place)) (range_at p t.cells) s) v
           by_root (Some r) e h = tt
           by_root None e h =
               let u = some_bound (sum_value (worth p.layout m.first) s) (λ u. Some (value_of u)) v h in
               value_told cells f (sum_form f (λ place. cell_of pack (of_item place)) (range_at p t.cells) s) u.0 v (sym (some_same (value_of u.0) v u.2)) (unwritten_told u.0 e u.1)
 
-          by_written : (b : Bool) → list_any (is_written p.layout wrote) (items_in s) ≡ b
+          by_written : (b : Bool) → list_any (λ q. is_written p.layout wrote q.item) (items_in s) ≡ b
               → ValueTold cells f (if b then taken_form p pack t wrote true else (if is_some (root_of s) then None else sum_form f (λ place. cell_of pack (of_item place)) (range_at p t.cells) s)) v
           by_written true e = kept_told t.common v (whole_kept s v its is)
           by_written false e = by_root (root_of s) e is
@@ -285,44 +286,44 @@ module _ (p : Program) (statement : ℕ) (a : Act) (x : Action) (pack : Pack) (f
     -- ---- amounts
 
     -- what a receiver multiplies its number by
-    times_told : (place : ℕ) (s : Sum) (v : Scaled) (value : Fraction) → edge_amount a x ≡ Some (computed s how.Whole) → number_at p.layout m.storage place ≡ Some m.own
-        → sum_value (worth p.layout m.first) s ≡ Some v → value ≡ value_of (product m.own v) → ValueTold cells f (multiplied_form p pack t wrote place (whole_sum s)) value
+    times_told : (place : Place) (s : Sum) (v : Scaled) (value : Fraction) → edge_amount a x ≡ Some (computed s how.Whole) → number_at p.layout m.storage place ≡ Some m.own
+        → sum_value (worth p.layout m.first) s ≡ Some v → value ≡ value_of (product m.own v) → ValueTold cells f (multiplied_form p pack t wrote place.item (whole_sum s)) value
     times_told place s v value its own is same = by_literal (whole_sum s) refl
       where
-        ranged_go : (o : Option Taken) → IsSomeAnd (o >>= amount_range (computed s how.Times) (range_at p t.cells place)) (λ r. IsAmount r (value_of (product m.own v)))
-            → ValueTold cells f (o >>= λ c. range_form f (product_range (range_at p t.cells place) c.top)) (value_of (product m.own v))
+        ranged_go : (o : Option Taken) → IsSomeAnd (o >>= amount_range (computed s how.Times) (range_at p t.cells place.item)) (λ r. IsAmount r (value_of (product m.own v)))
+            → ValueTold cells f (o >>= λ c. range_form f (product_range (range_at p t.cells place.item) c.top)) (value_of (product m.own v))
         ranged_go None h = tt
         ranged_go (Some c) (w, inside, e) =
-            value_told cells f (range_form f (product_range (range_at p t.cells place) c.top)) w (value_of (product m.own v)) e (range_told cells f (product_range (range_at p t.cells place) c.top) w inside)
+            value_told cells f (range_form f (product_range (range_at p t.cells place.item) c.top)) w (value_of (product m.own v)) e (range_told cells f (product_range (range_at p t.cells place.item) c.top) w inside)
 
-        common_go : (o : Option Taken) → IsSomeAnd o (λ c. IsSomeAnd (amount_of (computed s how.Times) (range_at p t.cells place) c) (λ r. IsAmount r (value_of (product m.own v))))
-            → ValueTold cells f ((o >>= settled) >>= λ c. range_form f (product_range (range_at p t.cells place) c.top)) (value_of (product m.own v))
+        common_go : (o : Option Taken) → IsSomeAnd o (λ c. IsSomeAnd (amount_of (computed s how.Times) (range_at p t.cells place.item) c) (λ r. IsAmount r (value_of (product m.own v))))
+            → ValueTold cells f ((o >>= settled) >>= λ c. range_form f (product_range (range_at p t.cells place.item) c.top)) (value_of (product m.own v))
         common_go None h = tt
         common_go (Some c) h = ranged_go (settled c) h
 
-        by_literal : (o : Option ℤ) → whole_sum s ≡ o → ValueTold cells f (multiplied_form p pack t wrote place o) value
+        by_literal : (o : Option ℤ) → whole_sum s ≡ o → ValueTold cells f (multiplied_form p pack t wrote place.item o) value
         by_literal (Some k) e =
-            value_told cells f (own_form p pack t wrote place >>= scaled_form k) (product m.own v) value same
-            (scaled_told cells f k (own_form p pack t wrote place) m.own v (whole_sum_is (worth p.layout m.first) s k v e is) (own_told place m.own own))
+            value_told cells f (own_form p pack t wrote place.item >>= scaled_form k) (product m.own v) value same
+            (scaled_told cells f k (own_form p pack t wrote place.item) m.own v (whole_sum_is (worth p.layout m.first) s k v e is) (own_told place m.own own))
         by_literal None e =
-            subst (λ (y : Fraction). ValueTold cells f (multiplied_form p pack t wrote place None) y) (sym same)
-            (common_go t.common (g.took m (computed s how.Times) (range_at p t.cells place) (value_of (product m.own v)) refl its (number_holds p g.sound.items t.cells (storage m.storage m.counts) g.stands place m.own own)
+            subst (λ (y : Fraction). ValueTold cells f (multiplied_form p pack t wrote place.item None) y) (sym same)
+            (common_go t.common (g.took m (computed s how.Times) (range_at p t.cells place.item) (value_of (product m.own v)) refl its (number_holds p g.sound.items t.cells (storage m.storage m.counts) g.stands place m.own own)
             (ap (λ (o : Option Scaled). o >>= λ u. Some (value_of (product m.own u))) is)))
 
-    module _ (place : ℕ) (z : m.by_zero ≡ false) where
-      computed_told : (s : Sum) (h : How) (v : Fraction) → IsStored a x done place (computed s h) → amount p.layout m (computed s h) ≡ Some v → ValueTold cells f (computed_form p pack t wrote place s h) v
+    module _ (place : Place) (z : m.by_zero ≡ false) where
+      computed_told : (s : Sum) (h : How) (v : Fraction) → IsStored a x done place (computed s h) → amount p.layout m (computed s h) ≡ Some v → ValueTold cells f (computed_form p pack t wrote place.item s h) v
       computed_told s how.Whole v q is = whole_told s q.arithmetic.targets q.operands (its_amount p statement a x done place (computed s how.Whole) q) v is
       computed_told s how.Plus v q is =
           let its = its_amount p statement a x done place (computed s how.Plus) q in
           let u = some_bound (sum_value (worth p.layout m.first) s) (λ u. Some (value_of (plus m.own u))) v is in
-          value_told cells f (added_forms (own_form p pack t wrote place) (operands_form p pack t wrote false s)) (plus m.own u.0) v (sym (some_same (value_of (plus m.own u.0)) v u.2))
-          (added_told cells f (own_form p pack t wrote place) (operands_form p pack t wrote false s) m.own u.0 (own_told place m.own (own_read place (q.own (λ e. cc)) z))
+          value_told cells f (added_forms (own_form p pack t wrote place.item) (operands_form p pack t wrote false s)) (plus m.own u.0) v (sym (some_same (value_of (plus m.own u.0)) v u.2))
+          (added_told cells f (own_form p pack t wrote place.item) (operands_form p pack t wrote false s) m.own u.0 (own_told place m.own (own_read place (q.own (λ e. cc)) z))
           (summand_told s q.arithmetic.targets q.operands its u.0 u.1))
       computed_told s how.Minus v q is =
           let its = its_amount p statement a x done place (computed s how.Minus) q in
           let u = some_bound (sum_value (worth p.layout m.first) s) (λ u. Some (value_of (plus m.own (negated true u)))) v is in
-          value_told cells f (added_forms (own_form p pack t wrote place) (turned_if true (operands_form p pack t wrote false s))) (plus m.own (negated true u.0)) v (sym (some_same (value_of (plus m.own (negated true u.0))) v u.2))
-          (added_told cells f (own_form p pack t wrote place) (turned_if true (operands_form p pack t wrote false s)) m.own (negated true u.0) (own_told place m.own (own_read place (q.own (λ e. cc)) z))
+          value_told cells f (added_forms (own_form p pack t wrote place.item) (turned_if true (operands_form p pack t wrote false s))) (plus m.own (negated true u.0)) v (sym (some_same (value_of (plus m.own (negated true u.0))) v u.2))
+          (added_told cells f (own_form p pack t wrote place.item) (turned_if true (operands_form p pack t wrote false s)) m.own (negated true u.0) (own_told place m.own (own_read place (q.own (λ e. cc)) z))
           (turned_told cells f (operands_form p pack t wrote false s) u.0 (summand_told s q.arithmetic.targets q.operands its u.0 u.1)))
       computed_told s how.Times v q is =
           let u = some_bound (sum_value (worth p.layout m.first) s) (λ u. Some (value_of (product m.own u))) v is in
@@ -333,7 +334,7 @@ module _ (p : Program) (statement : ℕ) (a : Act) (x : Action) (pack : Pack) (f
       mapped h None v e = absurd cc
       mapped h (Some u) v e = (u, refl, sym (some_same (value_of (h u)) v e))
 
-      pub amount_told : (y : Amount) (v : Fraction) → IsStored a x done place y → amount p.layout m y ≡ Some v → ValueTold cells f (amount_form p pack t wrote place y) v
+      pub amount_told : (y : Amount) (v : Fraction) → IsStored a x done place y → amount p.layout m y ≡ Some v → ValueTold cells f (amount_form p pack t wrote place.item y) v
       amount_told (moved y) v q is =
           let u = mapped (λ u. u) (number_of p.layout m.first y) v is in
           value_told cells f (sender_form p pack t wrote y) u.0 v u.2 (moved_told y u.0 (its_amount p statement a x done place (moved y) q) u.1)
@@ -341,8 +342,8 @@ module _ (p : Program) (statement : ℕ) (a : Act) (x : Action) (pack : Pack) (f
       amount_told (remaining s scale) v q is = tt
       amount_told (augmented y) v q is =
           let u = mapped (plus m.own) (number_of p.layout m.first y) v is in
-          value_told cells f (added_forms (own_form p pack t wrote place) (sender_form p pack t wrote y)) (plus m.own u.0) v u.2
-          (added_told cells f (own_form p pack t wrote place) (sender_form p pack t wrote y) m.own u.0 (own_told place m.own (own_read place q.2 z))
+          value_told cells f (added_forms (own_form p pack t wrote place.item) (sender_form p pack t wrote y)) (plus m.own u.0) v u.2
+          (added_told cells f (own_form p pack t wrote place.item) (sender_form p pack t wrote y) m.own u.0 (own_told place m.own (own_read place q.2 z))
           (sender_told y u.0 (augmented_kept y u.0 (its_amount p statement a x done place (augmented y) q) u.1) u.1))
 
       -- ---- operands have a range
@@ -355,13 +356,13 @@ module _ (p : Program) (statement : ℕ) (a : Act) (x : Action) (pack : Pack) (f
       operands_valued s how.Under v is = ap is_some (some_bound (sum_value (worth p.layout m.first) s) (λ u. exact_quotient m.own u) v is).1
 
       operands_there : (s : Sum) (h : How) (v : Fraction) → IsStored a x done place (computed s h) → amount p.layout m (computed s h) ≡ Some v → has_operands p t wrote (computed s h) ≡ true
-      operands_there s h v q is = by_written (list_any (is_written p.layout wrote) (items_in s)) refl
+      operands_there s h v q is = by_written (list_any (λ q. is_written p.layout wrote q.item) (items_in s)) refl
         where
           some_there : (o : Option Ranged) (u : Scaled) → IsSomeAnd o (IsIn u) → is_some o ≡ true
           some_there None u h = absurd h
           some_there (Some r) u h = refl
 
-          by_written : (b : Bool) → list_any (is_written p.layout wrote) (items_in s) ≡ b → (b || is_some (sum_range (range_at p t.cells) s)) ≡ true
+          by_written : (b : Bool) → list_any (λ q. is_written p.layout wrote q.item) (items_in s) ≡ b → (b || is_some (sum_range (range_at p t.cells) s)) ≡ true
           by_written true e = refl
           by_written false e =
               let u = is_there (sum_value (worth p.layout m.first) s) (operands_valued s h v is) in

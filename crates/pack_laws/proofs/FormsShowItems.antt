@@ -3,6 +3,7 @@ use Rattle.std.proofs.Common.{◌≡◌, ℕ, suc, ◌<◌, Bool, true, false, L
 use Rattle.std.specs.Prelude.{IfSome, nat_eq, if◌then◌else◌}
 use Rattle.std.proofs.lemmas.Bool.{ne_eqb}
 use Rattle.std.proofs.Math.IntN.{zero-*ℤ}
+use Rattle.cob_data.specs.declared.layout.Place.{Place}
 use Rattle.interval_domain.specs.declared.bounds.Interval.{Interval}
 use Rattle.interval_domain.specs.Corners.{interval}
 use Rattle.cob_program.specs.Sum.{Sum, MkSum, Parts, no_parts, more_parts, Part, MkPart, Factors, no_factors, more_factors, MkFactor, Atom, item, number, group}
@@ -72,28 +73,28 @@ module _ (cells : ℕ → Option ℤ) where
 
 module _ (cell : ℕ → Option ℕ) (cells : ℕ → Option ℤ) where
   -- each of the items that has a cell has a value there
-  abbrev pub HaveValues : List ℕ → Type 0
+  abbrev pub HaveValues : List Place → Type 0
   HaveValues [] = Unit {0}
-  HaveValues (place ∷ places) = ((k : ℕ) → cell place ≡ Some k → cells (suc k) ≡ None → ⊥) × HaveValues places
+  HaveValues (place ∷ places) = ((k : ℕ) → cell place.item ≡ Some k → cells (suc k) ≡ None → ⊥) × HaveValues places
 
-  front : (xs ys : List ℕ) → HaveValues (xs ++ ys) → HaveValues xs
+  front : (xs ys : List Place) → HaveValues (xs ++ ys) → HaveValues xs
   front [] ys h = tt
   front (x ∷ xs) ys h = (h.0, front xs ys h.1)
 
-  back : (xs ys : List ℕ) → HaveValues (xs ++ ys) → HaveValues ys
+  back : (xs ys : List Place) → HaveValues (xs ++ ys) → HaveValues ys
   back [] ys h = h
   back (x ∷ xs) ys h = back xs ys h.1
 
-  abbrev items_in_part : Part → List ℕ
+  abbrev items_in_part : Part → List Place
   items_in_part (MkPart minus fs) = items_in_factors fs
 
   module _ (f : ℕ) (range : ℕ → Ranged) where
-    pub item_form_is_of_values : (place : ℕ) → HaveValues (place ∷ []) → IfSome (item_form f (cell place) (range place)) (IsOfValues cells)
-    item_form_is_of_values place h = by_cell (cell place) refl
+    pub item_form_is_of_values : (place : Place) → HaveValues (place ∷ []) → IfSome (item_form f (cell place.item) (range place.item)) (IsOfValues cells)
+    item_form_is_of_values place h = by_cell (cell place.item) refl
       where
-        by_cell : (o : Option ℕ) → cell place ≡ o → IfSome (item_form f o (range place)) (IsOfValues cells)
+        by_cell : (o : Option ℕ) → cell place.item ≡ o → IfSome (item_form f o (range place.item)) (IsOfValues cells)
         by_cell (Some k) e = cell_is_of_values cells k (h.0 k e)
-        by_cell None e = range_is_of_values cells f (range place)
+        by_cell None e = range_is_of_values cells f (range place.item)
 
     mutual
       pub sum_form_is_of_values : (s : Sum) → HaveValues (items_in s) → IfSome (sum_form f cell range s) (IsOfValues cells)

@@ -67,7 +67,7 @@ pub all_amounts_are_shown : AmountsAreShown
 all_amounts_are_shown p statement a x pack few done rest place mode y e s wrote m g tracked z v is =
     let q = parts_are_in_place p statement a x done rest (store place mode y) e in
     let t = taken_at p statement a x cell_laws done (store place mode y) s m refl q g in
-    shows_value p statement a x pack few done s m g (amount_form p pack (with_taken p a x s) wrote place y) v
+    shows_value p statement a x pack few done s m g (amount_form p pack (with_taken p a x s) wrote place.item y) v
     (amount_told p statement a x pack few done (with_taken p a x s) m t wrote tracked place z y v q is)
 
 pub all_operands_are_there : OperandsAreThere

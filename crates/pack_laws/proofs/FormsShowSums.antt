@@ -10,6 +10,7 @@ use Rattle.interval_domain.specs.declared.bounds.Interval.{Interval}
 use Rattle.interval_domain.specs.Bounds.{Holds}
 use Rattle.cob_tree.specs.declared.form.Form.{Form}
 use Rattle.cob_tree.specs.declared.form.Form.TheVariants as form
+use Rattle.cob_data.specs.declared.layout.Place.{Place}
 use Rattle.num_bytes.specs.Reading.{contents_value}
 use Rattle.cob_program.specs.Sum.{Sum, Atom, item, number, group}
 use Rattle.cob_program.specs.Values.{whole_number, literal, sum_value, atom_value}
@@ -91,20 +92,20 @@ module _ (p : Program) (sound : HasSoundItems p.layout) (known : List Known) (by
   cell_at place = cell_of pack (of_item place)
 
   -- an item's number, or 0
-  abbrev number_or_zero : ℕ → Scaled
-  number_or_zero place = unwrap_or (number_at p.layout bytes place) (decimal (pos 0) (scale_of (form_at p.layout place)))
+  abbrev number_or_zero : Place → Scaled
+  number_or_zero place = unwrap_or (number_at p.layout bytes place) (decimal (pos 0) (scale_of (form_at p.layout place.item)))
 
-  all_in : (place : ℕ) → IsIn (number_or_zero place) (range_at p known place)
-  all_in place = by_value (contents_value (form_at p.layout place) (bytes_at p.layout bytes place)) refl
+  all_in : (place : Place) → IsIn (number_or_zero place) (range_at p known place.item)
+  all_in place = by_value (contents_value (form_at p.layout place.item) (bytes_at p.layout bytes place)) refl
     where
-      by_value : (o : Option ℤ) → contents_value (form_at p.layout place) (bytes_at p.layout bytes place) ≡ o → IsIn (unwrap_or (option_map (scaled_by (scale_of (form_at p.layout place))) o) (decimal (pos 0) (scale_of (form_at p.layout place)))) (range_at p known place)
+      by_value : (o : Option ℤ) → contents_value (form_at p.layout place.item) (bytes_at p.layout bytes place) ≡ o → IsIn (unwrap_or (option_map (scaled_by (scale_of (form_at p.layout place.item))) o) (decimal (pos 0) (scale_of (form_at p.layout place.item)))) (range_at p known place.item)
       by_value None e = record {
-        held = zero_in (home_range p.layout (of_item place)) (known_of (homes_of p) known (of_item place)) (zero_in_form (form_at p.layout place))
-            (subst (λ (v : Option ℤ). KnownStands (known_of (homes_of p) known (of_item place)) v) e
-            (stands.known (of_item place) 0 (some_times p.layout sound place)));
+        held = zero_in (home_range p.layout (of_item place.item)) (known_of (homes_of p) known (of_item place.item)) (zero_in_form (form_at p.layout place.item))
+            (subst (λ (v : Option ℤ). KnownStands (known_of (homes_of p) known (of_item place.item)) v) e
+            (stands.known (of_item place.item) 0 (some_times p.layout sound place.item)));
         scale = refl;
       }
-      by_value (Some z) e = record { held = units_hold p sound known (storage bytes counts) stands place 0 z (some_times p.layout sound place) e; scale = refl }
+      by_value (Some z) e = record { held = units_hold p sound known (storage bytes counts) stands place.item 0 z (some_times p.layout sound place.item) e; scale = refl }
 
   cell_value : (h : Home) (k : ℕ) → cell_of pack h ≡ Some k → cells (suc k) ≡ option_map (λ v. v *ℤ pos (unit_of p.layout pack h)) (value_at p.layout (storage bytes counts) h 0)
   cell_value h k e = cell.cell_value p.layout pack (storage bytes counts) k h (found_cell pack h k e)
@@ -115,27 +116,27 @@ module _ (p : Program) (sound : HasSoundItems p.layout) (known : List Known) (by
   few_cells : (h : Home) (k : ℕ) → cell_of pack h ≡ Some k → k < 8
   few_cells h k e = let within = cell_within pack h k e in omega (arith, within, few)
 
-  all_values : (place k : ℕ) → cell_of pack (of_item place) ≡ Some k → worths cells (suc k) *ℤ pos (10 ^ (number_or_zero place).scale) ≡ (number_or_zero place).units *ℤ pos (10 ^ pack_decimals p.layout pack)
+  all_values : (place : Place) (k : ℕ) → cell_of pack (of_item place.item) ≡ Some k → worths cells (suc k) *ℤ pos (10 ^ (number_or_zero place).scale) ≡ (number_or_zero place).units *ℤ pos (10 ^ pack_decimals p.layout pack)
   all_values place k e =
-      subst (λ (c : Option ℤ). worth c *ℤ pos (10 ^ (number_or_zero place).scale) ≡ (number_or_zero place).units *ℤ pos (10 ^ pack_decimals p.layout pack)) (sym (cell_value (of_item place) k e))
-      (by_value (contents_value (form_at p.layout place) (bytes_at p.layout bytes place)))
+      subst (λ (c : Option ℤ). worth c *ℤ pos (10 ^ (number_or_zero place).scale) ≡ (number_or_zero place).units *ℤ pos (10 ^ pack_decimals p.layout pack)) (sym (cell_value (of_item place.item) k e))
+      (by_value (contents_value (form_at p.layout place.item) (bytes_at p.layout bytes place)))
     where
-      by_value : (o : Option ℤ) → worth (option_map (λ v. v *ℤ pos (unit_of p.layout pack (of_item place))) o) *ℤ pos (10 ^ (unwrap_or (option_map (scaled_by (scale_of (form_at p.layout place))) o) (decimal (pos 0) (scale_of (form_at p.layout place)))).scale) ≡ (unwrap_or (option_map (scaled_by (scale_of (form_at p.layout place))) o) (decimal (pos 0) (scale_of (form_at p.layout place)))).units *ℤ pos (10 ^ pack_decimals p.layout pack)
-      by_value None = both_zero (10 ^ scale_of (form_at p.layout place)) (10 ^ pack_decimals p.layout pack)
-      by_value (Some z) = its_units (of_item place) k e z
+      by_value : (o : Option ℤ) → worth (option_map (λ v. v *ℤ pos (unit_of p.layout pack (of_item place.item))) o) *ℤ pos (10 ^ (unwrap_or (option_map (scaled_by (scale_of (form_at p.layout place.item))) o) (decimal (pos 0) (scale_of (form_at p.layout place.item)))).scale) ≡ (unwrap_or (option_map (scaled_by (scale_of (form_at p.layout place.item))) o) (decimal (pos 0) (scale_of (form_at p.layout place.item)))).units *ℤ pos (10 ^ pack_decimals p.layout pack)
+      by_value None = both_zero (10 ^ scale_of (form_at p.layout place.item)) (10 ^ pack_decimals p.layout pack)
+      by_value (Some z) = its_units (of_item place.item) k e z
 
   are_held : AreHeld f cell_at (range_at p known) number_or_zero (λ k. worths cells (suc k))
   are_held = record { held = all_in; values = all_values; few = λ place k e. few_cells (of_item place) k e }
 
   -- a number is in its cell
-  has_value : (place : ℕ) → is_some (number_at p.layout bytes place) ≡ true → (k : ℕ) → cell_of pack (of_item place) ≡ Some k → cells (suc k) ≡ None → ⊥
-  has_value place there k e none = by_value (contents_value (form_at p.layout place) (bytes_at p.layout bytes place)) there (sym (cell_value (of_item place) k e) ∙ none)
+  has_value : (place : Place) → is_some (number_at p.layout bytes place) ≡ true → (k : ℕ) → cell_of pack (of_item place.item) ≡ Some k → cells (suc k) ≡ None → ⊥
+  has_value place there k e none = by_value (contents_value (form_at p.layout place.item) (bytes_at p.layout bytes place)) there (sym (cell_value (of_item place.item) k e) ∙ none)
     where
-      by_value : (o : Option ℤ) → is_some (option_map (scaled_by (scale_of (form_at p.layout place))) o) ≡ true → option_map (λ v. v *ℤ pos (unit_of p.layout pack (of_item place))) o ≡ None → ⊥
+      by_value : (o : Option ℤ) → is_some (option_map (scaled_by (scale_of (form_at p.layout place.item))) o) ≡ true → option_map (λ v. v *ℤ pos (unit_of p.layout pack (of_item place.item))) o ≡ None → ⊥
       by_value None there none = cc
       by_value (Some z) there none = cc
 
-  have_values : (places : List ℕ) → are_numeric p.layout bytes places ≡ true → HaveValues cell_at cells places
+  have_values : (places : List Place) → are_numeric p.layout bytes places ≡ true → HaveValues cell_at cells places
   have_values [] e = tt
   have_values (place ∷ places) e =
       let both = both_true (is_some (number_at p.layout bytes place)) (are_numeric p.layout bytes places) e in
@@ -146,11 +147,11 @@ module _ (p : Program) (sound : HasSoundItems p.layout) (known : List Known) (by
   pub none_after : (k : ℕ) → size_of pack ≤ k → cells (suc k) ≡ None
   none_after k h = no_cell p.layout pack (storage bytes counts) k h
 
-  pub item_told : (place : ℕ) (v : Scaled) → number_at p.layout bytes place ≡ Some v → Told cells f (item_form f (cell_at place) (range_at p known place)) v
+  pub item_told : (place : Place) (v : Scaled) → number_at p.layout bytes place ≡ Some v → Told cells f (item_form f (cell_at place.item) (range_at p known place.item)) v
   item_told place v e =
-      told cells f (item_form f (cell_at place) (range_at p known place)) v
+      told cells f (item_form f (cell_at place.item) (range_at p known place.item)) v
       (item_form_is_of_values cell_at cells f (range_at p known) place (has_value place (ap is_some e), tt))
-      (subst (λ (o : Option Scaled). IfSome (item_form f (cell_at place) (range_at p known place)) (λ g. Shows f (λ k. worths cells (suc k)) g (unwrap_or o (decimal (pos 0) (scale_of (form_at p.layout place)))))) e
+      (subst (λ (o : Option Scaled). IfSome (item_form f (cell_at place.item) (range_at p known place.item)) (λ g. Shows f (λ k. worths cells (suc k)) g (unwrap_or o (decimal (pos 0) (scale_of (form_at p.layout place.item)))))) e
       (item_shows f cell_at (range_at p known) number_or_zero (λ k. worths cells (suc k)) are_held place))
 
   pub sum_told : (s : Sum) (v : Scaled) → are_numeric p.layout bytes (items_in s) ≡ true → sum_value (computing.worth p.layout bytes) s ≡ Some v → Told cells f (sum_form f cell_at (range_at p known) s) v
@@ -158,7 +159,7 @@ module _ (p : Program) (sound : HasSoundItems p.layout) (known : List Known) (by
       told cells f (sum_form f cell_at (range_at p known) s) v
       (sum_form_is_of_values cell_at cells f (range_at p known) s (have_values (items_in s) numeric))
       (sum_shown f cell_at (range_at p known) number_or_zero (λ k. worths cells (suc k)) are_held s v
-      (sym (numeric_sum p.layout bytes (λ place. decimal (pos 0) (scale_of (form_at p.layout place))) s numeric) ∙ e))
+      (sym (numeric_sum p.layout bytes (λ place. decimal (pos 0) (scale_of (form_at p.layout place.item))) s numeric) ∙ e))
 
   pub atom_told : (d : Atom) (v : Scaled) → are_numeric p.layout bytes (items_in_atom d) ≡ true → atom_value (computing.worth p.layout bytes) d ≡ Some v → Told cells f (atom_form f cell_at (range_at p known) d) v
   atom_told (item place) v numeric e = item_told place v (its_number (number_at p.layout bytes place) (both_true (is_some (number_at p.layout bytes place)) true numeric).0 e)
@@ -172,7 +173,7 @@ module _ (p : Program) (sound : HasSoundItems p.layout) (known : List Known) (by
   -- the sum's range holds it
   pub sum_ranged : (s : Sum) (v : Scaled) → are_numeric p.layout bytes (items_in s) ≡ true → sum_value (computing.worth p.layout bytes) s ≡ Some v → IsSomeAnd (sum_range (range_at p known) s) (IsIn v)
   sum_ranged s v numeric e =
-      sum_in number_or_zero (range_at p known) all_in s v (sym (numeric_sum p.layout bytes (λ place. decimal (pos 0) (scale_of (form_at p.layout place))) s numeric) ∙ e)
+      sum_in number_or_zero (range_at p known) all_in s v (sym (numeric_sum p.layout bytes (λ place. decimal (pos 0) (scale_of (form_at p.layout place.item))) s numeric) ∙ e)
 
   -- A counter's number, where the pack has its cell, and else any of its range.
   pub count_told : (statement : ℕ) (v : ℤ) → ((k : ℕ) → cell_of pack (of_count statement) ≡ Some k → count_in counts statement ≡ Some v)

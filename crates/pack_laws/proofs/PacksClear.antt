@@ -15,6 +15,7 @@ use Rattle.cob_tree.specs.declared.fault.Kind.{Kind}
 use Rattle.cob_tree.specs.declared.fault.Kind.TheVariants as kind
 use Rattle.cob_tree.specs.declared.form.Form.{Form}
 use Rattle.cob_tree.specs.declared.form.Form.TheVariants as form
+use Rattle.cob_data.specs.declared.layout.Place.{Place}
 use Rattle.cob_data.specs.declared.layout.Sender.{Sender}
 use Rattle.interval_domain.specs.declared.bounds.Interval.{Interval}
 use Rattle.interval_domain.specs.Bounds.{Holds}
@@ -135,12 +136,12 @@ module _ (p : Program) (packs : List Pack) (of : ArePacksOf p packs) (statement 
   value_shown pack m mode f v None h = tt
   value_shown pack m mode f v (Some g) (d, same, is) = (d, ap (λ (q : Fraction). near mode q (pos (receiver_of f).scale)) same, is)
 
-  store_cleared : (done rest : List Part) (place : ℕ) (mode : Mode) (y : Amount) (s : Seen) (r : Seen2) (m : Moment) → done ++ store place mode y ∷ rest ≡ parts_of p statement a x → Now done s r m → m.by_zero ≡ false
-      → store_fits p packs a x (with_taken p a x s) r place mode y ≡ true → stored_bytes p.layout m place mode y ≡ None → ⊥
+  store_cleared : (done rest : List Part) (place : Place) (mode : Mode) (y : Amount) (s : Seen) (r : Seen2) (m : Moment) → done ++ store place mode y ∷ rest ≡ parts_of p statement a x → Now done s r m → m.by_zero ≡ false
+      → store_fits p packs a x (with_taken p a x s) r place.item mode y ≡ true → stored_bytes p.layout m place mode y ≡ None → ⊥
   store_cleared done rest place mode y s r m e g unzero clear none =
-      let two = both_true (has_quotient y) (not (has_operands p (with_taken p a x s) r.wrote y) || option_map_or (amounts_fit p packs a x (with_taken p a x s) r place mode y) (with_taken p a x s).common true) clear in
+      let two = both_true (has_quotient y) (not (has_operands p (with_taken p a x s) r.wrote y) || option_map_or (amounts_fit p packs a x (with_taken p a x s) r place.item mode y) (with_taken p a x s).common true) clear in
       let v = is_there (amount p.layout m y) (amount_there p statement a x done place y (with_taken p a x s) m taken q unzero (root_of_amount cell_laws p statement a x y two.0)) in
-      by_operands v.0 v.1 (or_either (not (has_operands p (with_taken p a x s) r.wrote y)) (option_map_or (amounts_fit p packs a x (with_taken p a x s) r place mode y) (with_taken p a x s).common true) two.1)
+      by_operands v.0 v.1 (or_either (not (has_operands p (with_taken p a x s) r.wrote y)) (option_map_or (amounts_fit p packs a x (with_taken p a x s) r place.item mode y) (with_taken p a x s).common true) two.1)
     where
       q : IsStored a x done place y
       q = cell_laws.places_ p statement a x done rest (store place mode y) e
@@ -148,14 +149,14 @@ module _ (p : Program) (packs : List Pack) (of : ArePacksOf p packs) (statement 
       taken : TakenAt p statement a x done (with_taken p a x s) m
       taken = taken_at p statement a x cell_laws done (store place mode y) s m refl q g.cells
 
-      by_units : (v : Fraction) → amount p.layout m y ≡ Some v → (o : Option Interval) → IsSomeAnd o (λ i. Holds i (near mode v (pos (receiver_of (form_at p.layout place)).scale)))
-          → option_map_or (ends_fit p packs r.packs (λ pack. amount_form p pack (with_taken p a x s) r.wrote place y) mode (receiver_of (form_at p.layout place))) o true ≡ true → ⊥
+      by_units : (v : Fraction) → amount p.layout m y ≡ Some v → (o : Option Interval) → IsSomeAnd o (λ i. Holds i (near mode v (pos (receiver_of (form_at p.layout place.item)).scale)))
+          → option_map_or (ends_fit p packs r.packs (λ pack. amount_form p pack (with_taken p a x s) r.wrote place.item y) mode (receiver_of (form_at p.layout place.item))) o true ≡ true → ⊥
       by_units v f None h k = h
       by_units v f (Some i) h k =
-          let ends = ends_hold p packs r.packs (storage m.storage m.counts) of g.matrices g.stand (λ pack. amount_form p pack (with_taken p a x s) r.wrote place y) mode (receiver_of (form_at p.layout place))
-          (near mode v (pos (receiver_of (form_at p.layout place)).scale))
-          (λ pack is few. value_shown pack m mode (form_at p.layout place) v (amount_form p pack (with_taken p a x s) r.wrote place y) (all_amounts_are_shown p statement a x pack few done rest place mode y e s r.wrote m g.cells g.tracked unzero v f)) i h k in
-          unheld (form_at p.layout place) (near mode v (pos (receiver_of (form_at p.layout place)).scale)) (not_held v f) ends.0 ends.1
+          let ends = ends_hold p packs r.packs (storage m.storage m.counts) of g.matrices g.stand (λ pack. amount_form p pack (with_taken p a x s) r.wrote place.item y) mode (receiver_of (form_at p.layout place.item))
+          (near mode v (pos (receiver_of (form_at p.layout place.item)).scale))
+          (λ pack is few. value_shown pack m mode (form_at p.layout place.item) v (amount_form p pack (with_taken p a x s) r.wrote place.item y) (all_amounts_are_shown p statement a x pack few done rest place mode y e s r.wrote m g.cells g.tracked unzero v f)) i h k in
+          unheld (form_at p.layout place.item) (near mode v (pos (receiver_of (form_at p.layout place.item)).scale)) (not_held v f) ends.0 ends.1
         where
           scales : (f : Form) → scale_of f ≡ (receiver_of f).scale
           scales form.Group = refl
@@ -163,25 +164,25 @@ module _ (p : Program) (packs : List Pack) (of : ArePacksOf p packs) (statement 
           scales (form.Number digits scale signed kept) = refl
           scales (form.Edited picture digits scale) = refl
 
-          not_held : (v : Fraction) → amount p.layout m y ≡ Some v → if_held (form_at p.layout place) (near mode v (pos (receiver_of (form_at p.layout place)).scale)) ≡ None
+          not_held : (v : Fraction) → amount p.layout m y ≡ Some v → if_held (form_at p.layout place.item) (near mode v (pos (receiver_of (form_at p.layout place.item)).scale)) ≡ None
           not_held v f =
-              ap (λ (n : ℕ). if_held (form_at p.layout place) (near mode v (pos n))) (sym (scales (form_at p.layout place)))
-              ∙ (sym (ap (λ (o : Option Fraction). o >>= stored_units mode (form_at p.layout place)) f) ∙ none)
+              ap (λ (n : ℕ). if_held (form_at p.layout place.item) (near mode v (pos n))) (sym (scales (form_at p.layout place.item)))
+              ∙ (sym (ap (λ (o : Option Fraction). o >>= stored_units mode (form_at p.layout place.item)) f) ∙ none)
 
       by_amounts : (v : Fraction) → amount p.layout m y ≡ Some v → (o : Option AmountRange) → IsSomeAnd o (λ k. IsAmount k v)
-          → option_map_or (ends_fit p packs r.packs (λ pack. amount_form p pack (with_taken p a x s) r.wrote place y) mode (receiver_of (form_at p.layout place))) (o >>= amount_units mode (receiver_of (form_at p.layout place)).scale) true ≡ true → ⊥
+          → option_map_or (ends_fit p packs r.packs (λ pack. amount_form p pack (with_taken p a x s) r.wrote place.item y) mode (receiver_of (form_at p.layout place.item))) (o >>= amount_units mode (receiver_of (form_at p.layout place.item)).scale) true ≡ true → ⊥
       by_amounts v f None h k = h
       by_amounts v f (Some w) h k =
-          by_units v f (amount_units mode (receiver_of (form_at p.layout place)).scale w)
-          (units_hold mode (receiver_of (form_at p.layout place)).scale w (near mode v (pos (receiver_of (form_at p.layout place)).scale)) (v, h, refl)) k
+          by_units v f (amount_units mode (receiver_of (form_at p.layout place.item)).scale w)
+          (units_hold mode (receiver_of (form_at p.layout place.item)).scale w (near mode v (pos (receiver_of (form_at p.layout place.item)).scale)) (v, h, refl)) k
 
-      by_taken : (v : Fraction) → amount p.layout m y ≡ Some v → (o : Option Taken) → IsSomeAnd (o >>= amount_of y (range_at p (with_taken p a x s).cells place)) (λ k. IsAmount k v)
-          → option_map_or (amounts_fit p packs a x (with_taken p a x s) r place mode y) o true ≡ true → ⊥
+      by_taken : (v : Fraction) → amount p.layout m y ≡ Some v → (o : Option Taken) → IsSomeAnd (o >>= amount_of y (range_at p (with_taken p a x s).cells place.item)) (λ k. IsAmount k v)
+          → option_map_or (amounts_fit p packs a x (with_taken p a x s) r place.item mode y) o true ≡ true → ⊥
       by_taken v f None h k = h
-      by_taken v f (Some c) h k = by_amounts v f (amount_of y (range_at p (with_taken p a x s).cells place) c) h k
+      by_taken v f (Some c) h k = by_amounts v f (amount_of y (range_at p (with_taken p a x s).cells place.item) c) h k
 
       by_operands : (v : Fraction) → amount p.layout m y ≡ Some v
-          → (not (has_operands p (with_taken p a x s) r.wrote y) ≡ true) ⊎ (option_map_or (amounts_fit p packs a x (with_taken p a x s) r place mode y) (with_taken p a x s).common true ≡ true) → ⊥
+          → (not (has_operands p (with_taken p a x s) r.wrote y) ≡ true) ⊎ (option_map_or (amounts_fit p packs a x (with_taken p a x s) r place.item mode y) (with_taken p a x s).common true ≡ true) → ⊥
       by_operands v f (inl h) = not_both (has_operands p (with_taken p a x s) r.wrote y) (all_operands_are_there p statement a x done rest place mode y e s r.wrote m g.cells g.tracked unzero v f) h
       by_operands v f (inr h) = by_taken v f (with_taken p a x s).common (amount_meant p statement a x done place y (with_taken p a x s) m taken q unzero v f) h
 
@@ -268,14 +269,14 @@ module _ (p : Program) (packs : List Pack) (of : ArePacksOf p packs) (statement 
         | inr apart ↦ divide_cleared done rest d s r m e g off f apart
       ]
 
-  store_part : (done rest : List Part) (place : ℕ) (mode : Mode) (y : Amount) (s : Seen) (r : Seen2) (m : Moment) (fault : Kind) → done ++ store place mode y ∷ rest ≡ parts_of p statement a x → Now done s r m
+  store_part : (done rest : List Part) (place : Place) (mode : Mode) (y : Amount) (s : Seen) (r : Seen2) (m : Moment) (fault : Kind) → done ++ store place mode y ∷ rest ≡ parts_of p statement a x → Now done s r m
       → clears_part2 p packs a x (store place mode y) s r fault ≡ true → fault_edge a x ≡ x → (b : Bool) → handled p a x ≡ b → Faults p.layout b (store place mode y) m fault → ⊥
   store_part done rest place mode y s r m fault e g clear its true on f = f
   store_part done rest place mode y s r m fault e g clear its false off (f, is) =
-      elim (or_either (has_phrase a) (not (is_misfit y fault) || store_fits p packs a x (with_taken p a x s) r place mode y) clear) [
-        | inl has ↦ by_cells (or_left (has_phrase a) (not (is_misfit y fault) || all_fit p a x (with_taken p a x s) place mode y) has)
-        | inr some_ ↦ elim (or_either (not (is_misfit y fault)) (store_fits p packs a x (with_taken p a x s) r place mode y) some_) [
-          | inl other ↦ by_cells (or_right (has_phrase a) (not (is_misfit y fault) || all_fit p a x (with_taken p a x s) place mode y) (or_left (not (is_misfit y fault)) (all_fit p a x (with_taken p a x s) place mode y) other))
+      elim (or_either (has_phrase a) (not (is_misfit y fault) || store_fits p packs a x (with_taken p a x s) r place.item mode y) clear) [
+        | inl has ↦ by_cells (or_left (has_phrase a) (not (is_misfit y fault) || all_fit p a x (with_taken p a x s) place.item mode y) has)
+        | inr some_ ↦ elim (or_either (not (is_misfit y fault)) (store_fits p packs a x (with_taken p a x s) r place.item mode y) some_) [
+          | inl other ↦ by_cells (or_right (has_phrase a) (not (is_misfit y fault) || all_fit p a x (with_taken p a x s) place.item mode y) (or_left (not (is_misfit y fault)) (all_fit p a x (with_taken p a x s) place.item mode y) other))
           | inr fits ↦ store_cleared done rest place mode y s r m e g (off_zero cell_laws p statement a x done s m g.cells off) fits f
         ]
       ]

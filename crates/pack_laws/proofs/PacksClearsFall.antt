@@ -308,7 +308,7 @@ module _ (p : Program) (packs : List Pack) (r q : Seen2) (under : PacksBelow pac
       clears_part2_falls (divide d) kind.Class e = refl
       clears_part2_falls (divide d) kind.Truncation e = refl
       clears_part2_falls (divide d) kind.Subscript e = refl
-      clears_part2_falls (store place mode y) fault e = stores_fall place mode y fault e
+      clears_part2_falls (store place mode y) fault e = stores_fall place.item mode y fault e
       clears_part2_falls (bytes_in offset count) fault e = refl
       clears_part2_falls (guard v wanted) fault e = refl
       clears_part2_falls (read_count n) fault e = clears_below rising p a x (read_count n) s t fault below e

@@ -99,8 +99,8 @@ module _ (p : Program) (a : Act) (x : Action) where
   changed_flat (divide d) s wrote pack m has = has
   changed_flat (store place mode y) s wrote pack m has =
       let t = with_taken p a x s in
-      outcome_flat (size_of pack) (may_fail p a x t place mode y) (may_fit p a x t place mode y) _ _ m
-      (stored_flat t wrote place mode y pack m has) (cells_flat (size_of pack) _ 1 pack m has) has
+      outcome_flat (size_of pack) (may_fail p a x t place.item mode y) (may_fit p a x t place.item mode y) _ _ m
+      (stored_flat t wrote place.item mode y pack m has) (cells_flat (size_of pack) _ 1 pack m has) has
   changed_flat (bytes_in offset count) s wrote pack m has = cells_flat (size_of pack) _ 1 pack m has
   changed_flat (guard t wanted) s wrote pack m has = guarded_flat s t wanted pack m has
   changed_flat (read_count n) s wrote pack m has = has

@@ -8,6 +8,7 @@ use Rattle.std.proofs.lemmas.List.{append_assoc, append-nil}
 use Rattle.dec_num.specs.declared.types.Mode.{Mode}
 use Rattle.dec_num.specs.declared.types.Scaled.{Scaled}
 use Rattle.dec_num.specs.Scaled.{value_of}
+use Rattle.cob_data.specs.declared.layout.Place.{Place}
 use Rattle.cob_data.specs.declared.extent.Extent.{Extent}
 use Rattle.cob_data.specs.declared.layout.Item.{Item}
 use Rattle.cob_data.specs.declared.layout.Layout.{Layout}
@@ -106,7 +107,7 @@ each_stand p change before behind one (pack ∷ packs) (m ∷ ms) (is, of) ((few
 
 -- a sender without decimals is a whole number
 pub whole_scale : (l : Layout) (bytes : List ℕ) (y : Sender) (v : Scaled) → is_whole_sender l y ≡ true → number_of l bytes y ≡ Some v → v.scale ≡ 0
-whole_scale l bytes (sender.Item place) v e f = by_scale (scale_of (form_at l place)) (eqb-true (scale_of (form_at l place)) 0 e) _ f
+whole_scale l bytes (sender.Item place) v e f = by_scale (scale_of (form_at l place.item)) (eqb-true (scale_of (form_at l place.item)) 0 e) _ f
   where
     by_scale : (scale : ℕ) → scale ≡ 0 → (o : Option ℤ) → option_map (scaled_by scale) o ≡ Some v → v.scale ≡ 0
     by_scale scale is None f = absurd cc
@@ -142,7 +143,7 @@ divide_quiet l true d m n e = go (divides_by (worth l m.first) d) e
     go false e = record { storage_ = ap (λ (k : Moment). k.storage) e; counts = ap (λ (k : Moment). k.counts) e; first = ap (λ (k : Moment). k.first) e }
 
 -- a store that fails on an edge of size errors
-kept_alone : (l : Layout) (handled : Bool) (place : ℕ) (mode : Mode) (y : Amount) (m n : Moment) → handled ≡ true → FailsAt l (store place mode y) m → Stores l handled place mode y m n → IsQuiet m n
+kept_alone : (l : Layout) (handled : Bool) (place : Place) (mode : Mode) (y : Amount) (m n : Moment) → handled ≡ true → FailsAt l (store place mode y) m → Stores l handled place mode y m n → IsQuiet m n
 kept_alone l false place mode y m n on fails h = absurd cc
 kept_alone l true place mode y m n on fails h = by_alone (is_left_alone m y) refl fails h
   where
@@ -267,7 +268,7 @@ module _ (p : Program) (packs : List Pack) (statement : ℕ) (a : Act) (x : Acti
   part_tracked done rest (divide d) s r m n e g h fails = let q = divide_quiet p.layout (handled p a x) d m n h.0 in quiet_tracked p.layout r.wrote m n q.storage_ q.first g.tracked
   part_tracked done rest (store place mode y) s r m n e g h fails = by_keeping (keeps_receiver a x) refl
     where
-      by_keeping : (b : Bool) → keeps_receiver a x ≡ b → IsTracked p.layout ((if b then [] else item_bytes p.layout place) ++ r.wrote) n
+      by_keeping : (b : Bool) → keeps_receiver a x ≡ b → IsTracked p.layout ((if b then [] else item_bytes p.layout place.item) ++ r.wrote) n
       by_keeping true keeps =
           let same = kept_alone p.layout (handled p a x) place mode y m n (both_true (handled p a x) (has_one_receiver a) keeps).0 (fails keeps) h.0 in
           quiet_tracked p.layout r.wrote m n same.storage_ same.first g.tracked
@@ -276,7 +277,7 @@ module _ (p : Program) (packs : List Pack) (statement : ℕ) (a : Act) (x : Acti
           let changes = store_changes p statement a x done place mode y (with_taken p a x s) m (taken_at p statement a x cell_laws done (store place mode y) s m refl q g.cells) q (g.cells.sound.receivers done rest place mode y e) n h.0 in
           record {
             same = λ other j less k.
-                let two = written_item p.layout place r.wrote other k in
+                let two = written_item p.layout place.item r.wrote other k in
                 changes.others other j less two.0 ∙ g.tracked.same other j less two.1
                 ∙ ap (λ (bytes : List ℕ). occurrence_number p.layout bytes other j) (sym changes.first);
           }

@@ -9,6 +9,7 @@ use Rattle.dec_num.specs.Exact.{Fraction, near}
 use Rattle.dec_num.specs.Scaled.{value_of}
 use Rattle.cob_tree.specs.declared.form.Form.{Form}
 use Rattle.cob_tree.specs.declared.form.Form.TheVariants as form
+use Rattle.cob_data.specs.declared.layout.Place.{Place}
 use Rattle.cob_data.specs.declared.extent.Extent.{Extent}
 use Rattle.interval_domain.specs.Bounds.{Holds}
 use Rattle.cob_program.specs.Act.{Act, Program}
@@ -67,52 +68,52 @@ held_is f z held e = go (nat_lt (unsigned_abs z) (10 ^ digits_of f)) refl e
     go true lt h = let same : bytes_of f z ≡ held = cc in (less_by_test (unsigned_abs z) (10 ^ digits_of f) lt, sym same)
     go false lt h = absurd cc
 
-module _ (p : Program) (statement : ℕ) (a : Act) (x : Action) (done : List Part) (place : ℕ) (mode : Mode) (y : Amount) (t : Seen) (m : Moment) (g : TakenAt p statement a x done t m)
-    (q : IsStored a x done place y) (takes : takes_number (form_at p.layout place) ≡ true) where
+module _ (p : Program) (statement : ℕ) (a : Act) (x : Action) (done : List Part) (place : Place) (mode : Mode) (y : Amount) (t : Seen) (m : Moment) (g : TakenAt p statement a x done t m)
+    (q : IsStored a x done place y) (takes : takes_number (form_at p.layout place.item) ≡ true) where
   -- ---- what a store does to storage
 
   -- its number, and the bytes that it gets
   record Gets (held : List ℕ) : Type 0 where
     v : Fraction
     worth_ : amount p.layout m y ≡ Some v
-    room : unsigned_abs (near mode v (pos (scale_of (form_at p.layout place)))) < 10 ^ digits_of (form_at p.layout place)
-    bytes : held ≡ bytes_of (form_at p.layout place) (near mode v (pos (scale_of (form_at p.layout place))))
+    room : unsigned_abs (near mode v (pos (scale_of (form_at p.layout place.item)))) < 10 ^ digits_of (form_at p.layout place.item)
+    bytes : held ≡ bytes_of (form_at p.layout place.item) (near mode v (pos (scale_of (form_at p.layout place.item))))
 
   gets : (held : List ℕ) → stored_bytes p.layout m place mode y ≡ Some held → Gets held
   gets held e =
-      let v = then_is (amount p.layout m y) (stored_units mode (form_at p.layout place)) held e in
-      let h = held_is (form_at p.layout place) (near mode v.0 (pos (scale_of (form_at p.layout place)))) held v.2 in
+      let v = then_is (amount p.layout m y) (stored_units mode (form_at p.layout place.item)) held e in
+      let h = held_is (form_at p.layout place.item) (near mode v.0 (pos (scale_of (form_at p.layout place.item)))) held v.2 in
       record { v = v.0; worth_ = v.1; room = h.0; bytes = h.1 }
 
   -- the item gets its number, as it is read back, and items that have none of its bytes keep theirs
   record IsFilled (held : List ℕ) (v : Fraction) : Type 0 where
-    others : (h : Home) → is_beside p.layout place h ≡ false → (n : ℕ) → n < occurrences_of p.layout h
+    others : (h : Home) → is_beside p.layout place.item h ≡ false → (n : ℕ) → n < occurrences_of p.layout h
         → values.value_at p.layout (storage (filled_at p.layout m.storage place held) m.counts) h n ≡ values.value_at p.layout (storage m.storage m.counts) h n
-    new : ((picture : List ℕ) (digits scale : ℕ) → form_at p.layout place ≡ form.Edited picture digits scale → ⊥)
-        → values.value_at p.layout (storage (filled_at p.layout m.storage place held) m.counts) (of_item place) 0 ≡ Some (kept_units (receiver_of (form_at p.layout place)).signed (near mode v (pos (receiver_of (form_at p.layout place)).scale)))
+    new : ((picture : List ℕ) (digits scale : ℕ) → form_at p.layout place.item ≡ form.Edited picture digits scale → ⊥)
+        → values.value_at p.layout (storage (filled_at p.layout m.storage place held) m.counts) (of_item place.item) 0 ≡ Some (kept_units (receiver_of (form_at p.layout place.item)).signed (near mode v (pos (receiver_of (form_at p.layout place.item)).scale)))
 
   filled : (held : List ℕ) (is : Gets held) → IsFilled held is.v
-  filled held is = record { others = fill.others; new = λ uncut. by_form (form_at p.layout place) refl uncut }
+  filled held is = record { others = fill.others; new = λ uncut. by_form (form_at p.layout place.item) refl uncut }
     where
-      fill : IsItemFilled p.layout place 0 (near mode is.v (pos (scale_of (form_at p.layout place)))) m.storage held m.counts
-      fill = item_is_filled p.layout place 0 (near mode is.v (pos (scale_of (form_at p.layout place)))) m.storage held m.counts g.sound.items
-          (some_times p.layout g.sound.items place) takes is.room is.bytes g.stands.whole
+      fill : IsItemFilled p.layout place.item 0 (near mode is.v (pos (scale_of (form_at p.layout place.item)))) m.storage held m.counts
+      fill = item_is_filled p.layout place.item 0 (near mode is.v (pos (scale_of (form_at p.layout place.item)))) m.storage held m.counts g.sound.items
+          (some_times p.layout g.sound.items place.item) takes is.room is.bytes g.stands.whole
 
       by_sign : (b : Bool) (z : ℤ) → (if b then z else pos (unsigned_abs z)) ≡ kept_units b z
       by_sign true z = refl
       by_sign false z = refl
 
-      no_number : (f : Form) → form_at p.layout place ≡ f → (takes_number f ≡ true → ⊥) → ⊥
+      no_number : (f : Form) → form_at p.layout place.item ≡ f → (takes_number f ≡ true → ⊥) → ⊥
       no_number f e none = none (subst (λ (k : Form). takes_number k ≡ true) e takes)
 
-      by_form : (f : Form) → form_at p.layout place ≡ f → ((picture : List ℕ) (digits scale : ℕ) → f ≡ form.Edited picture digits scale → ⊥)
-          → values.value_at p.layout (storage (filled_at p.layout m.storage place held) m.counts) (of_item place) 0 ≡ Some (kept_units (receiver_of f).signed (near mode is.v (pos (receiver_of f).scale)))
+      by_form : (f : Form) → form_at p.layout place.item ≡ f → ((picture : List ℕ) (digits scale : ℕ) → f ≡ form.Edited picture digits scale → ⊥)
+          → values.value_at p.layout (storage (filled_at p.layout m.storage place held) m.counts) (of_item place.item) 0 ≡ Some (kept_units (receiver_of f).signed (near mode is.v (pos (receiver_of f).scale)))
       by_form form.Group e uncut = absurd (no_number form.Group e (λ h. cc))
       by_form (form.Text n) e uncut = absurd (no_number (form.Text n) e (λ h. cc))
       by_form (form.Edited picture digits scale) e uncut = absurd (uncut picture digits scale refl)
       by_form (form.Number digits scale signed kept) e uncut =
           fill.new digits scale signed kept e
-          ∙ ap Some (by_sign signed (near mode is.v (pos (scale_of (form_at p.layout place)))))
+          ∙ ap Some (by_sign signed (near mode is.v (pos (scale_of (form_at p.layout place.item)))))
           ∙ ap (λ (f : Form). Some (kept_units signed (near mode is.v (pos (scale_of f))))) e
 
   -- ---- the matrix of a pack
@@ -128,7 +129,7 @@ module _ (p : Program) (statement : ℕ) (a : Act) (x : Action) (done : List Par
     values_before = cells_in p.layout pack (storage m.storage m.counts)
 
     abbrev to_scale : ℕ
-    to_scale = (receiver_of (form_at p.layout place)).scale
+    to_scale = (receiver_of (form_at p.layout place.item)).scale
 
     -- a decimal of which what is said to be known is so
     record IsKnown (f : Lin) (o : Option AmountRange) (v : Fraction) : Type 0 where
@@ -151,88 +152,88 @@ module _ (p : Program) (statement : ℕ) (a : Act) (x : Action) (done : List Par
     known_of f v d e shown (Some (range.Remainder top under scale)) h = record { u = d; same = e; shown = shown; sure_ = record { whole = λ k. absurd cc; not_negative = λ k. absurd cc; not_positive = λ k. absurd cc } }
 
     abbrev its_units : Fraction → ℤ
-    its_units v = kept_units (receiver_of (form_at p.layout place)).signed (near mode v (pos to_scale)) *ℤ pos (unit_of p.layout pack (of_item place))
+    its_units v = kept_units (receiver_of (form_at p.layout place.item)).signed (near mode v (pos to_scale)) *ℤ pos (unit_of p.layout pack (of_item place.item))
 
-    cell_stands : (at : ℕ) → slice_get pack at ≡ Some (of_item place) → (v : Fraction) → IsSomeAnd (amount_at p a x t place y) (λ r. IsAmount r v) → (o : Option Lin) → IfSome o (ShowsValueAt p.layout pack m v)
-        → StandsIn (size_of pack + 1) (word (size_of pack + 1) (form_at_cell p a x t place mode y pack (suc at) o w)) (with_value values_before (suc at) (its_units v))
-    cell_stands at e v meant None h = with_any (size_of pack) w values_before (suc at) (its_units v) (let lt = slice_get_within pack at (of_item place) e in omega (arith, lt)) stands
+    cell_stands : (at : ℕ) → slice_get pack at ≡ Some (of_item place.item) → (v : Fraction) → IsSomeAnd (amount_at p a x t place.item y) (λ r. IsAmount r v) → (o : Option Lin) → IfSome o (ShowsValueAt p.layout pack m v)
+        → StandsIn (size_of pack + 1) (word (size_of pack + 1) (form_at_cell p a x t place.item mode y pack (suc at) o w)) (with_value values_before (suc at) (its_units v))
+    cell_stands at e v meant None h = with_any (size_of pack) w values_before (suc at) (its_units v) (let lt = slice_get_within pack at (of_item place.item) e in omega (arith, lt)) stands
     cell_stands at e v meant (Some f) (d, same, shown) =
-        let k = known_of f v d same shown (amount_at p a x t place y) meant in
-        let scales : to_scale + (pack_decimals p.layout pack - scale_of (form_at p.layout place)) ≡ pack_decimals p.layout pack =
-        (let le = decimals_within p.layout pack at (of_item place) e in let rs = receiver_scale (form_at p.layout place) in omega (arith, le, rs)) in
-        subst (λ (q : Fraction). StandsIn (size_of pack + 1) (word (size_of pack + 1) (form_at_cell p a x t place mode y pack (suc at) (Some f) w)) (with_value values_before (suc at) (its_units q))) (sym k.same)
-        (form_stands (size_of pack) values_before w (suc at) few (omega arith) (let lt = slice_get_within pack at (of_item place) e in omega (arith, lt)) stands
-        f (receiver_of (form_at p.layout place)).signed mode (known_of_amount (size_of pack) w f to_scale (amount_at p a x t place y)) k.u to_scale (pack_decimals p.layout pack - scale_of (form_at p.layout place))
+        let k = known_of f v d same shown (amount_at p a x t place.item y) meant in
+        let scales : to_scale + (pack_decimals p.layout pack - scale_of (form_at p.layout place.item)) ≡ pack_decimals p.layout pack =
+        (let le = decimals_within p.layout pack at (of_item place.item) e in let rs = receiver_scale (form_at p.layout place.item) in omega (arith, le, rs)) in
+        subst (λ (q : Fraction). StandsIn (size_of pack + 1) (word (size_of pack + 1) (form_at_cell p a x t place.item mode y pack (suc at) (Some f) w)) (with_value values_before (suc at) (its_units q))) (sym k.same)
+        (form_stands (size_of pack) values_before w (suc at) few (omega arith) (let lt = slice_get_within pack at (of_item place.item) e in omega (arith, lt)) stands
+        f (receiver_of (form_at p.layout place.item)).signed mode (known_of_amount (size_of pack) w f to_scale (amount_at p a x t place.item y)) k.u to_scale (pack_decimals p.layout pack - scale_of (form_at p.layout place.item))
         k.shown.over k.shown.operands k.sure_ (subst (λ (n : ℕ). Spans (dot (coef f) (λ j. worths values_before (suc j)) 8) f.constant k.u n) (sym scales) k.shown.spans))
 
-    other_test : (h : Home) → is_other p a x place h ≡ false → is_home h (of_item place) ≡ false → is_beside p.layout place h ≡ false
-    other_test h e ne = go (is_beside p.layout place h) (is_home h (of_item place)) ne e
+    other_test : (h : Home) → is_other p a x place.item h ≡ false → is_home h (of_item place.item) ≡ false → is_beside p.layout place.item h ≡ false
+    other_test h e ne = go (is_beside p.layout place.item h) (is_home h (of_item place.item)) ne e
       where
         go : (b c : Bool) → c ≡ false → (b && not c) ≡ false → b ≡ false
         go true true f h = absurd cc
         go true false f h = absurd cc
         go false c f h = refl
 
-    lost_test : (h : Home) → is_lost p a x place h ≡ false → is_beside p.layout place h ≡ false
-    lost_test h e = go (is_home h (of_item place)) (is_beside p.layout place h) e
+    lost_test : (h : Home) → is_lost p a x place.item h ≡ false → is_beside p.layout place.item h ≡ false
+    lost_test h e = go (is_home h (of_item place.item)) (is_beside p.layout place.item h) e
       where
         go : (b c : Bool) → (b || c) ≡ false → c ≡ false
         go true c f = absurd cc
         go false c f = f
 
     -- a number is stored
-    stored_stands : (held : List ℕ) (is : Gets held) → m.by_zero ≡ false → has_operands p t wrote y ≡ true → IfSome (amount_form p pack t wrote place y) (ShowsValueAt p.layout pack m is.v)
-        → PackStands p.layout pack (stored_pack p a x t wrote place mode y pack w) (storage (filled_at p.layout m.storage place held) m.counts)
+    stored_stands : (held : List ℕ) (is : Gets held) → m.by_zero ≡ false → has_operands p t wrote y ≡ true → IfSome (amount_form p pack t wrote place.item y) (ShowsValueAt p.layout pack m is.v)
+        → PackStands p.layout pack (stored_pack p a x t wrote place.item mode y pack w) (storage (filled_at p.layout m.storage place held) m.counts)
     stored_stands held is unzero there shown =
-        subst (λ (b : Bool). PackStands p.layout pack (if b then forgotten_cells (size_of pack) (is_other p a x place) 1 pack (stored_cell p a x t wrote place mode y pack (cell_of pack (of_item place)) w) else bottom (size_of pack)) (storage (filled_at p.layout m.storage place held) m.counts))
-        (sym there) (by_cell (cell_of pack (of_item place)) refl)
+        subst (λ (b : Bool). PackStands p.layout pack (if b then forgotten_cells (size_of pack) (is_other p a x place.item) 1 pack (stored_cell p a x t wrote place.item mode y pack (cell_of pack (of_item place.item)) w) else bottom (size_of pack)) (storage (filled_at p.layout m.storage place held) m.counts))
+        (sym there) (by_cell (cell_of pack (of_item place.item)) refl)
       where
         fill : IsFilled held is.v
         fill = filled held is
 
-        by_cell : (o : Option ℕ) → cell_of pack (of_item place) ≡ o → PackStands p.layout pack (forgotten_cells (size_of pack) (is_other p a x place) 1 pack (stored_cell p a x t wrote place mode y pack o w)) (storage (filled_at p.layout m.storage place held) m.counts)
+        by_cell : (o : Option ℕ) → cell_of pack (of_item place.item) ≡ o → PackStands p.layout pack (forgotten_cells (size_of pack) (is_other p a x place.item) 1 pack (stored_cell p a x t wrote place.item mode y pack o w)) (storage (filled_at p.layout m.storage place held) m.counts)
         by_cell None e =
-            homes_left p.layout pack (is_other p a x place) (storage m.storage m.counts) (storage (filled_at p.layout m.storage place held) m.counts) w
-            (λ k h f is_left. fill.others h (other_test h is_left (not_home pack (of_item place) h k e f)) 0 (first_home p.layout g.sound.items h)) stands
+            homes_left p.layout pack (is_other p a x place.item) (storage m.storage m.counts) (storage (filled_at p.layout m.storage place held) m.counts) w
+            (λ k h f is_left. fill.others h (other_test h is_left (not_home pack (of_item place.item) h k e f)) 0 (first_home p.layout g.sound.items h)) stands
         by_cell (Some at) e =
-            let f = found_cell pack (of_item place) at e in
-            put_left p.layout pack (is_other p a x place) (storage m.storage m.counts) (storage (filled_at p.layout m.storage place held) m.counts) at (its_units is.v)
-            (form_at_cell p a x t place mode y pack (suc at) (amount_form p pack t wrote place y) w)
-            (cell_value p.layout pack (storage (filled_at p.layout m.storage place held) m.counts) at (of_item place) f
-            ∙ ap (λ (o : Option ℤ). option_map (λ z. z *ℤ pos (unit_of p.layout pack (of_item place))) o) (fill.new (λ picture digits scale k. edited_apart p place digits scale picture k (of.homes at (of_item place) f))))
-            (slice_get_within pack at (of_item place) f)
-            (λ k h ne k_is is_left. fill.others h (other_test h is_left (other_cell p pack of (of_item place) h at k f k_is ne)) 0 (first_home p.layout g.sound.items h))
-            (cell_stands at f is.v (amount_meant p statement a x done place y t m g q unzero is.v is.worth_) (amount_form p pack t wrote place y) shown)
+            let f = found_cell pack (of_item place.item) at e in
+            put_left p.layout pack (is_other p a x place.item) (storage m.storage m.counts) (storage (filled_at p.layout m.storage place held) m.counts) at (its_units is.v)
+            (form_at_cell p a x t place.item mode y pack (suc at) (amount_form p pack t wrote place.item y) w)
+            (cell_value p.layout pack (storage (filled_at p.layout m.storage place held) m.counts) at (of_item place.item) f
+            ∙ ap (λ (o : Option ℤ). option_map (λ z. z *ℤ pos (unit_of p.layout pack (of_item place.item))) o) (fill.new (λ picture digits scale k. edited_apart p place.item digits scale picture k (of.homes at (of_item place.item) f))))
+            (slice_get_within pack at (of_item place.item) f)
+            (λ k h ne k_is is_left. fill.others h (other_test h is_left (other_cell p pack of (of_item place.item) h at k f k_is ne)) 0 (first_home p.layout g.sound.items h))
+            (cell_stands at f is.v (amount_meant p statement a x done place y t m g q unzero is.v is.worth_) (amount_form p pack t wrote place.item y) shown)
 
     -- it may be stored, or not
-    lost_stored : (held : List ℕ) → Gets held → PackStands p.layout pack (lost_pack p a x place pack w) (storage (filled_at p.layout m.storage place held) m.counts)
+    lost_stored : (held : List ℕ) → Gets held → PackStands p.layout pack (lost_pack p a x place.item pack w) (storage (filled_at p.layout m.storage place held) m.counts)
     lost_stored held is =
-        homes_left p.layout pack (is_lost p a x place) (storage m.storage m.counts) (storage (filled_at p.layout m.storage place held) m.counts) w
+        homes_left p.layout pack (is_lost p a x place.item) (storage m.storage m.counts) (storage (filled_at p.layout m.storage place held) m.counts) w
         (λ k h f is_left. (filled held is).others h (lost_test h is_left) 0 (first_home p.layout g.sound.items h)) stands
 
-    lost_kept : PackStands p.layout pack (lost_pack p a x place pack w) (storage m.storage m.counts)
-    lost_kept = homes_left p.layout pack (is_lost p a x place) (storage m.storage m.counts) (storage m.storage m.counts) w (λ k h f is_left. refl) stands
+    lost_kept : PackStands p.layout pack (lost_pack p a x place.item pack w) (storage m.storage m.counts)
+    lost_kept = homes_left p.layout pack (is_lost p a x place.item) (storage m.storage m.counts) (storage m.storage m.counts) w (λ k h f is_left. refl) stands
 
   -- ---- the matrix behind the store
 
   module _ (pack : Pack) (of : IsPackOf p pack) (few : size_of pack ≤ 8) (wrote : List Extent) (w : List ℤ) (stands : PackStands p.layout pack w (storage m.storage m.counts))
       (there : m.by_zero ≡ false → (v : Fraction) → amount p.layout m y ≡ Some v → has_operands p t wrote y ≡ true)
-      (shown : m.by_zero ≡ false → (v : Fraction) → amount p.layout m y ≡ Some v → IfSome (amount_form p pack t wrote place y) (ShowsValueAt p.layout pack m v)) where
+      (shown : m.by_zero ≡ false → (v : Fraction) → amount p.layout m y ≡ Some v → IfSome (amount_form p pack t wrote place.item y) (ShowsValueAt p.layout pack m v)) where
     abbrev Behind : Moment → Type 0
-    Behind n = PackStands p.layout pack (pack_behind_store p a x t wrote place mode y pack w) (storage n.storage n.counts)
+    Behind n = PackStands p.layout pack (pack_behind_store p a x t wrote place.item mode y pack w) (storage n.storage n.counts)
 
     abbrev Outcome : Bool → Bool → Moment → Type 0
-    Outcome fails fits n = PackStands p.layout pack (by_outcome fails fits (stored_pack p a x t wrote place mode y pack w) (lost_pack p a x place pack w) w) (storage n.storage n.counts)
+    Outcome fails fits n = PackStands p.layout pack (by_outcome fails fits (stored_pack p a x t wrote place.item mode y pack w) (lost_pack p a x place.item pack w) w) (storage n.storage n.counts)
 
-    kept : may_fail p a x t place mode y ≡ true → Behind m
-    kept fails = subst (λ (b : Bool). Outcome b (may_fit p a x t place mode y) m) (sym fails) (by_fit (may_fit p a x t place mode y))
+    kept : may_fail p a x t place.item mode y ≡ true → Behind m
+    kept fails = subst (λ (b : Bool). Outcome b (may_fit p a x t place.item mode y) m) (sym fails) (by_fit (may_fit p a x t place.item mode y))
       where
         by_fit : (b : Bool) → Outcome true b m
         by_fit true = lost_kept pack of few wrote w stands
         by_fit false = stands
 
     fitted : keeps_receiver a x ≡ false → (held : List ℕ) → m.by_zero ≡ false → stored_bytes p.layout m place mode y ≡ Some held → Behind (with_storage m (filled_at p.layout m.storage place held))
-    fitted off held unzero e = by_flags (may_fail p a x t place mode y) (may_fit p a x t place mode y) refl
+    fitted off held unzero e = by_flags (may_fail p a x t place.item mode y) (may_fit p a x t place.item mode y) refl
       where
         is : Gets held
         is = gets held e
@@ -241,10 +242,10 @@ module _ (p : Program) (statement : ℕ) (a : Act) (x : Action) (done : List Par
         never P None h f = h
         never P (Some c) h f = cc
 
-        by_flags : (b c : Bool) → may_fit p a x t place mode y ≡ c → Outcome b c (with_storage m (filled_at p.layout m.storage place held))
+        by_flags : (b c : Bool) → may_fit p a x t place.item mode y ≡ c → Outcome b c (with_storage m (filled_at p.layout m.storage place held))
         by_flags false c f = stored_stands pack of few wrote w stands held is unzero (there unzero is.v is.worth_) (shown unzero is.v is.worth_)
         by_flags true true f = lost_stored pack of few wrote w stands held is
-        by_flags true false f = absurd (never (λ i. (z : ℤ) × Holds i z × (held ≡ bytes_of (form_at p.layout place) z)) (result_at p a x t place mode y) (result_meant cell_laws p statement a x done place mode y t m g q off held unzero e) f)
+        by_flags true false f = absurd (never (λ i. (z : ℤ) × Holds i z × (held ≡ bytes_of (form_at p.layout place.item) z)) (result_at p a x t place.item mode y) (result_meant cell_laws p statement a x done place mode y t m g q off held unzero e) f)
 
     pub store_stands : (n : Moment) → (handled p a x ≡ false → m.by_zero ≡ false) → (keeps_receiver a x ≡ true → FailsAt p.layout (store place mode y) m) → Stores p.layout (handled p a x) place mode y m n → Behind n
     store_stands n off_zero fails h = each_outcome cell_laws p statement a x done place mode y t m g q Behind kept kept fitted n off_zero fails h
@@ -253,7 +254,7 @@ module _ (p : Program) (statement : ℕ) (a : Act) (x : Action) (done : List Par
 
   pub record IsChanged (n : Moment) : Type 0 where
     pub first : n.first ≡ m.first
-    pub others : (other j : ℕ) → j < times_at p.layout other → is_beside p.layout place (of_item other) ≡ false
+    pub others : (other j : ℕ) → j < times_at p.layout other → is_beside p.layout place.item (of_item other) ≡ false
         → occurrence_number p.layout n.storage other j ≡ occurrence_number p.layout m.storage other j
 
   unchanged : IsChanged m

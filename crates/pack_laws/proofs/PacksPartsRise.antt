@@ -122,8 +122,8 @@ module _ (p : Program) (a : Act) (x : Action) (s t : Seen) (under : SeenBelow p 
   changed_rises (index last k count) after e = lower
   changed_rises (divide d) after e = lower
   changed_rises (store place mode y) after e =
-      store_rises p a x (with_taken p a x s) (with_taken p a x t) (taken_rises rising p a x s t under) wrote place mode y pack m n is are all_lower
-      (store_fits p (with_taken p a x s) after place (may_fail p a x (with_taken p a x s) place mode y) (result_at p a x (with_taken p a x s) place mode y) e)
+      store_rises p a x (with_taken p a x s) (with_taken p a x t) (taken_rises rising p a x s t under) wrote place.item mode y pack m n is are all_lower
+      (store_fits p (with_taken p a x s) after place.item (may_fail p a x (with_taken p a x s) place.item mode y) (result_at p a x (with_taken p a x s) place.item mode y) e)
   changed_rises (bytes_in offset count) after e =
       cells_rise (size_of pack) (is_in_extent p.layout (bytes_from offset count)) (is_in_extent p.layout (bytes_from offset count)) 1 pack m n (λ h f. f) (matrix_has_top (size_of pack) m is) (λ i j l g ne u v. lower.words i j l g ne)
   changed_rises (guard (numbers b r c) wanted) after e =

@@ -68,7 +68,7 @@ module _ (p : Program) (a : Act) (x : Action) (s t : Seen) (below : SeenBelow p 
   pub operands_rise : (wrote : List Extent) (y : Amount) → has_operands p s wrote y ≡ true → has_operands p t wrote y ≡ true
   operands_rise wrote (moved y) e = e
   operands_rise wrote (computed v how) e =
-      or_rises (list_any (is_written p.layout wrote) (items_in v)) (is_some (sum_range (range_at p s.cells) v)) (list_any (is_written p.layout wrote) (items_in v)) (is_some (sum_range (range_at p t.cells) v))
+      or_rises (list_any (λ q. is_written p.layout wrote q.item) (items_in v)) (is_some (sum_range (range_at p s.cells) v)) (list_any (λ q. is_written p.layout wrote q.item) (items_in v)) (is_some (sum_range (range_at p t.cells) v))
       (λ f. f) (some_rises (sum_range (range_at p s.cells) v) (sum_range (range_at p t.cells) v) (sum_below (range_at p s.cells) (range_at p t.cells) (range_below p.layout (homes_of p) s.cells t.cells below.fits below.cells) v)) e
   operands_rise wrote (remaining v scale) e = e
   operands_rise wrote (augmented y) e = e

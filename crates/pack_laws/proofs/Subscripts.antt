@@ -5,6 +5,7 @@ use Rattle.std.proofs.lemmas.Int.{ints}
 use Rattle.dec_num.specs.declared.types.Scaled.{Scaled}
 use Rattle.dec_num.proofs.Powers.{ten_positive}
 use Rattle.cob_tree.specs.declared.fault.Kind.{Kind}
+use Rattle.cob_data.specs.Places.{plain}
 use Rattle.cob_data.specs.declared.layout.Sender.TheVariants as sender
 use Rattle.interval_domain.specs.declared.bounds.Interval.{Interval}
 use Rattle.interval_domain.specs.Bounds.{Holds}
@@ -66,17 +67,17 @@ module _ (p : Program) (packs : List Pack) (of : ArePacksOf p packs) (statement 
     ShowsWhole pack o = IfSome o (λ form. (v.scale ≡ 0) × ShowsAt p.layout pack m v form)
 
     shown : (pack : Pack) → size_of pack ≤ 8 → ShowsWhole pack (subscript_form p pack s [] k)
-    shown pack few = by_scale (is_whole_sender p.layout (sender.Item k)) refl
+    shown pack few = by_scale (is_whole_sender p.layout (sender.Item (plain k))) refl
       where
         of_own : (o : Option Lin) → v.scale ≡ 0 → IfSome o (ShowsAt p.layout pack m v) → ShowsWhole pack o
         of_own None whole h = tt
         of_own (Some form) whole h = (whole, h)
 
-        by_scale : (b : Bool) → is_whole_sender p.layout (sender.Item k) ≡ b → ShowsWhole pack (if b then own_form p pack s [] k else None)
+        by_scale : (b : Bool) → is_whole_sender p.layout (sender.Item (plain k)) ≡ b → ShowsWhole pack (if b then own_form p pack s [] k else None)
         by_scale true e =
-            of_own (own_form p pack s [] k) (whole_scale p.layout m.storage (sender.Item k) v e has)
+            of_own (own_form p pack s [] k) (whole_scale p.layout m.storage (sender.Item (plain k)) v e has)
             (shows p statement a x pack few done s m g.cells (own_form p pack s [] k) v
-            (item_told p g.cells.sound.items s.cells m.storage m.counts g.cells.stands pack few k v has))
+            (item_told p g.cells.sound.items s.cells m.storage m.counts g.cells.stands pack few (plain k) v has))
         by_scale false e = tt
 
     high_holds : (count : ℕ) → high_found p packs r.packs (λ pack. subscript_form p pack s [] k) count ≡ true → v.units ≤ℤ pos count

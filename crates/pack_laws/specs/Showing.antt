@@ -4,6 +4,7 @@ use Rattle.dec_num.specs.declared.types.Mode.{Mode}
 use Rattle.dec_num.specs.declared.types.Scaled.{Scaled}
 use Rattle.dec_num.specs.Exact.{Fraction}
 use Rattle.dec_num.specs.Scaled.{value_of}
+use Rattle.cob_data.specs.declared.layout.Place.{Place}
 use Rattle.cob_data.specs.declared.extent.Extent.{Extent}
 use Rattle.cob_data.specs.declared.layout.Layout.{Layout}
 use Rattle.cob_data.specs.declared.layout.Sender.{Sender}
@@ -42,14 +43,14 @@ ShowsValueAt l pack m v form = (d : Scaled) × (v ≡ value_of d) × ShowsAt l p
 -- what an item gets, where no divisor was 0
 abbrev pub AmountsAreShown : Type 0
 AmountsAreShown = (p : Program) (statement : ℕ) (a : Act) (x : Action) (pack : Pack) → size_of pack ≤ 8
-    → (done rest : List Part) (place : ℕ) (mode : Mode) (y : Amount) → done ++ store place mode y ∷ rest ≡ parts_of p statement a x
+    → (done rest : List Part) (place : Place) (mode : Mode) (y : Amount) → done ++ store place mode y ∷ rest ≡ parts_of p statement a x
     → (s : Seen) (wrote : List Extent) (m : Moment) → Agrees p statement a x done s m → IsTracked p.layout wrote m → m.by_zero ≡ false
     → (v : Fraction) → amount p.layout m y ≡ Some v
-    → IfSome (amount_form p pack (with_taken p a x s) wrote place y) (ShowsValueAt p.layout pack m v)
+    → IfSome (amount_form p pack (with_taken p a x s) wrote place.item y) (ShowsValueAt p.layout pack m v)
 
 -- and its operands have a range, where they are read off their items
 abbrev pub OperandsAreThere : Type 0
-OperandsAreThere = (p : Program) (statement : ℕ) (a : Act) (x : Action) (done rest : List Part) (place : ℕ) (mode : Mode) (y : Amount)
+OperandsAreThere = (p : Program) (statement : ℕ) (a : Act) (x : Action) (done rest : List Part) (place : Place) (mode : Mode) (y : Amount)
     → done ++ store place mode y ∷ rest ≡ parts_of p statement a x → (s : Seen) (wrote : List Extent) (m : Moment)
     → Agrees p statement a x done s m → IsTracked p.layout wrote m → m.by_zero ≡ false
     → (v : Fraction) → amount p.layout m y ≡ Some v → has_operands p (with_taken p a x s) wrote y ≡ true
