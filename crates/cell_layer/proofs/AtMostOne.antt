@@ -82,7 +82,7 @@ module _ (p : Program) (a : Act) (x : Action) where
   part_prop (subscript last k) = Unit-prop
   part_prop (index last k count) = hlevel props
   part_prop (divide d) = hlevel props
-  part_prop (store place mode y) = store_prop place y
+  part_prop (store place mode y) = store_prop place.item y
   part_prop (bytes_in offset count) = hlevel props
   part_prop (guard t wanted) = hlevel props
   part_prop (read_count n) = Unit-prop

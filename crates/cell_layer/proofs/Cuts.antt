@@ -2,6 +2,7 @@
 use Rattle.std.proofs.Common.{◌≡◌, ℕ, Bool, true, false, not, if◌then◌else◌, List, Option, Some, None, sym, ap, subst}
 use Rattle.std.specs.Prelude.{IfSome}
 use Rattle.std.specs.Option.{option_map}
+use Rattle.cob_data.specs.declared.layout.Place.{Place}
 use Rattle.cob_program.specs.Act.{Program}
 use Rattle.cob_program.specs.Logic.{Test, numbers, texts, member, numeric, always}
 use Rattle.cob_calc.specs.Contents.{bound_at}
@@ -49,7 +50,7 @@ cuts_are_ordered p cells t wanted o fits is =
 
 -- ---- class tests
 
-pub not_numeric_is : (p : Program) (place : ℕ) (cells : List Known) (held : Bool) → held ≡ is_numeric p.layout (homes_of p) cells place →
+pub not_numeric_is : (p : Program) (place : Place) (cells : List Known) (held : Bool) → held ≡ is_numeric p.layout (homes_of p) cells place.item →
     (not held ≡ true → guarded_cells p (numeric place) false cells ≡ Some cells)
     × (not held ≡ false → guarded_cells p (numeric place) false cells ≡ None)
 not_numeric_is p place cells held is =
@@ -63,7 +64,7 @@ not_numeric_is p place cells held is =
     go false same = (λ e. same, λ e. absurd cc)
 
 -- the item of a class test makes the test
-pub class_is : (t : Test) (place : ℕ) → class_item t ≡ Some place → t ≡ numeric place
+pub class_is : (t : Test) (place : Place) → class_item t ≡ Some place → t ≡ numeric place
 class_is (numbers a r b) place e = absurd cc
 class_is (texts a r b) place e = absurd cc
 class_is (member item ps) place e = absurd cc

@@ -5,6 +5,7 @@ use Rattle.std.specs.Option.{option_map, option_map_or}
 use Rattle.dec_num.specs.declared.types.Mode.{Mode}
 use Rattle.cob_tree.specs.declared.fault.Kind.{Kind}
 use Rattle.cob_tree.specs.declared.fault.Kind.TheVariants as kind
+use Rattle.cob_data.specs.declared.layout.Place.{Place}
 use Rattle.cob_program.specs.Values.{◌>>=◌}
 use Rattle.cob_program.specs.Sum.{Atom}
 use Rattle.cob_program.specs.Act.{Act, Program}
@@ -110,12 +111,12 @@ module _ (p : Program) (a : Act) (x : Action) where
       ∙ same_if e (after_count p n (with_taken p a x s))
 
   pub step_same : (y : Part) (s : Seen) → IsSmallPart p a x y → step_small p a x y (trim s) ≡ option_map (trimmed p a x) (step p a x y s)
-  step_same (read place) s h = ap Some (read_same place s)
+  step_same (read place) s h = ap Some (read_same place.item s)
   step_same unread s h = refl
   step_same (subscript last k) s h = ap Some (subscript_same last k s)
   step_same (index last k count) s h = index_same last k count s
   step_same (divide d) s h = divide_same d s
-  step_same (store place mode y) s h = stored_same h.sender s place mode y
+  step_same (store place mode y) s h = stored_same h.sender s place.item mode y
   step_same (bytes_in offset count) s h = ap (λ (t : Seen). Some (after_bytes p offset count t)) (taken_same s)
   step_same (guard t wanted) s h = cells_if s (guarded_cells p t wanted s.cells)
   step_same (read_count n) s h = refl
@@ -125,10 +126,10 @@ module _ (p : Program) (a : Act) (x : Action) where
       (count_range (lowered (units_of p.layout (homes_of p) s.cells (of_count n)))))
   step_same (guard_count n wanted) s h = cells_if s (counted_cells p n wanted s.cells)
 
-  store_clears_same : sends_small p a x ≡ true → (s : Seen) (place : ℕ) (mode : Mode) (y : Amount) (fault : Kind) →
+  store_clears_same : sends_small p a x ≡ true → (s : Seen) (place : Place) (mode : Mode) (y : Amount) (fault : Kind) →
       clears_small p a x (store place mode y) (trim s) fault ≡ clears_part p a x (store place mode y) s fault
   store_clears_same e s place mode y fault =
-      ap (λ (t : Seen). has_phrase a || (not (is_misfit y fault) || all_fit p a x t place mode y)) (taken_same s ∙ same e (with_taken p a x s))
+      ap (λ (t : Seen). has_phrase a || (not (is_misfit y fault) || all_fit p a x t place.item mode y)) (taken_same s ∙ same e (with_taken p a x s))
 
   count_clears_same : sends_small p a x ≡ true → (s : Seen) → all_count p a x (with_taken_small p a x (trim s)) ≡ all_count p a x (with_taken p a x s)
   count_clears_same e s = ap (λ (t : Seen). all_count p a x t) (taken_same s ∙ same e (with_taken p a x s))

@@ -215,12 +215,12 @@ module _ (p : Program) (a : Act) (x : Action) where
   count_if (Some c) = count_fits rising c.top.units
 
   pub goes_on : (y : Part) (s : Seen) → Can s → IfSome (step_small p a x y s) (CanStep p a x)
-  goes_on (read place) s can = read_can place s can
+  goes_on (read place) s can = read_can place.item s can
   goes_on unread s can = tt
   goes_on (subscript last k) s can = subscript_can last k s can
   goes_on (index last k count) s can = index_can last k count s can
   goes_on (divide d) s can = divide_can d s can
-  goes_on (store place mode y) s can = stored_can (with_taken_small p a x s) place mode y (taken_can s can)
+  goes_on (store place mode y) s can = stored_can (with_taken_small p a x s) place.item mode y (taken_can s can)
   goes_on (bytes_in offset count) s can =
       with_other (with_taken_small p a x s) (forgotten (is_in_extent p.layout (bytes_from offset count)) (homes_of p) (with_taken_small p a x s).cells) (taken_can s can)
       (forgotten_fits p.layout (is_in_extent p.layout (bytes_from offset count)) (homes_of p) (with_taken_small p a x s).cells (taken_can s can).fits)

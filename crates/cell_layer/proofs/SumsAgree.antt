@@ -61,7 +61,7 @@ module _ (f g : ℕ → Ranged) (bound : ℕ → Bound) (same : (place : ℕ) �
         (λ d. product_range_from f d fs) (λ d. product_range_from g d fs) refl (λ d. product_same fs next d m.1))
 
     pub atom_same : (a : Atom) → is_small_atom bound a ≡ true → atom_range f a ≡ atom_range g a
-    atom_same (item place) e = ap Some (same place e)
+    atom_same (item place) e = ap Some (same place.item e)
     atom_same (number n) e = refl
     atom_same (group s) e = sum_same s e
 
@@ -136,7 +136,7 @@ module _ (f g : ℕ → Ranged) (bound : ℕ → Bound) (same : (place : ℕ) �
   -- ---- statements
 
   sender_same : (x : Sender) → is_small_sender bound x ≡ true → sender_range f x ≡ sender_range g x
-  sender_same (sender.Item place) small = ap Some (same place small)
+  sender_same (sender.Item place) small = ap Some (same place.item small)
   sender_same (sender.Number n) small = refl
   sender_same (sender.Text text) small = refl
   sender_same (sender.Fill byte) small = refl

@@ -50,7 +50,7 @@ module _ (f g : ℕ → Ranged) (bound : ℕ → Bound) (same : (place : ℕ) �
   -- ---- ranges of values
 
   end_same : (x : Sender) → is_short (end_bound bound x) ≡ true → end_range f x ≡ end_range g x
-  end_same (sender.Item place) short = same place (small_of_short (bound place) short)
+  end_same (sender.Item place) short = same place.item (small_of_short (bound place.item) short)
   end_same (sender.Number n) short = refl
   end_same (sender.Text text) short = refl
   end_same (sender.Fill byte) short = refl

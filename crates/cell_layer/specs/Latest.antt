@@ -42,5 +42,5 @@ module _ (p : Program) (a : Act) (x : Action) where
 
   -- the latest store behind a part: the part itself, if it is one, or else the latest one before it
   abbrev pub latest_behind : Part → Seen → Latest → Latest
-  latest_behind (store place mode amount) s before = outcome (with_taken p a x s) place mode amount
+  latest_behind (store place mode amount) s before = outcome (with_taken p a x s) place.item mode amount
   latest_behind y s before = before

@@ -40,14 +40,14 @@ module _ (p : Program) (a : Act) (x : Action) where
 
   -- Only a part that writes takes operands.
   abbrev pub step_small : Part → Seen → Option Seen
-  step_small (store place mode y) s = stored p a x (with_taken_small s) place mode y
+  step_small (store place mode y) s = stored p a x (with_taken_small s) place.item mode y
   step_small (bytes_in offset count) s = Some (after_bytes p offset count (with_taken_small s))
   step_small (set_count statement y) s = after_count p statement (with_taken_small s)
   step_small y s = step p a x y s
 
   abbrev pub clears_small : Part → Seen → Kind → Bool
   clears_small (store place mode y) s fault =
-      has_phrase a || (not (is_misfit y fault) || all_fit p a x (with_taken_small s) place mode y)
+      has_phrase a || (not (is_misfit y fault) || all_fit p a x (with_taken_small s) place.item mode y)
   clears_small (set_count statement y) s kind.Size = all_count p a x (with_taken_small s)
   clears_small y s fault = clears_part p a x y s fault
 

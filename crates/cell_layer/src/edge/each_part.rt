@@ -25,6 +25,7 @@ use crate::row::forgetting::{bytes_from, forget_extent};
 use crate::row::pictures::is_table;
 use crate::row::reads::read_item;
 use crate::row::tests_of::guard_row;
+use cob_data::Place;
 use cob_program::Test;
 use dec_num::Mode;
 use edge_parts::EdgePart;
@@ -104,8 +105,8 @@ impl<'a> Walk<'a> {
         );
     }
 
-    fn put(&mut self, place: u32, mode: Mode, amount: Amount) -> bool
-        requires small { IsSmallStore (program_in self.old) (act_done self.old) self.old.action place (plain_amount amount) }
+    fn put(&mut self, place: Place, mode: Mode, amount: Amount) -> bool
+        requires small { IsSmallStore (program_in self.old) (act_done self.old) self.old.action place.item (plain_amount amount) }
         requires can { CanGoOn self.old }
         ensures goes_on { GoesOn self.old self.new }
         ensures on { result ≡ true → step_small (program_in self.old) (act_done self.old) self.old.action (part.store place mode (plain_amount amount.entry)) (moment self.old)
@@ -116,7 +117,7 @@ impl<'a> Walk<'a> {
             (moment self.old) (latest_in self.old) }
     {
         self.kept = self.with_operands();
-        self.store(place, mode, amount)
+        self.store(place.item, mode, amount)
     }
 
     fn set_count(&mut self, statement: u32) -> bool
@@ -178,7 +179,7 @@ impl<'a> Walk<'a> {
     {
         match part {
             EdgePart::Read(place) => {
-                self.read(place);
+                self.read(place.item);
                 true
             }
             EdgePart::Unread => false,
@@ -188,7 +189,11 @@ impl<'a> Walk<'a> {
             }
             EdgePart::Index { last, item, count } => self.index(last, item, count),
             EdgePart::Divide(divisor) => self.divide(divisor),
-            EdgePart::Store { item, mode, amount } => self.put(item, mode, amount),
+            EdgePart::Store {
+                place,
+                mode,
+                amount,
+            } => self.put(place, mode, amount),
             EdgePart::Bytes { offset, length } => {
                 self.bytes(offset, length);
                 true

@@ -33,6 +33,7 @@ use crate::edge::kept::{Kept, taken};
 use crate::row::counters::count_is_known;
 use crate::row::items::{item_is_numeric, item_range};
 use crate::row::subscripts::lies_in_table;
+use cob_data::Place;
 use cob_runs::Cell;
 use cob_tree::{Kind, Kinds};
 use dec_num::Mode;
@@ -144,8 +145,8 @@ impl<'a> Before<'a> {
     }
 
     // A misfit is handled where there is a phrase for it.
-    fn store_cleared(&self, place: u32, mode: Mode, amount: Amount) -> Kinds
-        requires small { IsSmallStore (plain_program self.now.program.now) (plain_act self.now.act.now) self.now.action place (plain_amount amount) }
+    fn store_cleared(&self, place: Place, mode: Mode, amount: Amount) -> Kinds
+        requires small { IsSmallStore (plain_program self.now.program.now) (plain_act self.now.act.now) self.now.action place.item (plain_amount amount) }
         requires can { CanStep (plain_program self.now.program.now) (plain_act self.now.act.now) self.now.action (seen self.now.row.now self.now.kept) }
         ensures { result ≡ kinds_of (clears_small (plain_program self.now.program.now) (plain_act self.now.act.now) self.now.action
             (part.store place mode (plain_amount amount.entry)) (seen self.now.row.now self.now.kept)) }
@@ -154,7 +155,7 @@ impl<'a> Before<'a> {
             return Kinds::all();
         }
         let moment = self.with_operands();
-        cleared_where(amount, self.all_fit(place, mode, amount, moment))
+        cleared_where(amount, self.all_fit(place.item, mode, amount, moment))
     }
 
     /// The kinds of faults that no run meets at a part.
@@ -167,7 +168,7 @@ impl<'a> Before<'a> {
         match part {
             EdgePart::Read(place) => all.put(
                 Kind::Class,
-                item_is_numeric(self.program, self.cells, self.row, place),
+                item_is_numeric(self.program, self.cells, self.row, place.item),
             ),
             EdgePart::Unread => all.put(Kind::Class, false),
             EdgePart::Subscript { item, .. } => all.put(
@@ -182,7 +183,11 @@ impl<'a> Before<'a> {
                 Kind::Zero,
                 divisor_clears(self.program, self.cells, self.row, self.act, divisor),
             ),
-            EdgePart::Store { item, mode, amount } => self.store_cleared(item, mode, amount),
+            EdgePart::Store {
+                place,
+                mode,
+                amount,
+            } => self.store_cleared(place, mode, amount),
             EdgePart::ReadCount(number) => all.put(
                 Kind::Class,
                 count_is_known(self.program, self.cells, self.row, number),

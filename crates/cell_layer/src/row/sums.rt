@@ -138,7 +138,7 @@ fn is_small_sender(layout: &Layout, sender: &Sender) -> bool
     ensures { result ≡ is_small_sender (bound_at layout.now) sender.now }
 {
     match sender {
-        Sender::Item(place) => is_small_item(layout, *place),
+        Sender::Item(place) => is_small_item(layout, place.item),
         Sender::Number(number) => is_small_literal(number),
         Sender::Text(text) => text.get().len() <= 18,
         Sender::Fill(_) | Sender::Zero => true,

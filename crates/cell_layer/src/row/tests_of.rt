@@ -22,17 +22,18 @@ use crate::row::items::{KnownItems, item_is_numeric};
 use crate::row::knowing::know_item;
 use crate::row::pictures::is_table;
 use crate::row::reads::read_one;
+use cob_data::Place;
 use cob_program::{Program, Test};
 use cob_runs::Cell;
 use transfer_ranges::{Cut, Cuts, guarded};
 
 // ---- class tests
 
-fn class_item(test: &Test) -> Option<u32>
+fn class_item(test: &Test) -> Option<Place>
     ensures { result ≡ class_item (plain_test test.now) }
 {
     match test {
-        Test::Numeric(item) => Some(*item),
+        Test::Numeric(place) => Some(*place),
         Test::Number { .. } | Test::Text { .. } | Test::Member { .. } | Test::Always => None,
     }
 }
@@ -42,7 +43,7 @@ fn guard_class(
     program: &Program,
     cells: &[Cell],
     row: &mut [i128],
-    place: u32,
+    place: Place,
     wanted: bool,
 ) -> bool
     requires row { IsRowOf (plain_program program.now) cells.now row.old }
@@ -53,10 +54,10 @@ fn guard_class(
     ensures row { IsRowOf (plain_program program.now) cells.now row.new }
 {
     if wanted {
-        read_one(program, cells, row, place);
+        read_one(program, cells, row, place.item);
         return true;
     }
-    !item_is_numeric(program, cells, row, place)
+    !item_is_numeric(program, cells, row, place.item)
 }
 
 // ---- tests of numbers
