@@ -13,5 +13,5 @@ returns-clause-latest c =
     let p = program_in s in
     let a = act_done s in
     c.store.ensures.latest
-    ∙ ap (λ (t : Seen). outcome p a s.action t x.place x.mode (plain_amount x.amount))
+    ∙ ap (λ (t : Seen). outcome p a s.action t x.place.item x.mode (plain_amount x.amount))
     (c.with_operands-self.ensures.same ∙ all_is_taken p a s.action c.requires.small.sender (moment s))
