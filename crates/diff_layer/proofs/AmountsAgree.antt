@@ -59,8 +59,8 @@ module _ (p : Program) (pack : Pack) (seen : Seen) (wrote : List Extent) where
 
   sender_is : (x : Sender) (written : Bool) → written ≡ are_written p.layout wrote (sender_items x) → sender_by f cell common written x ≡ sender_form p pack seen wrote x
   sender_is (sender.Item place) written e =
-      item_is place (cell place) written refl
-      ∙ ap (λ (b : Bool). item_sent p pack seen wrote place (cell place) b) (e ∙ or_none (is_written p.layout wrote place))
+      item_is place.item (cell place.item) written refl
+      ∙ ap (λ (b : Bool). item_sent p pack seen wrote place.item (cell place.item) b) (e ∙ or_none (is_written p.layout wrote place.item))
   sender_is (sender.Number n) written e = kept_is common
   sender_is (sender.Text text) written e = kept_is common
   sender_is (sender.Fill byte) written e = kept_is common

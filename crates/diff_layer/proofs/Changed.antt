@@ -107,7 +107,7 @@ module _ (p : Program) (a : Act) (x : Action) where
 
   -- what is kept behind a part that takes operands
   abbrev pub IsKept : Part → Seen → Option Taken → Latest → Type 0
-  IsKept (store place mode y) s common latest = (common ≡ (with_taken p a x s).common) × (latest ≡ outcome p a x (with_taken p a x s) place mode y)
+  IsKept (store place mode y) s common latest = (common ≡ (with_taken p a x s).common) × (latest ≡ outcome p a x (with_taken p a x s) place.item mode y)
   IsKept (set_count n y) s common latest = common ≡ (with_taken p a x s).common
   IsKept _ s common latest = Unit {0}
 
@@ -118,7 +118,7 @@ module _ (p : Program) (a : Act) (x : Action) where
   part_is (subscript last k) s common latest wrote pack m kept = refl
   part_is (index last k count) s common latest wrote pack m kept = refl
   part_is (divide d) s common latest wrote pack m kept = refl
-  part_is (store place mode y) s common latest wrote pack m kept = store_is (with_taken p a x s) s.cells common (taken_cells s) kept.0 wrote pack latest place mode y m kept.1
+  part_is (store place mode y) s common latest wrote pack m kept = store_is (with_taken p a x s) s.cells common (taken_cells s) kept.0 wrote pack latest place.item mode y m kept.1
   part_is (bytes_in offset count) s common latest wrote pack m kept = refl
   part_is (guard t wanted) s common latest wrote pack m kept = guard_is s common t wanted pack m
   part_is (read_count n) s common latest wrote pack m kept = refl

@@ -13,6 +13,7 @@ use Rattle.dec_num.specs.declared.types.Mode.TheVariants.{Trunc}
 use Rattle.interval_domain.specs.declared.bounds.Interval.{Interval}
 use Rattle.cob_tree.specs.declared.fault.Kind.{Kind}
 use Rattle.cob_tree.specs.declared.fault.Kind.TheVariants as kind
+use Rattle.cob_data.specs.declared.layout.Place.{Place}
 use Rattle.cob_program.specs.declared.act.How.TheVariants as how
 use Rattle.cob_program.specs.Sum.{Sum}
 use Rattle.cob_program.specs.Values.{◌>>=◌, Root, root_of}
@@ -90,7 +91,7 @@ module _ (p : Program) (a : Act) (x : Action) where
   small_clears (divide d) s kind.Truncation h = refl
   small_clears (divide d) s kind.Subscript h = refl
   small_clears (store place mode y) s fault h =
-      ap (λ (t : Seen). has_phrase a || (not (is_misfit y fault) || all_fit p a x t place mode y)) (all_is_taken p a x h.sender s)
+      ap (λ (t : Seen). has_phrase a || (not (is_misfit y fault) || all_fit p a x t place.item mode y)) (all_is_taken p a x h.sender s)
   small_clears (bytes_in offset count) s fault h = refl
   small_clears (guard t wanted) s fault h = refl
   small_clears (read_count n) s kind.Class h = refl
@@ -264,7 +265,7 @@ module _ (p : Program) (t : Seen) (wrote : List Extent) (place : ℕ) where
 
   whole_none : (s : Sum) (pack : Pack) (c : Taken) (u : Ranged) → t.common ≡ Some c → c.under ≡ Some u → is_some (root_of s) ≡ true → amount_form p pack t wrote place (computed s how.Whole) ≡ None
   whole_none s pack c u e g root =
-      by_written (list_any (is_written p.layout wrote) (items_in s)) (is_some (root_of s)) (kept_form p pack t wrote t.common)
+      by_written (list_any (λ q. is_written p.layout wrote q.item) (items_in s)) (is_some (root_of s)) (kept_form p pack t wrote t.common)
       (sum_form (pack_decimals p.layout pack) (cell_at p pack t wrote) (range_at p t.cells) s)
       (ap (kept_form p pack t wrote) e ∙ ap (λ (o : Option Ranged). if is_some o then None else range_form (pack_decimals p.layout pack) c.top) g) root
 
@@ -342,30 +343,30 @@ or_more true b c d more e = refl
 or_more false true c d more e = refl
 or_more false false c d more e = more e
 
-module _ (p : Program) (packs : List Pack) (a : Act) (x : Action) (t : Seen) (wrote : List Extent) (ms : List (List ℤ)) (place : ℕ) (mode : Mode) where
+module _ (p : Program) (packs : List Pack) (a : Act) (x : Action) (t : Seen) (wrote : List Extent) (ms : List (List ℤ)) (place : Place) (mode : Mode) where
   abbrev receives : Receiver
-  receives = receiver_of (form_at p.layout place)
+  receives = receiver_of (form_at p.layout place.item)
 
   abbrev found : Amount → Option AmountRange
-  found y = amount_from t.common y (range_at p t.cells place)
+  found y = amount_from t.common y (range_at p t.cells place.item)
 
   abbrev forms_of : Amount → Pack → Option Lin
-  forms_of y pack = amount_form p pack t wrote place y
+  forms_of y pack = amount_form p pack t wrote place.item y
 
   abbrev by_forms : Amount → Option AmountRange → Bool
   by_forms y q = fit_by p packs ms (forms_of y) mode receives q
 
-  amounts_as : (y : Amount) → option_map_or (amounts_fit p packs a x t (seen2 wrote ms) place mode y) t.common true ≡ by_forms y (found y)
+  amounts_as : (y : Amount) → option_map_or (amounts_fit p packs a x t (seen2 wrote ms) place.item mode y) t.common true ≡ by_forms y (found y)
   amounts_as y = go t.common
     where
-      go : (o : Option Taken) → option_map_or (amounts_fit p packs a x t (seen2 wrote ms) place mode y) o true ≡ by_forms y (o >>= amount_of y (range_at p t.cells place))
+      go : (o : Option Taken) → option_map_or (amounts_fit p packs a x t (seen2 wrote ms) place.item mode y) o true ≡ by_forms y (o >>= amount_of y (range_at p t.cells place.item))
       go None = refl
       go (Some c) = refl
 
-  alone_as : (y : Amount) → option_map_or (all_fit_of p a x t place mode y) t.common true ≡ fit_alone p packs ms (forms_of y) mode receives (found y)
+  alone_as : (y : Amount) → option_map_or (all_fit_of p a x t place.item mode y) t.common true ≡ fit_alone p packs ms (forms_of y) mode receives (found y)
   alone_as y = go t.common
     where
-      go : (o : Option Taken) → option_map_or (all_fit_of p a x t place mode y) o true ≡ fit_alone p packs ms (forms_of y) mode receives (o >>= amount_of y (range_at p t.cells place))
+      go : (o : Option Taken) → option_map_or (all_fit_of p a x t place.item mode y) o true ≡ fit_alone p packs ms (forms_of y) mode receives (o >>= amount_of y (range_at p t.cells place.item))
       go None = refl
       go (Some c) = refl
 
@@ -374,17 +375,17 @@ module _ (p : Program) (packs : List Pack) (a : Act) (x : Action) (t : Seen) (wr
   unfolding is_decimal
   amount_is y root falls None e = refl
   amount_is y root falls (Some (range.Decimal i)) e =
-      range_is p packs ms (forms_of y) mode receives t.cells t.common wrote (store place mode y) (λ pack. same_amount_form p pack t t.cells t.common wrote place y refl refl) (near_range mode receives.scale i)
+      range_is p packs ms (forms_of y) mode receives t.cells t.common wrote (store place mode y) (λ pack. same_amount_form p pack t t.cells t.common wrote place.item y refl refl) (near_range mode receives.scale i)
   amount_is y root falls (Some (range.Quotient top under)) e =
-      sym (amount_none p packs ms (forms_of y) mode receives (no_form p t wrote place a x y (range.Quotient top under) root e refl) (Some (range.Quotient top under))
+      sym (amount_none p packs ms (forms_of y) mode receives (no_form p t wrote place.item a x y (range.Quotient top under) root e refl) (Some (range.Quotient top under))
       ∙ (ap (fit_alone p packs ms (forms_of y) mode receives) (sym e) ∙ falls))
   amount_is y root falls (Some (range.Remainder top under scale)) e =
-      sym (amount_none p packs ms (forms_of y) mode receives (no_form p t wrote place a x y (range.Remainder top under scale) root e refl) (Some (range.Remainder top under scale))
+      sym (amount_none p packs ms (forms_of y) mode receives (no_form p t wrote place.item a x y (range.Remainder top under scale) root e refl) (Some (range.Remainder top under scale))
       ∙ (ap (fit_alone p packs ms (forms_of y) mode receives) (sym e) ∙ falls))
 
-  shown_is : (y : Amount) → Rooted p a x t y → option_map_or (all_fit_of p a x t place mode y) t.common true ≡ false →
+  shown_is : (y : Amount) → Rooted p a x t y → option_map_or (all_fit_of p a x t place.item mode y) t.common true ≡ false →
       store_shown p t.cells t.common wrote place mode y packs ms
-      ≡ (not (has_operands p t wrote y) || option_map_or (amounts_fit p packs a x t (seen2 wrote ms) place mode y) t.common true)
+      ≡ (not (has_operands p t wrote y) || option_map_or (amounts_fit p packs a x t (seen2 wrote ms) place.item mode y) t.common true)
   shown_is y root falls =
       λ i. not (same_operands p [] t t.cells t.common wrote y refl i)
       || (amount_is y root (sym (alone_as y) ∙ falls) (found y) refl ∙ sym (amounts_as y)) i
@@ -393,7 +394,7 @@ module _ (p : Program) (packs : List Pack) (a : Act) (x : Action) (t : Seen) (wr
   cleared_at (remaining s scale) = false
   cleared_at y = store_shown p t.cells t.common wrote place mode y packs ms
 
-  store_is : (y : Amount) → Rooted p a x t y → all_fit p a x t place mode y ≡ false → cleared_at y ≡ store_fits p packs a x t (seen2 wrote ms) place mode y
+  store_is : (y : Amount) → Rooted p a x t y → all_fit p a x t place.item mode y ≡ false → cleared_at y ≡ store_fits p packs a x t (seen2 wrote ms) place.item mode y
   store_is (moved z) root e = shown_is (moved z) root e
   store_is (computed s h) root e = shown_is (computed s h) root e
   store_is (remaining s scale) root e =
@@ -401,9 +402,9 @@ module _ (p : Program) (packs : List Pack) (a : Act) (x : Action) (t : Seen) (wr
       (amounts_as (remaining s scale) ∙ (amount_none p packs ms (forms_of (remaining s scale)) mode receives (λ pack. refl) (found (remaining s scale)) ∙ sym (alone_as (remaining s scale)))) ∙ e)
   store_is (augmented z) root e = shown_is (augmented z) root e
 
-  store_too : (y : Amount) → all_fit p a x t place mode y ≡ true → store_fits p packs a x t (seen2 wrote ms) place mode y ≡ true
+  store_too : (y : Amount) → all_fit p a x t place.item mode y ≡ true → store_fits p packs a x t (seen2 wrote ms) place.item mode y ≡ true
   store_too y e =
-      go (has_quotient y) (not (has_operands p t wrote y)) (option_map_or (all_fit_of p a x t place mode y) t.common true) (option_map_or (amounts_fit p packs a x t (seen2 wrote ms) place mode y) t.common true)
+      go (has_quotient y) (not (has_operands p t wrote y)) (option_map_or (all_fit_of p a x t place.item mode y) t.common true) (option_map_or (amounts_fit p packs a x t (seen2 wrote ms) place.item mode y) t.common true)
       (λ f. amounts_as y ∙ amount_more p packs ms (forms_of y) mode receives (found y) (sym (alone_as y) ∙ f)) e
     where
       last : (n o : Bool) → o ≡ true → (n || o) ≡ true
@@ -420,13 +421,13 @@ module _ (p : Program) (packs : List Pack) (a : Act) (x : Action) (s : Seen) (wr
   abbrev moment : Seen
   moment = with_taken p a x s
 
-  as_taken : (place : ℕ) (mode : Mode) (y : Amount) → with_taken_small p a x s ≡ moment → store_cleared p packs a x place mode y s (seen2 wrote ms) ≡ cleared_at p packs a x moment wrote ms place mode y
+  as_taken : (place : Place) (mode : Mode) (y : Amount) → with_taken_small p a x s ≡ moment → store_cleared p packs a x place mode y s (seen2 wrote ms) ≡ cleared_at p packs a x moment wrote ms place mode y
   as_taken place mode (moved z) e = ap (λ (t : Seen). store_shown p t.cells t.common wrote place mode (moved z) packs ms) e
   as_taken place mode (computed u h) e = ap (λ (t : Seen). store_shown p t.cells t.common wrote place mode (computed u h) packs ms) e
   as_taken place mode (remaining u scale) e = refl
   as_taken place mode (augmented z) e = ap (λ (t : Seen). store_shown p t.cells t.common wrote place mode (augmented z) packs ms) e
 
-  store_cleared_is : (place : ℕ) (mode : Mode) (y : Amount) (fault : Kind) → IsSmallStore p a x place y → IsStoreOf p a x y → CanStep p a x s → clears_part p a x (store place mode y) s fault ≡ false →
+  store_cleared_is : (place : Place) (mode : Mode) (y : Amount) (fault : Kind) → IsSmallStore p a x place.item y → IsStoreOf p a x y → CanStep p a x s → clears_part p a x (store place mode y) s fault ≡ false →
       store_cleared p packs a x place mode y s (seen2 wrote ms) ≡ clears_part2 p packs a x (store place mode y) s (seen2 wrote ms) fault
   store_cleared_is place mode y fault small of_edge can e =
       let same = all_is_taken p a x small.sender s in
@@ -436,7 +437,7 @@ module _ (p : Program) (packs : List Pack) (a : Act) (x : Action) (s : Seen) (wr
       let written = subst (λ (t : Seen). t.written ≡ true) same (taken_written p a x s) in
       as_taken place mode y same
       ∙ (store_is p packs a x moment wrote ms place mode y (rooted p a x moment y can_there written small.sender of_edge) two.1
-      ∙ sym (λ i. one.0 i || (two.0 i || store_fits p packs a x moment (seen2 wrote ms) place mode y)))
+      ∙ sym (λ i. one.0 i || (two.0 i || store_fits p packs a x moment (seen2 wrote ms) place.item mode y)))
 
   set_is : (n : ℕ) (z : Sender) → with_taken_small p a x s ≡ moment →
       set_cleared p packs a x (set_count n z) s (seen2 wrote ms) ≡ clears_part2 p packs a x (set_count n z) s (seen2 wrote ms) kind.Size
@@ -529,7 +530,7 @@ module _ (p : Program) (packs : List Pack) (a : Act) (x : Action) (s : Seen) (wr
   cleared_too (divide d) kind.Truncation e = refl
   cleared_too (divide d) kind.Subscript e = refl
   cleared_too (store place mode y) fault e =
-      or_more (has_phrase a) (not (is_misfit y fault)) (all_fit p a x moment place mode y) (store_fits p packs a x moment (seen2 wrote ms) place mode y)
+      or_more (has_phrase a) (not (is_misfit y fault)) (all_fit p a x moment place.item mode y) (store_fits p packs a x moment (seen2 wrote ms) place.item mode y)
       (store_too p packs a x moment wrote ms place mode y) e
   cleared_too (bytes_in offset count) fault e = refl
   cleared_too (guard t wanted) fault e = refl

@@ -85,7 +85,7 @@ module _ (f : ℕ) (cell : ℕ → Option ℕ) (g h : ℕ → Ranged) (bound : �
         ∙ product_form_same fs next (next_front front whole) c (made c (atom_form f cell h atom)) m.1))
 
     pub atom_form_same : (a : Atom) → is_small_atom bound a ≡ true → atom_form f cell g a ≡ atom_form f cell h a
-    atom_form_same (item place) e = ap (item_form f (cell place)) (same place e)
+    atom_form_same (item place) e = ap (item_form f (cell place.item)) (same place.item e)
     atom_form_same (number n) e = refl
     atom_form_same (group s) e = sum_form_same s e
 

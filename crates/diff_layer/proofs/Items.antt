@@ -3,6 +3,7 @@ use Rattle.std.proofs.Common.{◌≡◌, ℕ, ◌+◌, ◌<◌, Bool, true, fals
 use Rattle.std.specs.List.{list_any}
 use Rattle.std.specs.Option.{option_map_or}
 use Rattle.std.proofs.lemmas.List.Folds.{list_any-append}
+use Rattle.cob_data.specs.declared.layout.Place.{Place}
 use Rattle.cob_data.specs.declared.extent.Extent.{Extent}
 use Rattle.cob_data.specs.declared.layout.Item.{Item}
 use Rattle.cob_data.specs.declared.layout.Layout.{Layout}
@@ -42,23 +43,23 @@ product_items_first xs i x within is =
 -- ---- what was written to
 
 module _ (l : Layout) (wrote : List Extent) where
-  pub met_first : (all here rest : List ℕ) (first : Bool) → all ≡ here ++ rest → first ≡ are_written l wrote here → first ≡ true → are_written l wrote all ≡ true
+  pub met_first : (all here rest : List Place) (first : Bool) → all ≡ here ++ rest → first ≡ are_written l wrote here → first ≡ true → are_written l wrote all ≡ true
   met_first all here rest first cut is e =
-      ap (are_written l wrote) cut ∙ (list_any-append (is_written l wrote) here rest ∙ ap (λ b. b || are_written l wrote rest) (sym is ∙ e))
+      ap (are_written l wrote) cut ∙ (list_any-append (λ place. is_written l wrote place.item) here rest ∙ ap (λ b. b || are_written l wrote rest) (sym is ∙ e))
 
-  pub met_later : (all here rest : List ℕ) (first : Bool) → all ≡ here ++ rest → first ≡ are_written l wrote here → first ≡ false → are_written l wrote all ≡ are_written l wrote rest
+  pub met_later : (all here rest : List Place) (first : Bool) → all ≡ here ++ rest → first ≡ are_written l wrote here → first ≡ false → are_written l wrote all ≡ are_written l wrote rest
   met_later all here rest first cut is e =
-      ap (are_written l wrote) cut ∙ (list_any-append (is_written l wrote) here rest ∙ ap (λ b. b || are_written l wrote rest) (sym is ∙ e))
+      ap (are_written l wrote) cut ∙ (list_any-append (λ place. is_written l wrote place.item) here rest ∙ ap (λ b. b || are_written l wrote rest) (sym is ∙ e))
 
-pub nothing_written : (l : Layout) (places : List ℕ) → false ≡ are_written l [] places
+pub nothing_written : (l : Layout) (places : List Place) → false ≡ are_written l [] places
 nothing_written l [] = refl
-nothing_written l (place ∷ places) = here (item_at l place) ∙ ap (λ b. is_written l [] place || b) (nothing_written l places)
+nothing_written l (place ∷ places) = here (item_at l place.item) ∙ ap (λ b. is_written l [] place.item || b) (nothing_written l places)
   where
     here : (o : Option Item) → false ≡ (option_map_or (λ i. list_any (λ (e : Extent). share_extents e (extent_of i)) []) o false || false)
     here None = refl
     here (Some i) = refl
 
-pub missing_item : (l : Layout) (place : ℕ) (places : List ℕ) → item_at l place ≡ None → false ≡ are_written l (item_bytes l place) places
+pub missing_item : (l : Layout) (place : ℕ) (places : List Place) → item_at l place ≡ None → false ≡ are_written l (item_bytes l place) places
 missing_item l place places e =
     nothing_written l places
     ∙ ap (λ o. are_written l (option_map_or (λ (i : Item). extent_of i ∷ []) o []) places) (sym e)
@@ -88,8 +89,8 @@ module _ (l : Layout) (bs wrote : List Extent) where
       at None = refl
       at (Some i) = list_any-append (shares i) bs wrote ∙ or_swapped (list_any (shares i) bs) (list_any (shares i) wrote)
 
-  pub written_more : (places : List ℕ) → are_written l (bs ++ wrote) places ≡ (are_written l wrote places || are_written l bs places)
+  pub written_more : (places : List Place) → are_written l (bs ++ wrote) places ≡ (are_written l wrote places || are_written l bs places)
   written_more [] = refl
   written_more (place ∷ places) =
-      (λ i. item_more place i || written_more places i)
-      ∙ or_parted (is_written l wrote place) (is_written l bs place) (are_written l wrote places) (are_written l bs places)
+      (λ i. item_more place.item i || written_more places i)
+      ∙ or_parted (is_written l wrote place.item) (is_written l bs place.item) (are_written l wrote places) (are_written l bs places)

@@ -57,7 +57,7 @@ module _ (size f : ℕ) (cell : ℕ → Option ℕ) (few : (place k : ℕ) → c
   item_over place (Some k) e = either_over size written (kept_by f common) (Some (cell_form k)) (kept_over size f common) (cell_within size k (few place k e))
 
   pub sender_over : (x : Sender) → IfSome (sender_by f cell common written x) (IsWithin size)
-  sender_over (sender.Item place) = item_over place (cell place) refl
+  sender_over (sender.Item place) = item_over place.item (cell place.item) refl
   sender_over (sender.Number n) = kept_over size f common
   sender_over (sender.Text text) = kept_over size f common
   sender_over (sender.Fill byte) = kept_over size f common

@@ -44,7 +44,7 @@ module _ (p : Program) (sound : HasWellFormedItems p.layout) (a : Act) (x : Acti
   part_of (subscript last k) kept = tt
   part_of (index last k count) kept = tt
   part_of (divide d) kept = tt
-  part_of (store place mode y) kept = store_of place y kept.0 kept.1
+  part_of (store place mode y) kept = store_of place.item y kept.0 kept.1
   part_of (bytes_in offset count) kept = tt
   part_of (guard t wanted) kept = tt
   part_of (read_count n) kept = tt

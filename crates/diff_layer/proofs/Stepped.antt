@@ -79,9 +79,9 @@ module _ (p : Program) (a : Act) (x : Action) where
         small = of_edge.small;
         top = subst (λ (o : Option Taken). IfSome o HasSmallTop) same (kept_small p a x w (taken_can p a x s can) (taken_written p a x s) small.sum);
         work =
-            subst (λ (o : Option Taken). IfSome o (CanWork y (range_at p s.cells place))) same
-            (subst (λ (cs : List Known). IfSome w.common (CanWork y (range_at p cs place))) (small_cells_same s)
-            (can_work p a x w (taken_can p a x s can) (taken_written p a x s) place y small));
+            subst (λ (o : Option Taken). IfSome o (CanWork y (range_at p s.cells place.item))) same
+            (subst (λ (cs : List Known). IfSome w.common (CanWork y (range_at p cs place.item))) (small_cells_same s)
+            (can_work p a x w (taken_can p a x s can) (taken_written p a x s) place.item y small));
       }
   can_change (bytes_in offset count) s t small of_edge can e = tt
   can_change (guard test wanted) s t small of_edge can e = small

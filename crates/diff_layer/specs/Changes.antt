@@ -73,7 +73,7 @@ module _ (p : Program) (known : List Known) (common : Option Taken) where
 
   -- the matrix behind a part, in units of so many decimals
   abbrev pub part_changed : Latest → List Extent → Pack → ℕ → ℕ → Part → List ℤ → List ℤ
-  part_changed latest wrote pack size decimals (store place mode y) m = store_changed latest wrote pack size decimals place mode y m
+  part_changed latest wrote pack size decimals (store place mode y) m = store_changed latest wrote pack size decimals place.item mode y m
   part_changed latest wrote pack size decimals (bytes_in offset count) m =
       forgotten_cells size (is_gone p.layout (gone.Bytes (bytes_from offset count))) 1 pack m
   part_changed latest wrote pack size decimals (guard t wanted) m = guard_changed pack size decimals t wanted m

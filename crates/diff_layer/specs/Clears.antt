@@ -7,6 +7,7 @@ use Rattle.cob_data.specs.declared.extent.Extent.{Extent}
 use Rattle.interval_domain.specs.declared.bounds.Interval.{Interval}
 use Rattle.cob_tree.specs.declared.fault.Kind.{Kind}
 use Rattle.cob_tree.specs.declared.fault.Kind.TheVariants as kind
+use Rattle.cob_data.specs.declared.layout.Place.{Place}
 use Rattle.cob_program.specs.Sum.{Atom}
 use Rattle.cob_program.specs.Act.{Act, Program}
 use Rattle.cob_runs.specs.declared.action.Action.{Action}
@@ -57,11 +58,11 @@ module _ (p : Program) (known : List Known) (common : Option Taken) (wrote : Lis
   amount_shown packs ms _ = false
 
 module _ (p : Program) (known : List Known) (common : Option Taken) (wrote : List Extent) where
-  abbrev pub store_shown : ℕ → Mode → Amount → List Pack → List (List ℤ) → Bool
+  abbrev pub store_shown : Place → Mode → Amount → List Pack → List (List ℤ) → Bool
   store_shown place mode y packs ms =
       not (has_operands p (taken_at known common) wrote y)
-      || amount_shown p known common wrote (store place mode y) mode (receiver_of (form_at p.layout place)) packs ms
-      (amount_from common y (range_at p known place))
+      || amount_shown p known common wrote (store place mode y) mode (receiver_of (form_at p.layout place.item)) packs ms
+      (amount_from common y (range_at p known place.item))
 
   -- what a counter is set to
   abbrev pub count_shown : Part → List Pack → List (List ℤ) → Bool
@@ -69,10 +70,10 @@ module _ (p : Program) (known : List Known) (common : Option Taken) (wrote : Lis
 
 -- A store where its operands are taken. A remainder has no form.
 module _ (p : Program) (packs : List Pack) (a : Act) (x : Action) where
-  abbrev pub taken_shown : ℕ → Mode → Amount → Seen → Seen2 → Bool
+  abbrev pub taken_shown : Place → Mode → Amount → Seen → Seen2 → Bool
   taken_shown place mode y t r = store_shown p (with_taken_small p a x t).cells (with_taken_small p a x t).common r.wrote place mode y packs r.packs
 
-  abbrev pub store_cleared : ℕ → Mode → Amount → Seen → Seen2 → Bool
+  abbrev pub store_cleared : Place → Mode → Amount → Seen → Seen2 → Bool
   store_cleared place mode y t r = if is_remainder y then false else taken_shown place mode y t r
 
   -- the matrices clear a part that sets a counter, where the count is sent

@@ -22,7 +22,7 @@ end_in_pack size decimals m form mode r false = high_fits mode r decimals (upper
 module _ (p : Program) (known : List Known) (common : Option Taken) (wrote : List Extent) where
   -- the form of what the receiver of a part gets
   abbrev pub part_form : Part → Pack → Option Lin
-  part_form (store place mode y) pack = amount_form p pack (taken_at known common) wrote place y
+  part_form (store place mode y) pack = amount_form p pack (taken_at known common) wrote place.item y
   part_form (set_count statement y) pack = set_form p pack (taken_at known common) wrote y
   part_form (count_down statement) pack = lowered_form p pack (taken_at known common) wrote statement
   part_form y pack = None

@@ -48,7 +48,7 @@ pub record CanStore (p : Program) (known : List Known) (common : Option Taken) (
   pub work : IfSome common (CanWork y (range_at p known place))
 
 abbrev pub CanChange : Program → List Known → Option Taken → Part → Type 0
-CanChange p known common (store place mode y) = CanStore p known common place y
+CanChange p known common (store place mode y) = CanStore p known common place.item y
 CanChange p known common (set_count n y) = IfSome common HasSmallTop
 CanChange p known common (guard t wanted) = is_small_test (bound_at p.layout) p.layout t ≡ true
 CanChange p known common _ = Unit {0}

@@ -38,7 +38,7 @@ module _ (f : ℕ) (cell : ℕ → Option ℕ) (common : Option Taken) (written 
   item_by None = kept_by f common
 
   abbrev pub sender_by : Sender → Option Lin
-  sender_by (sender.Item place) = item_by (cell place)
+  sender_by (sender.Item place) = item_by (cell place.item)
   sender_by x = kept_by f common
 
 -- ---- sums

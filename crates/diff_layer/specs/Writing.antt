@@ -1,5 +1,6 @@
 -- The bytes that parts write to, and the items that an edge's operands are read of.
-use Rattle.std.specs.Prelude.{ℕ, Bool, if◌then◌else◌, List, [], ◌∷◌, Option, Some, None}
+use Rattle.std.specs.Prelude.{Bool, if◌then◌else◌, List, [], ◌∷◌, Option, Some, None}
+use Rattle.cob_data.specs.declared.layout.Place.{Place}
 use Rattle.cob_data.specs.declared.extent.Extent.{Extent}
 use Rattle.cob_data.specs.declared.layout.Layout.{Layout}
 use Rattle.cob_program.specs.Sum.{Part as Product, MkPart}
@@ -14,18 +15,18 @@ use Rattle.diff_layer.specs.PackWriting.{amount_items}
 
 -- The bytes that a part writes to. A store writes to none on an edge that keeps its receiver, which the first argument tells.
 abbrev pub part_bytes : Bool → Layout → Part → List Extent
-part_bytes keeps l (store place mode y) = if keeps then [] else item_bytes l place
+part_bytes keeps l (store place mode y) = if keeps then [] else item_bytes l place.item
 part_bytes keeps l (bytes_in offset count) = bytes_from offset count ∷ []
 part_bytes keeps l _ = []
 
 -- the items of a product
-abbrev pub product_items : Product → List ℕ
+abbrev pub product_items : Product → List Place
 product_items (MkPart minus fs) = items_in_factors fs
 
-abbrev pub items_of_amount : Option Amount → List ℕ
+abbrev pub items_of_amount : Option Amount → List Place
 items_of_amount None = []
 items_of_amount (Some y) = amount_items y
 
 -- the items that the operands of an edge are read of
-abbrev pub edge_items : Act → Action → List ℕ
+abbrev pub edge_items : Act → Action → List Place
 edge_items a x = items_of_amount (edge_amount a x)

@@ -50,7 +50,7 @@ pub(crate) fn form_of_sender(
     ensures good { IfSome result IsForm }
 {
     match sender {
-        Sender::Item(place) => item_form(pack, *place, common, written),
+        Sender::Item(place) => item_form(pack, place.item, common, written),
         Sender::Number(_) | Sender::Text(_) | Sender::Fill(_) | Sender::Zero => {
             kept_form(pack.decimals, common)
         }
@@ -63,7 +63,7 @@ fn is_whole_sender(layout: &Layout, sender: &Sender) -> bool
     ensures { result ≡ is_whole_sender layout.now sender.now }
 {
     match sender {
-        Sender::Item(place) => item_decimals(layout, *place) == 0,
+        Sender::Item(place) => item_decimals(layout, place.item) == 0,
         Sender::Number(number) => number.scale == 0,
         Sender::Text(_) | Sender::Fill(_) | Sender::Zero => true,
     }

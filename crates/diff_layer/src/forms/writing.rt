@@ -38,7 +38,7 @@ fn are_of_atom(layout: &Layout, extent: &Extent, atom: &Atom) -> bool
     ensures { result ≡ are_written layout.now (extent.now ∷ []) (items_in_atom (plain_atom atom.now)) }
 {
     match atom {
-        Atom::Item(place) => are_of(layout, extent, *place),
+        Atom::Item(place) => are_of(layout, extent, place.item),
         Atom::Number(_) => false,
         Atom::Group(sum) => are_of_sum(layout, extent, sum),
     }
@@ -91,7 +91,7 @@ fn are_of_sender(layout: &Layout, extent: &Extent, sender: &Sender) -> bool
     ensures { result ≡ are_written layout.now (extent.now ∷ []) (sender_items sender.now) }
 {
     match sender {
-        Sender::Item(place) => are_of(layout, extent, *place),
+        Sender::Item(place) => are_of(layout, extent, place.item),
         Sender::Number(_) | Sender::Text(_) | Sender::Fill(_) | Sender::Zero => false,
     }
 }
@@ -145,7 +145,9 @@ pub(crate) fn writes_operands(program: &Program, act: &Act, action: Action, part
         (edge_items (plain_act act.now) action) }
 {
     match part {
-        EdgePart::Store { item, .. } => store_is_of_operands(&program.layout, item, act, action),
+        EdgePart::Store { place, .. } => {
+            store_is_of_operands(&program.layout, place.item, act, action)
+        }
         EdgePart::Bytes { offset, length } => are_of_operands(
             &program.layout,
             &bytes_from(offset, length),

@@ -34,7 +34,11 @@ fn change(moment: &Moment, pack: &PackView, m: &mut [i128], part: EdgePart)
     ensures matrix { IsMatrix (length pack.now.cells.now) m.new }
 {
     match part {
-        EdgePart::Store { item, mode, amount } => store(moment, pack, m, item, mode, amount),
+        EdgePart::Store {
+            place,
+            mode,
+            amount,
+        } => store(moment, pack, m, place.item, mode, amount),
         EdgePart::Bytes { offset, length } => forget(
             &moment.items.program.layout,
             Gone::Bytes(bytes_from(offset, length)),

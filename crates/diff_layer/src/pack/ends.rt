@@ -62,8 +62,8 @@ fn form_for(moment: &Moment, pack: &PackView, part: EdgePart) -> Option<Lin>
     let items = &moment.items;
     let common = moment.kept.common;
     match part {
-        EdgePart::Store { item, amount, .. } => {
-            amount_form(items, pack, item, amount, common, moment.written)
+        EdgePart::Store { place, amount, .. } => {
+            amount_form(items, pack, place.item, amount, common, moment.written)
         }
         EdgePart::SetCount { count, .. } => set_form(items, pack, count, common, moment.written),
         EdgePart::CountDown(number) => lowered_form(items, pack, number),

@@ -68,6 +68,7 @@ use crate::pack::moment::{Matrices, Moment, Slot};
 use crate::pack::plans::{PackPlan, view_of, words_for};
 use crate::pack::walking::step;
 use cell_layer::{Kept, KnownItems, cleared_by_part, count_units, item_range, with_operands};
+use cob_data::Place;
 use cob_tree::{Kind, Kinds};
 use dec_num::Mode;
 use edge_parts::{Divisor, EdgePart};
@@ -210,9 +211,15 @@ fn amount_for(
 
 // whether a store fits that the first layer doesn't show to fit, where its operands are taken; no run comes to one
 // whose operands have no range
-fn store_fits(moment: &Moment, matrices: &Matrices, place: u32, mode: Mode, amount: Amount) -> bool
+fn store_fits(
+    moment: &Moment,
+    matrices: &Matrices,
+    place: Place,
+    mode: Mode,
+    amount: Amount,
+) -> bool
     requires matrices { AreMatricesOf (program_at moment.now) matrices.now }
-    requires small { IsSmallStore (program_at moment.now) (act_at moment.now) moment.now.action place
+    requires small { IsSmallStore (program_at moment.now) (act_at moment.now) moment.now.action place.item
         (plain_amount amount) }
     requires of_edge { IsStoreOf (program_at moment.now) (act_at moment.now) moment.now.action (plain_amount amount) }
     requires can { CanStep (program_at moment.now) (act_at moment.now) moment.now.action (seen_at moment.now) }
@@ -227,13 +234,13 @@ fn store_fits(moment: &Moment, matrices: &Matrices, place: u32, mode: Mode, amou
     if !has_operands(items, amount, moment.written) {
         return true;
     }
-    let found = amount_for(items, place, amount, moment.kept.common);
+    let found = amount_for(items, place.item, amount, moment.kept.common);
     let part = EdgePart::Store {
-        item: place,
+        place,
         mode,
         amount,
     };
-    let receiver = receiver_at(&items.program.layout, place);
+    let receiver = receiver_at(&items.program.layout, place.item);
     amount_fits(moment, matrices, part, Slot { mode, receiver }, found)
 }
 
@@ -320,9 +327,15 @@ fn taken(moment: &Moment) -> Kept
 }
 
 // whether a store fits, where its operands are taken
-fn taken_fits(moment: &Moment, matrices: &Matrices, place: u32, mode: Mode, amount: Amount) -> bool
+fn taken_fits(
+    moment: &Moment,
+    matrices: &Matrices,
+    place: Place,
+    mode: Mode,
+    amount: Amount,
+) -> bool
     requires matrices { AreMatricesOf (program_at moment.now) matrices.now }
-    requires small { IsSmallStore (program_at moment.now) (act_at moment.now) moment.now.action place
+    requires small { IsSmallStore (program_at moment.now) (act_at moment.now) moment.now.action place.item
         (plain_amount amount) }
     requires of_edge { IsStoreOf (program_at moment.now) (act_at moment.now) moment.now.action (plain_amount amount) }
     requires can { CanStep (program_at moment.now) (act_at moment.now) moment.now.action (seen_at moment.now) }
@@ -351,12 +364,12 @@ fn taken_fits(moment: &Moment, matrices: &Matrices, place: u32, mode: Mode, amou
 fn store_clears(
     moment: &Moment,
     matrices: &Matrices,
-    place: u32,
+    place: Place,
     mode: Mode,
     amount: Amount,
 ) -> bool
     requires matrices { AreMatricesOf (program_at moment.now) matrices.now }
-    requires small { IsSmallStore (program_at moment.now) (act_at moment.now) moment.now.action place
+    requires small { IsSmallStore (program_at moment.now) (act_at moment.now) moment.now.action place.item
         (plain_amount amount) }
     requires of_edge { IsStoreOf (program_at moment.now) (act_at moment.now) moment.now.action (plain_amount amount) }
     requires can { CanStep (program_at moment.now) (act_at moment.now) moment.now.action (seen_at moment.now) }
@@ -442,9 +455,11 @@ fn is_shown(moment: &Moment, matrices: &Matrices, part: EdgePart, fault: Kind) -
         EdgePart::Index { item, count, .. } => {
             index_is_shown(moment, matrices, Indexed { item, count }, fault)
         }
-        EdgePart::Store { item, mode, amount } => {
-            store_clears(moment, matrices, item, mode, amount)
-        }
+        EdgePart::Store {
+            place,
+            mode,
+            amount,
+        } => store_clears(moment, matrices, place, mode, amount),
         EdgePart::SetCount { .. } => match fault {
             Kind::Size => set_clears(moment, matrices, part),
             Kind::Zero | Kind::Class | Kind::Truncation | Kind::Subscript => false,
