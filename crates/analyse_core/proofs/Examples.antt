@@ -8,6 +8,7 @@ use Rattle.cob_tree.specs.declared.token.Rel.TheVariants as rel
 use Rattle.cob_data.specs.declared.layout.Item.{Item}
 use Rattle.cob_data.specs.declared.layout.Sender.TheVariants as sender
 use Rattle.dec_num.specs.declared.types.Mode.TheVariants as mode
+use Rattle.cob_data.specs.Places.{plain}
 use Rattle.cob_program.specs.declared.act.How.TheVariants as how
 use Rattle.cob_program.specs.Sum.{Sum, MkSum, no_parts, more_parts, MkPart, no_factors, more_factors, MkFactor, item}
 use Rattle.cob_program.specs.Logic.{numbers, member, Logic, test, any_of, more_logics, no_logics}
@@ -21,10 +22,10 @@ abbrev number : ℕ → Item
 number offset = item_of offset 1 (form.Number 1 0 false usage.Display) None
 
 abbrev of_item : ℕ → Sum
-of_item place = MkSum (more_parts (MkPart false (more_factors (MkFactor false false (item place)) no_factors)) no_parts)
+of_item place = MkSum (more_parts (MkPart false (more_factors (MkFactor false false (item (plain place))) no_factors)) no_parts)
 
 abbrev add_one : ℕ → Act
-add_one place = arith (atom_sum (numeral (49 ∷ []) 0)) (record { item = place; how = how.Plus; mode = mode.Trunc } ∷ []) None left_out no_stmts
+add_one place = arith (atom_sum (numeral (49 ∷ []) 0)) (record { item = plain place; how = how.Plus; mode = mode.Trunc } ∷ []) None left_out no_stmts
 
 abbrev equal : ℕ → ℕ → Logic
 equal a b = test (numbers (of_item a) rel.Equal (of_item b))
@@ -65,7 +66,7 @@ packs_once = refl
 abbrev turning : Program
 turning = with_items
     (unnamed (stmt1 1 (perform (inline (stmt1 2 nothing no_stmts))
-    (varying false 1 (sender.Item 0) (sender.Item 0)
+    (varying false 1 (sender.Item (plain 0)) (sender.Item (plain 0))
     (any_of (more_logics (test (member 3 [])) (more_logics (test (numbers (of_item 2) rel.Greater (atom_sum (numeral (48 ∷ []) 0)))) no_logics)))))
     no_stmts)
     ∷ [])
@@ -77,7 +78,7 @@ what_turns = refl
 abbrev nine : Program
 nine = record {
   layout = record { items = map number (range_with_len 0 9); flags = []; files = []; storage = 9 };
-  paras = unnamed (stmt1 1 (arith (atom_sum (numeral (49 ∷ []) 0)) (map (λ place. record { item = place; how = how.Plus; mode = mode.Trunc })
+  paras = unnamed (stmt1 1 (arith (atom_sum (numeral (49 ∷ []) 0)) (map (λ place. record { item = plain place; how = how.Plus; mode = mode.Trunc })
       (8 ∷ 7 ∷ 6 ∷ 5 ∷ 4 ∷ 3 ∷ 2 ∷ 1 ∷ 0 ∷ [])) None left_out no_stmts) no_stmts) ∷ [];
   statements = 1;
 }

@@ -1,6 +1,7 @@
 -- What a statement and its lists mention, by its kind.
 use Rattle.std.proofs.Common.{◌≡◌, ℕ, List, ◌++◌, map, sym, ap, ◌∙◌, Option, None, Some, Vec}
 use Rattle.std.specs.declared.alloc.Global.{Global}
+use Rattle.cob_data.specs.declared.layout.Place.{Place}
 use Rattle.cob_program.specs.declared.act.Stmt as declared_stmt
 use Rattle.cob_program.specs.declared.act.When as declared_when
 use Rattle.cob_program.specs.declared.act.Act as declared_act
@@ -33,7 +34,7 @@ module _ (a : declared_act.Act) where
   evaluate_cut whens other is = ap (λ x. inner_mentions (plain_act x)) (is ∙ sym (rolls-Evaluate whens other))
       ∙ ap inner_mentions (fold-roll-Act _ _ _ _ _ _ _ _ (layer.Evaluate whens other))
 
-  pub arith_cut : (common : declared_sum.Sum) (targets : List Target) (remainder : Option ℕ)
+  pub arith_cut : (common : declared_sum.Sum) (targets : List Target) (remainder : Option Place)
       (size : Option (Vec declared_stmt.Stmt Global)) (fine list : Vec declared_stmt.Stmt Global) →
       a ≡ variant.Arith common targets remainder size fine → size ≡ Some list →
       inner_mentions (plain_act a) ≡ block_mentions list ++ block_mentions fine
@@ -51,13 +52,13 @@ module _ (a : declared_act.Act) where
       (is ∙ (ap (λ o. variant.Read file into o fine) some ∙ sym (rolls-Read file into (Some list) fine)))
       ∙ ap inner_mentions (fold-roll-Act _ _ _ _ _ _ _ _ (layer.Read file into (Some list) fine))
 
-  rolled_own : (common : declared_sum.Sum) (targets : List Target) (remainder : Option ℕ)
+  rolled_own : (common : declared_sum.Sum) (targets : List Target) (remainder : Option Place)
       (size : Option (Vec declared_stmt.Stmt Global)) (fine : Vec declared_stmt.Stmt Global) →
       own_mentions (plain_act (roll-Act (layer.Arith common targets remainder size fine))) ≡ targets_mentions targets ++ if_item remainder
   rolled_own common targets remainder None fine = ap own_mentions (fold-roll-Act _ _ _ _ _ _ _ _ (layer.Arith common targets remainder None fine))
   rolled_own common targets remainder (Some x) fine = ap own_mentions (fold-roll-Act _ _ _ _ _ _ _ _ (layer.Arith common targets remainder (Some x) fine))
 
-  pub own_cut : (common : declared_sum.Sum) (targets : List Target) (remainder : Option ℕ)
+  pub own_cut : (common : declared_sum.Sum) (targets : List Target) (remainder : Option Place)
       (size : Option (Vec declared_stmt.Stmt Global)) (fine : Vec declared_stmt.Stmt Global) →
       a ≡ variant.Arith common targets remainder size fine → own_mentions (plain_act a) ≡ targets_mentions targets ++ if_item remainder
   own_cut common targets remainder size fine is =

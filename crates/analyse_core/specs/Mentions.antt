@@ -2,6 +2,7 @@
 -- the ranges of paragraphs that are performed.
 use Rattle.std.specs.Prelude.{ℕ, List, [], ◌∷◌, ◌++◌, map, Option, None, Some, Vec}
 use Rattle.std.specs.declared.alloc.Global.{Global}
+use Rattle.cob_data.specs.declared.layout.Place.{Place}
 use Rattle.cob_data.specs.declared.layout.Sender.{Sender}
 use Rattle.cob_data.specs.declared.layout.Sender.TheVariants as sender
 use Rattle.cob_program.specs.declared.act.Target.{Target}
@@ -16,12 +17,12 @@ use Rattle.analyse_core.specs.declared.mention.Mention.TheVariants as mention
 abbrev pub one_item : ℕ → List Mention
 one_item place = mention.Item place ∷ []
 
-abbrev pub if_item : Option ℕ → List Mention
+abbrev pub if_item : Option Place → List Mention
 if_item None = []
-if_item (Some place) = one_item place
+if_item (Some place) = one_item place.item
 
 abbrev pub target_mentions : Target → List Mention
-target_mentions x = one_item x.item
+target_mentions x = one_item x.item.item
 
 abbrev pub targets_mentions : List Target → List Mention
 targets_mentions [] = []
@@ -48,12 +49,12 @@ abbrev mutual
   factor_mentions (MkFactor over minus atom) = atom_mentions atom
 
   pub atom_mentions : Atom → List Mention
-  atom_mentions (item place) = one_item place
+  atom_mentions (item place) = one_item place.item
   atom_mentions (number n) = []
   atom_mentions (group s) = sum_mentions s
 
 abbrev pub side_mentions : Sender → List Mention
-side_mentions (sender.Item place) = one_item place
+side_mentions (sender.Item place) = one_item place.item
 side_mentions _ = []
 
 -- A relation or a sign test has its items; a condition-name, or a value or range of a WHEN, and a class test have none.

@@ -3,7 +3,7 @@ ghost use Rattle.std.specs.Prelude.{◌≡◌, ◌++◌, ◌∷◌, [], OnOk};
 ghost use Rattle.analyse_core.specs.declared.mention.Mention.TheVariants as mention;
 ghost use Rattle.analyse_core.specs.Mentions.{one_item, if_item, side_mentions, target_mentions, targets_mentions};
 
-use cob_data::Sender;
+use cob_data::{Place, Sender};
 use cob_program::Target;
 use std::alloc::AllocError;
 
@@ -24,11 +24,11 @@ pub fn add_item(mentions: &mut Vec<Mention>, place: u32) -> Result<(), AllocErro
 }
 
 /// Adds an item that may be left out.
-pub fn add_if(mentions: &mut Vec<Mention>, place: Option<u32>) -> Result<(), AllocError>
+pub fn add_if(mentions: &mut Vec<Mention>, place: Option<Place>) -> Result<(), AllocError>
     ensures { OnOk result (mentions.new.items ≡ mentions.old.items ++ if_item place) }
 {
     match place {
-        Some(place) => add_item(mentions, place),
+        Some(place) => add_item(mentions, place.item),
         None => Ok(()),
     }
 }
@@ -46,7 +46,7 @@ pub fn add_side(mentions: &mut Vec<Mention>, side: &Sender) -> Result<(), AllocE
     ensures { OnOk result (mentions.new.items ≡ mentions.old.items ++ side_mentions side.now) }
 {
     match side {
-        Sender::Item(place) => add_item(mentions, *place),
+        Sender::Item(place) => add_item(mentions, place.item),
         _ => Ok(()),
     }
 }
@@ -54,7 +54,7 @@ pub fn add_side(mentions: &mut Vec<Mention>, side: &Sender) -> Result<(), AllocE
 fn add_target(mentions: &mut Vec<Mention>, target: &Target) -> Result<(), AllocError>
     ensures { OnOk result (mentions.new.items ≡ mentions.old.items ++ target_mentions target.now) }
 {
-    add_item(mentions, target.item)
+    add_item(mentions, target.item.item)
 }
 
 /// Adds receivers.

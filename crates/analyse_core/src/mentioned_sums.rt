@@ -20,7 +20,7 @@ fn add_atom(mentions: &mut Vec<Mention>, atom: &Atom) -> Result<(), AllocError>
     ensures { OnOk result (mentions.new.items ≡ mentions.old.items ++ atom_mentions (plain_atom atom.now)) }
 {
     match atom {
-        Atom::Item(place) => add_item(mentions, *place),
+        Atom::Item(place) => add_item(mentions, place.item),
         Atom::Number(_) => Ok(()),
         Atom::Group(sum) => add_sum(mentions, sum),
     }
