@@ -1,5 +1,6 @@
 //! Sums, read.
 use crate::words::{literal_of, place_of};
+use cob_data::Place;
 use cob_program::{Atom, Factor, Part, Sum};
 use std::alloc::{AllocError, Global};
 use std::mem;
@@ -60,7 +61,7 @@ impl Open {
 
 fn atom_of(alloc: Global, word: &str) -> Result<Atom, AllocError> {
     match place_of(word) {
-        Some(place) => Ok(Atom::item(place)),
+        Some(item) => Ok(Atom::item(Place::plain(item))),
         None => Ok(Atom::number(literal_of(alloc, word)?)),
     }
 }

@@ -22,7 +22,7 @@ pub fn write_literal(text: &mut String, number: &Num) -> Result<(), AllocError> 
 #[cycle(written)]
 pub fn write_atom(text: &mut String, atom: &Atom) -> Result<(), AllocError> {
     match atom {
-        Atom::Item(place) => write!(text, "i{place}"),
+        Atom::Item(place) => write!(text, "i{}", place.item),
         Atom::Number(number) => write_literal(text, number),
         Atom::Group(sum) => {
             text.push_str("( ")?;

@@ -24,7 +24,7 @@ fn write_text(text: &mut String, bytes: &[u8]) -> Result<(), AllocError> {
 
 fn write_sender(text: &mut String, sender: &Sender) -> Result<(), AllocError> {
     match sender {
-        Sender::Item(place) => write!(text, "i{place}"),
+        Sender::Item(place) => write!(text, "i{}", place.item),
         Sender::Number(number) => write_literal(text, number),
         Sender::Text(bytes) => write_text(text, bytes.get()),
         Sender::Fill(byte) => write!(text, "fill.{byte}"),
@@ -66,7 +66,7 @@ fn write_test(text: &mut String, test: &Test) -> Result<(), AllocError> {
         Test::Number { left, rel, right } => write_relation(text, left, *rel, right),
         Test::Text { .. } => text.push_str("text"),
         Test::Member { item, ranges } => write_member(text, *item, ranges.get()),
-        Test::Numeric(item) => write!(text, "numeric i{item}"),
+        Test::Numeric(place) => write!(text, "numeric i{}", place.item),
         Test::Always => text.push_str("always"),
     }
 }
@@ -106,7 +106,7 @@ fn write_amount(text: &mut String, amount: Amount) -> Result<(), AllocError> {
 /// Writes a part of an edge.
 pub fn write_part(text: &mut String, part: EdgePart) -> Result<(), AllocError> {
     match part {
-        EdgePart::Read(item) => write!(text, "read i{item}"),
+        EdgePart::Read(place) => write!(text, "read i{}", place.item),
         EdgePart::Unread => text.push_str("unread"),
         EdgePart::Subscript { last, item } => write!(text, "subscript {last} i{item}"),
         EdgePart::Index { last, item, count } => write!(text, "index {last} i{item} {count}"),
@@ -114,8 +114,12 @@ pub fn write_part(text: &mut String, part: EdgePart) -> Result<(), AllocError> {
             text.push_str("divide ")?;
             write_divisor(text, divisor)
         }
-        EdgePart::Store { item, mode, amount } => {
-            write!(text, "store i{item} {} ", mode_word(mode))?;
+        EdgePart::Store {
+            place,
+            mode,
+            amount,
+        } => {
+            write!(text, "store i{} {} ", place.item, mode_word(mode))?;
             write_amount(text, amount)
         }
         EdgePart::Bytes { offset, length } => write!(text, "bytes {offset} {length}"),

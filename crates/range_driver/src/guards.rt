@@ -2,7 +2,7 @@
 use crate::known::{Known, Table, table_of};
 use crate::shown::shown_cuts;
 use case_words::{literal_of, place_of, relation_of, sum_of, wanted_of};
-use cob_data::{Layout, Pair, Sender};
+use cob_data::{Layout, Pair, Place, Sender};
 use cob_program::Test;
 use cob_tree::Many;
 use std::alloc::{AllocError, Global};
@@ -75,7 +75,7 @@ pub fn guard_case(
 
 fn end_of(alloc: Global, word: &str) -> Result<Sender, AllocError> {
     match place_of(word) {
-        Some(place) => Ok(Sender::Item(place)),
+        Some(item) => Ok(Sender::Item(Place::plain(item))),
         None => Ok(Sender::Number(literal_of(alloc, word)?)),
     }
 }

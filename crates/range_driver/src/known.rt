@@ -124,7 +124,7 @@ impl<'a> Known<'a> {
         ensures { result ≡ is_short (end_bound (bound_at self.now.scope) end.now) }
     {
         match end {
-            Sender::Item(place) => self.is_short_item(*place),
+            Sender::Item(place) => self.is_short_item(place.item),
             Sender::Number(number) => is_short_literal(number),
             Sender::Text(_) | Sender::Fill(_) | Sender::Zero => true,
         }
