@@ -5,6 +5,7 @@ use Rattle.cob_tree.specs.declared.form.Form.{Form}
 use Rattle.cob_tree.specs.declared.form.Form.TheVariants as form
 use Rattle.cob_tree.specs.declared.token.Num.{Num}
 use Rattle.cob_tree.specs.declared.token.Rel.TheVariants as rel
+use Rattle.cob_data.specs.Places.{plain}
 use Rattle.cob_data.specs.declared.layout.FileDecl.{FileDecl}
 use Rattle.cob_data.specs.declared.layout.Item.{Item}
 use Rattle.cob_data.specs.declared.layout.Layout.{Layout}
@@ -70,7 +71,7 @@ with_file status body = record {
 
 abbrev pub listing : Option ℕ → Program
 listing status = with_file status (stmt1 1 (open_files (record { file = 0; output = false } ∷ []))
-    (stmt1 2 (show (sender.Item 1 ∷ [])) (stmt1 3 (read 0 None (given (say 4 101 (stmt1 5 stop no_stmts))) (stmt1 6 (show (sender.Item 0 ∷ [])) no_stmts)) no_stmts)))
+    (stmt1 2 (show (sender.Item (plain 1) ∷ [])) (stmt1 3 (read 0 None (given (say 4 101 (stmt1 5 stop no_stmts))) (stmt1 6 (show (sender.Item (plain 0) ∷ [])) no_stmts)) no_stmts)))
 
 -- ---- their nodes and edges, and those of other copies
 

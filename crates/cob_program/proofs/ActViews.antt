@@ -1,6 +1,7 @@
 -- What contracts see of a statement, by its kind.
 use Rattle.std.proofs.Common.{◌≡◌, ℕ, List, sym, ap, ◌∙◌, Option, Some, None, Vec}
 use Rattle.std.specs.declared.alloc.Global.{Global}
+use Rattle.cob_data.specs.declared.layout.Place.{Place}
 use Rattle.cob_data.specs.declared.layout.Sender.{Sender}
 use Rattle.cob_program.specs.declared.act.Stmt as declared_stmt
 use Rattle.cob_program.specs.declared.act.Act as declared_act
@@ -25,7 +26,7 @@ module _ (a : declared_act.Act) where
       ∙ fold-roll-Act _ _ _ _ _ _ _ _ (layer.Perform body turns)
 
   -- a phrase that is left out, and one that is given
-  rolled_arith : (common : declared_sum.Sum) (targets : List Target) (remainder : Option ℕ)
+  rolled_arith : (common : declared_sum.Sum) (targets : List Target) (remainder : Option Place)
       (size : Option (Vec declared_stmt.Stmt Global)) (fine : Vec declared_stmt.Stmt Global) →
       plain_act (roll-Act (layer.Arith common targets remainder size fine))
       ≡ arith (plain_sum common) targets remainder (plain_phrase size) (plain_stmts fine.items)
@@ -41,7 +42,7 @@ module _ (a : declared_act.Act) where
   rolled_read file into None fine = fold-roll-Act _ _ _ _ _ _ _ _ (layer.Read file into None fine)
   rolled_read file into (Some x) fine = fold-roll-Act _ _ _ _ _ _ _ _ (layer.Read file into (Some x) fine)
 
-  pub arith_is : (common : declared_sum.Sum) (targets : List Target) (remainder : Option ℕ)
+  pub arith_is : (common : declared_sum.Sum) (targets : List Target) (remainder : Option Place)
       (size : Option (Vec declared_stmt.Stmt Global)) (fine : Vec declared_stmt.Stmt Global) →
       a ≡ variant.Arith common targets remainder size fine →
       plain_act a ≡ arith (plain_sum common) targets remainder (plain_phrase size) (plain_stmts fine.items)

@@ -17,7 +17,7 @@ ghost use Rattle.cob_step.specs.Views.{plain_control, plain_run};
 use crate::control::Todo;
 use crate::run::Run;
 use crate::selecting::chosen;
-use cob_data::Sender;
+use cob_data::{Place, Sender};
 use cob_program::{Act, Logic, Stmt, Sum, Target, When};
 use cob_runs::Outcome;
 use cob_store::MoveEnd;
@@ -122,8 +122,8 @@ impl<'a> Run<'a> {
         }
     }
 
-    fn do_move(&mut self, alloc: Global, from: &Sender, to: &[u32]) -> Result<(), MoveEnd>
-        requires able { AllByRecursion (CanMoveTo self.old.world.program.layout from.now) to.now }
+    fn do_move(&mut self, alloc: Global, from: &Sender, to: &[Place]) -> Result<(), MoveEnd>
+        requires able { AllByRecursion (λ p. CanMoveTo self.old.world.program.layout from.now p.item) to.now }
         requires going { self.old.outcome ≡ Outcome.Going }
         ensures done { Becomes
             (done (plain_program self.old.world.program) None 0 (act.move from.now to.now) self.old.world.world
@@ -139,7 +139,7 @@ impl<'a> Run<'a> {
         alloc: Global,
         common: &Sum,
         targets: &[Target],
-        remainder: Option<u32>,
+        remainder: Option<Place>,
         size: &'a Option<Vec<Stmt>>,
         fine: &'a [Stmt],
     ) -> Result<(), MoveEnd>

@@ -4,6 +4,7 @@ use Rattle.std.proofs.Common.{refl}
 use Rattle.cob_tree.specs.declared.form.Form.{Form}
 use Rattle.cob_tree.specs.declared.form.Form.TheVariants as form
 use Rattle.cob_tree.specs.declared.form.Usage.TheVariants as usage
+use Rattle.cob_data.specs.Places.{plain}
 use Rattle.cob_data.specs.declared.layout.Item.{Item}
 use Rattle.cob_data.specs.declared.layout.Layout.{Layout}
 use Rattle.cob_data.specs.declared.layout.Sender.{Sender}
@@ -38,7 +39,7 @@ apart = layout_of 6 (
 first_bytes : first_storage apart (replicate 9 65) ≡ 48 ∷ 48 ∷ 53 ∷ 48 ∷ 65 ∷ 34 ∷ []
 first_bytes = refl
 
-first_number : number_at apart (first_storage apart (replicate 9 65)) 1 ≡ Some (scaled_by 1 (pos 50))
+first_number : number_at apart (first_storage apart (replicate 9 65)) (plain 1) ≡ Some (scaled_by 1 (pos 50))
 first_number = refl
 
 -- where two items with a value share a byte, the first of them doesn't begin with its own
@@ -48,7 +49,7 @@ meeting = layout_of 6 (
     ∷ item_of 2 3 (form.Number 3 0 false usage.Display) (Some five)
     ∷ [])
 
-overwritten : number_at meeting (first_storage meeting []) 0 ≡ Some (scaled_by 0 (pos 0))
+overwritten : number_at meeting (first_storage meeting []) (plain 0) ≡ Some (scaled_by 0 (pos 0))
 overwritten = refl
 
 -- ---- 01 G. 05 R OCCURS 3. 07 A PIC 9 VALUE 5. 07 B PIC X. 05 C PIC X VALUE QUOTE.
