@@ -1,12 +1,13 @@
 -- Runs of small programs, worked out, and what the simulation tells of them.
 use Rattle.std.specs.Prelude.{◌≡◌, ◌+◌, ℕ, true, false, List, [], ◌∷◌, Option, Some, None}
-use Rattle.std.proofs.Common.{refl, arith as plain}
+use Rattle.std.proofs.Common.{refl, arith as natural}
 use Rattle.dec_num.specs.declared.types.Mode.TheVariants.{Trunc, Round}
 use Rattle.cob_tree.specs.declared.fault.Kind.TheVariants as kind
 use Rattle.cob_tree.specs.declared.form.Form.{Form}
 use Rattle.cob_tree.specs.declared.form.Form.TheVariants as form
 use Rattle.cob_tree.specs.declared.form.Usage.TheVariants as usage
 use Rattle.cob_tree.specs.declared.token.Num.{Num}
+use Rattle.cob_data.specs.Places.{plain}
 use Rattle.cob_data.specs.declared.layout.Sender.{Sender}
 use Rattle.cob_data.specs.declared.layout.Sender.TheVariants as sender
 use Rattle.cob_program.specs.declared.act.How.TheVariants as how
@@ -33,7 +34,7 @@ one_item f length value body = record {
 }
 
 abbrev add_to_0 : Num → Stmts → Stmts
-add_to_0 n ss = more_stmts (MkStmt 1 7 (arith (atom_sum n) (record { item = 0; how = how.Plus; mode = Trunc } ∷ []) None left_out no_stmts)) ss
+add_to_0 n ss = more_stmts (MkStmt 1 7 (arith (atom_sum n) (record { item = plain 0; how = how.Plus; mode = Trunc } ∷ []) None left_out no_stmts)) ss
 
 abbrev stopping : Stmts
 stopping = more_stmts (MkStmt 2 8 stop) no_stmts
@@ -63,7 +64,7 @@ abbrev doing : Form → ℕ → Stmts → Program
 doing f length body = one_item f length None body
 
 abbrev moving : Num → Stmts
-moving n = more_stmts (MkStmt 1 7 (move (sender.Number n) (0 ∷ []))) no_stmts
+moving n = more_stmts (MkStmt 1 7 (move (sender.Number n) (plain 0 ∷ []))) no_stmts
 
 abbrev signed_numeral : List ℕ → ℕ → Num
 signed_numeral digits scale = record { sign = 45; digits = digits; scale = scale }
@@ -74,8 +75,8 @@ a_digit_is_lost = refl
 
 -- MOVE 12.349 to 9(2)V99, and DISPLAY
 decimals_are_cut :
-    (after (doing (display 4 2) 4 (more_stmts (MkStmt 1 7 (move (sender.Number (numeral (49 ∷ 50 ∷ 51 ∷ 52 ∷ 57 ∷ []) 3)) (0 ∷ [])))
-    (more_stmts (MkStmt 2 8 (show (sender.Item 0 ∷ []))) no_stmts))) 2).world.shown ≡ 49 ∷ 50 ∷ 46 ∷ 51 ∷ 52 ∷ 10 ∷ []
+    (after (doing (display 4 2) 4 (more_stmts (MkStmt 1 7 (move (sender.Number (numeral (49 ∷ 50 ∷ 51 ∷ 52 ∷ 57 ∷ []) 3)) (plain 0 ∷ [])))
+    (more_stmts (MkStmt 2 8 (show (sender.Item (plain 0) ∷ []))) no_stmts))) 2).world.shown ≡ 49 ∷ 50 ∷ 46 ∷ 51 ∷ 52 ∷ 10 ∷ []
 decimals_are_cut = refl
 
 -- MOVE -5 to 9
@@ -83,7 +84,7 @@ a_sign_is_lost : (after (doing (display 1 0) 1 (moving (signed_numeral (53 ∷ [
 a_sign_is_lost = refl
 
 abbrev computing : Form → ℕ → Num → Program
-computing f length n = doing f length (more_stmts (MkStmt 1 7 (arith (atom_sum n) (record { item = 0; how = how.Whole; mode = Round } ∷ []) None left_out no_stmts)) no_stmts)
+computing f length n = doing f length (more_stmts (MkStmt 1 7 (arith (atom_sum n) (record { item = plain 0; how = how.Whole; mode = Round } ∷ []) None left_out no_stmts)) no_stmts)
 
 -- COMPUTE R ROUNDED = 99.94 and 99.95, R of 9(2)V9
 rounded_down : (after (computing (display 3 1) 3 (numeral (57 ∷ 57 ∷ 57 ∷ 52 ∷ []) 2)) 1).world.storage ≡ 57 ∷ 57 ∷ 57 ∷ []
@@ -109,8 +110,8 @@ abbrev by_sum : Num → Num → Sum
 by_sum a b = MkSum (more_parts (MkPart false (more_factors (MkFactor false false (number a)) (more_factors (MkFactor true false (number b)) no_factors))) no_parts)
 
 divided : (after (two_items (display 2 1) 2 (display 2 1) 2
-    (more_stmts (MkStmt 1 8 (arith (by_sum (numeral (50 ∷ 48 ∷ []) 0) (numeral (55 ∷ []) 0)) (record { item = 0; how = how.Whole; mode = Round } ∷ []) (Some 1) left_out no_stmts))
-    (more_stmts (MkStmt 2 9 (show (sender.Item 0 ∷ sender.Text (32 ∷ []) ∷ sender.Item 1 ∷ []))) no_stmts))) 2).world.shown
+    (more_stmts (MkStmt 1 8 (arith (by_sum (numeral (50 ∷ 48 ∷ []) 0) (numeral (55 ∷ []) 0)) (record { item = plain 0; how = how.Whole; mode = Round } ∷ []) (Some (plain 1)) left_out no_stmts))
+    (more_stmts (MkStmt 2 9 (show (sender.Item (plain 0) ∷ sender.Text (32 ∷ []) ∷ sender.Item (plain 1) ∷ []))) no_stmts))) 2).world.shown
     ≡ 50 ∷ 46 ∷ 57 ∷ 32 ∷ 48 ∷ 46 ∷ 52 ∷ 10 ∷ []
 divided = refl
 
@@ -164,7 +165,7 @@ twice_is_simulated =
     simulates twice (with_copies twice laid_twice) twice_is_whole (is_graph twice laid_twice twice_is_laid)
 
 listing_is_whole : IsWellFormed (listing None)
-listing_is_whole = ((refl, omega plain, (refl, tt, (refl, ((refl, tt, (refl, tt, tt)), (refl, tt, tt)), tt))), tt)
+listing_is_whole = ((refl, omega natural, (refl, tt, (refl, ((refl, tt, (refl, tt, tt)), (refl, tt, tt)), tt))), tt)
 
 abbrev graph_of_listing : Graph
 graph_of_listing = with_copies (listing None) laid_listing

@@ -1,7 +1,7 @@
 -- What small programs do along their graphs, worked out.
 use Rattle.std.specs.Prelude.{◌≡◌, ◌<◌, ◌≤◌, ◌^◌, ◌==◌, if◌then◌else◌, slice_index_or, ℕ, zero, suc, Bool, true, false, List, [], ◌∷◌, map, slice_get, Option, Some, None, ℤ, pos, negsuc}
 use Rattle.std.specs.List.{All}
-use Rattle.std.proofs.Common.{refl, sym, ap, ◌∙◌, inl, inr, arith as plain}
+use Rattle.std.proofs.Common.{refl, sym, ap, ◌∙◌, inl, inr, arith as natural}
 use Rattle.std.proofs.lemmas.Option.{none-some, same_Some}
 use Rattle.std.proofs.lemmas.Bool.Decides.{nat_tests}
 use Rattle.dec_num.specs.declared.types.Mode.TheVariants.{Trunc}
@@ -9,6 +9,7 @@ use Rattle.dec_num.specs.declared.types.Scaled.{Scaled}
 use Rattle.cob_tree.specs.declared.fault.Kind.TheVariants as kind
 use Rattle.cob_tree.specs.declared.form.Form.TheVariants as form
 use Rattle.cob_tree.specs.declared.form.Usage.TheVariants as usage
+use Rattle.cob_data.specs.Places.{plain}
 use Rattle.cob_data.specs.declared.layout.Item.{Item}
 use Rattle.cob_data.specs.declared.layout.Sender.TheVariants as sender
 use Rattle.cob_program.specs.declared.act.How.TheVariants as how
@@ -48,7 +49,7 @@ storage_of bytes counters = record { bytes = bytes; counters = counters }
 
 abbrev add_one : Act
 add_one =
-    arith (atom_sum (numeral (49 ∷ []) 0)) (record { item = 0; how = how.Plus; mode = Trunc } ∷ []) None
+    arith (atom_sum (numeral (49 ∷ []) 0)) (record { item = plain 0; how = how.Plus; mode = Trunc } ∷ []) None
     (given (stmt1 2 nothing no_stmts)) no_stmts
 
 abbrev adding : Program
@@ -127,8 +128,8 @@ eq_is a b e = grind (plain, nat_tests)
 
 number_in_order : (n : ℕ) (a : Act) (one two : Bool) → (n == 1) ≡ one → (n == 2) ≡ two → act_at adding n ≡ Some a →
     (1 ≤ n) × (n ≤ 2)
-number_in_order n a true two e f its = let is = eq_is n 1 e in (omega (plain, is), omega (plain, is))
-number_in_order n a false true e f its = let is = eq_is n 2 f in (omega (plain, is), omega (plain, is))
+number_in_order n a true two e f its = let is = eq_is n 1 e in (omega (natural, is), omega (natural, is))
+number_in_order n a false true e f its = let is = eq_is n 2 f in (omega (natural, is), omega (natural, is))
 number_in_order n a false false e f its = absurd (none-some a (sym none ∙ its))
   where
     none : act_at adding n ≡ None
@@ -142,14 +143,14 @@ its_only = slice_index_or adding.layout.items 0 (item_of 0 0 form.Group None)
 
 its_item : IsWellFormedItem adding.layout its_only
 its_item = record {
-  within = one_within (extent_of its_only) 3 refl (omega plain);
+  within = one_within (extent_of its_only) 3 refl (omega natural);
   extent = one_extent (extent_of its_only) refl;
   one = λ flat. refl;
   form = record {
-    number = record { some_digits = omega plain; at_most_18 = omega plain; whole = refl };
-    decimals = omega plain;
+    number = record { some_digits = omega natural; at_most_18 = omega natural; whole = refl };
+    decimals = omega natural;
   };
-  value = (tt, (λ takes. record { digits = omega plain; decimals = omega plain }));
+  value = (tt, (λ takes. record { digits = omega natural; decimals = omega natural }));
 }
 
 alone : (a b : ℕ) (i j : Item) → HasValue adding.layout a i → HasValue adding.layout b j → ¬ a ≡ b →
@@ -163,7 +164,7 @@ adding_is_whole = ((refl, ((refl, tt, tt), tt), tt), tt)
 
 adding_is_source : IsSourceGraph adding graph_of_adding
 adding_is_source = record {
-  items = record { items = only_item; files = λ k d l. absurd (omega (plain, l)) };
+  items = record { items = only_item; files = λ k d l. absurd (omega (natural, l)) };
   statements = (
     ((record { operands = refl; receivers = refl; results = refl; rest = refl }, (tt, tt), tt), tt),
     tt,
@@ -179,11 +180,11 @@ adding_is_source = record {
   where
     only_item : All (IsWellFormedItem adding.layout) adding.layout.items
     only_item zero d l = its_item
-    only_item (suc k) d l = absurd (omega (plain, l))
+    only_item (suc k) d l = absurd (omega (natural, l))
 
     only_sign : SeparateItemsHaveSigns adding.layout
     only_sign zero d l = tt
-    only_sign (suc k) d l = absurd (omega (plain, l))
+    only_sign (suc k) d l = absurd (omega (natural, l))
 
     only_flat : HasNoTables adding.layout
     only_flat zero i at = ap (λ (j : Item). j.stride) (sym (same_Some its_only i at))
@@ -200,7 +201,7 @@ comes_to_the_list : Reaches adding graph_of_adding [] (λ e row. row) 1 2 full
 comes_to_the_list = (
   2,
   full,
-  record { first = omega plain; last = omega plain },
+  record { first = omega natural; last = omega natural },
   refl,
   (
     refl,
@@ -240,7 +241,7 @@ goes_down :
 goes_down = (
   moment [] (Some (pos 2) ∷ []) [] (scaled (pos 2)) false false,
   ((pos 2, refl, refl), (λ f. f)),
-  (moment [] (Some (pos 1) ∷ []) [] (scaled (pos 2)) false false, (refl, (λ f. f (omega plain))), refl),
+  (moment [] (Some (pos 1) ∷ []) [] (scaled (pos 2)) false false, (refl, (λ f. f (omega natural))), refl),
 )
 
 -- the least number of 18 digits has none below it
@@ -250,7 +251,7 @@ at_its_end :
 at_its_end = inr (
   moment [] (Some (negsuc 999999999999999998) ∷ []) [] (scaled (negsuc 999999999999999998)) false false,
   ((negsuc 999999999999999998, refl, refl), (λ f. f)),
-  inl (inr (refl, (λ (f : 1000000000000000000 < 10 ^ 18). omega plain))),
+  inl (inr (refl, (λ (f : 1000000000000000000 < 10 ^ 18). omega natural))),
 )
 
 -- ---- A. PERFORM B. PERFORM B. STOP RUN. B. DISPLAY 'x'.
@@ -310,7 +311,7 @@ laid_leaving = more_laid_paras no_laid
     (more_laid_paras (more_laid (MkLaid 3 ending) no_laid) no_laid_paras))
 
 leaving_is_laid : IsMainCopy leaving laid_leaving
-leaving_is_laid = (tt, (((refl, (refl, ((refl, (refl, omega plain, omega plain)), tt))), tt), (((refl, refl), tt), tt)))
+leaving_is_laid = (tt, (((refl, (refl, ((refl, (refl, omega natural, omega natural)), tt))), tt), (((refl, refl), tt), tt)))
 
 -- no edge leads to the node that counts down
 leaving_edges : (with_copies leaving laid_leaving).edges

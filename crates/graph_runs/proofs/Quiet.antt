@@ -4,6 +4,7 @@ use Rattle.std.specs.Prelude.{is_some, slice_get}
 use Rattle.std.specs.List.{list_any}
 use Rattle.std.specs.Option.{option_map, option_map_or}
 use Rattle.cob_tree.specs.declared.form.Form.TheVariants as form
+use Rattle.cob_data.specs.Places.{plain}
 use Rattle.cob_data.specs.declared.layout.FileDecl.{FileDecl}
 use Rattle.cob_data.specs.declared.layout.Item.{Item}
 use Rattle.cob_data.specs.declared.layout.Layout.{Layout}
@@ -106,8 +107,8 @@ module _ (l : Layout) where
 
   -- ---- MOVE
 
-  item_bytes_none : (place : ℕ) → NoCounts (item_bytes l place)
-  item_bytes_none place = by_item (item_at l place)
+  item_bytes_none : (place : Place) → NoCounts (item_bytes l place)
+  item_bytes_none place = by_item (item_at l place.item)
     where
       by_item : (o : Option Item) → NoCounts (option_map_or (λ i. part.bytes_in i.offset i.length ∷ []) o [])
       by_item None = tt
@@ -117,13 +118,13 @@ module _ (l : Layout) where
   receivers_none x [] = tt
   receivers_none x (place ∷ places) =
       both (receiver_parts l x place) (receivers_parts l x places)
-      (either (gets_value l (form_at l place) x) _ (item_bytes l place) ((λ m f. f), tt) (item_bytes_none place))
+      (either (gets_value l (form_at l place.item) x) _ (item_bytes l place) ((λ m f. f), tt) (item_bytes_none place))
       (receivers_none x places)
 
   move_none : (x : Sender) (places : List Place) → NoCounts (move_parts l x places)
   move_none x places =
       both _ (receivers_parts l x places)
-      (either (list_any (λ place. is_read_for l (form_at l place) x) places) (number_reads x) [] (number_reads_none x) tt)
+      (either (list_any (λ place. is_read_for l (form_at l place.item) x) places) (number_reads x) [] (number_reads_none x) tt)
       (receivers_none x places)
 
   -- ---- conditions
@@ -140,7 +141,7 @@ module _ (l : Layout) where
   member_none : (place : ℕ) (ps : List Pair) → NoCounts (member_reads l place ps)
   member_none place [] = tt
   member_none place (p ∷ ps) =
-      both (text_reads l (sender.Item place)) (end_reads l (p ∷ ps)) (text_reads_none (sender.Item place))
+      both (text_reads l (sender.Item (plain place))) (end_reads l (p ∷ ps)) (text_reads_none (sender.Item (plain place)))
       (end_reads_none (p ∷ ps))
 
   compare_none : (a b : Sum) → NoCounts (compare_parts a b)
@@ -181,11 +182,11 @@ module _ (l : Layout) where
 
   into_none : (o : Option ℕ) → NoCounts (into_parts l o)
   into_none None = tt
-  into_none (Some place) = item_bytes_none place
+  into_none (Some place) = item_bytes_none (plain place)
 
   from_none : (r : ℕ) (o : Option Sender) → NoCounts (from_parts l r o)
   from_none r None = tt
-  from_none r (Some x) = move_none x (r ∷ [])
+  from_none r (Some x) = move_none x (plain r ∷ [])
 
 -- ---- edges
 
@@ -195,7 +196,7 @@ module _ (p : Program) (statement : ℕ) where
 
   assign_none : (a : Act) → None_ (assign_parts p statement a)
   assign_none (move x places) = move_none p.layout x places
-  assign_none (perform body (varying after place start by t)) = move_none p.layout start (place ∷ [])
+  assign_none (perform body (varying after place start by t)) = move_none p.layout start (plain place ∷ [])
   assign_none (read f into end fine) = into_none p.layout into
   assign_none (write r from) = from_none p.layout r from
   assign_none (perform body once) = tt

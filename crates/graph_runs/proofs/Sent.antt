@@ -121,7 +121,7 @@ module _ (l : Layout) (whole : HasWellFormedItems l) (storage : List ℕ) where
 
   sender_short : (x : Sender) (v : Scaled) → IsNumber l x → number_of l storage x ≡ Some v →
       unsigned_abs v.units < 10 ^ 18
-  sender_short (sender.Item place) v is e = item_short place v (item_at l place) refl is.number e
+  sender_short (sender.Item place) v is e = item_short place.item v (item_at l place.item) refl is.number e
   sender_short (sender.Number n) v is e =
       let bound = literal_within n in
       short_within (length n.digits) v.units is.literal.digits
