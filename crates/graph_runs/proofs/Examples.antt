@@ -124,7 +124,7 @@ a_size_error_without = inr (
 -- ---- the program keeps what every source's does
 
 eq_is : (a b : ℕ) → (a == b) ≡ true → a ≡ b
-eq_is a b e = grind (plain, nat_tests)
+eq_is a b e = grind (natural, nat_tests)
 
 number_in_order : (n : ℕ) (a : Act) (one two : Bool) → (n == 1) ≡ one → (n == 2) ≡ two → act_at adding n ≡ Some a →
     (1 ≤ n) × (n ≤ 2)
