@@ -88,11 +88,11 @@ module _ (contents : Contents) (place : ℕ) (there : Bool) where
 
     from_kept : (from : Option Sender) (r : ℕ) → KeptBy (met (move_if p.layout from r w))
     from_kept None r = kept
-    from_kept (Some x) r = moved x (r ∷ [])
+    from_kept (Some x) r = moved x (plain r ∷ [])
 
     assigned_kept : (a : Act) → KeptBy (edge_assigned p number c w a)
     assigned_kept (move x places) = moved x places
-    assigned_kept (perform body (varying after item start by t)) = moved start (item ∷ [])
+    assigned_kept (perform body (varying after item start by t)) = moved start (plain item ∷ [])
     assigned_kept (read f into end fine) = into_kept f into
     assigned_kept (write r from) = from_kept from r
     assigned_kept a = tt

@@ -164,13 +164,13 @@ module _ (p : Program) (number : ℕ) (told : Contents) (paths : List (List ℕ)
 
   moved_if : (from : Option Sender) (r : ℕ) → FollowsBy action.Assign (write r from)
   moved_if None r = (refl, s)
-  moved_if (Some x) r = stored_follows (after_move p.layout w.storage x (r ∷ []))
+  moved_if (Some x) r = stored_follows (after_move p.layout w.storage x (plain r ∷ []))
 
   assigned_turns : (body : Body) (turns : Turns) → FollowsBy action.Assign (perform body turns)
   assigned_turns body once = refl
   assigned_turns body (times x) = refl
   assigned_turns body (until after t) = refl
-  assigned_turns body (varying after item start by t) = stored_follows (after_move p.layout w.storage start (item ∷ []))
+  assigned_turns body (varying after item start by t) = stored_follows (after_move p.layout w.storage start (plain item ∷ []))
 
   into_follows : (f : ℕ) (into : Option ℕ) → Follows told paths text (edge_taken (into_if p.layout f into w))
       (edge_taken (into_if p.layout f into as_seen))

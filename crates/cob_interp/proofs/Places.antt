@@ -111,13 +111,13 @@ module _ (p : Program) (number : ℕ) (w : World) where
 
   moved_if : (from : Option Sender) (r : ℕ) → Keeps w (edge_assigned p number None w (write r from))
   moved_if None r = stays w w refl
-  moved_if (Some x) r = stored_keeps (after_move p.layout w.storage x (r ∷ []))
+  moved_if (Some x) r = stored_keeps (after_move p.layout w.storage x (plain r ∷ []))
 
   assigned_turns : (body : Body) (turns : Turns) → Keeps w (edge_assigned p number None w (perform body turns))
   assigned_turns body once = tt
   assigned_turns body (times x) = tt
   assigned_turns body (until after t) = tt
-  assigned_turns body (varying after item start by t) = stored_keeps (after_move p.layout w.storage start (item ∷ []))
+  assigned_turns body (varying after item start by t) = stored_keeps (after_move p.layout w.storage start (plain item ∷ []))
 
   into_keeps : (f : ℕ) (into : Option ℕ) → Keeps w (edge_taken (into_if p.layout f into w))
   into_keeps f None = stays w w refl
