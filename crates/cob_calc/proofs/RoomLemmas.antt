@@ -25,6 +25,7 @@ use Rattle.cob_calc.specs.Receiving.{is_whole, IsSmallSum, AreSmall, CanWork, cu
 use Rattle.cob_calc.specs.Arithmetic.{quotient_at, is_small_rest_at, is_small_rest, is_small_result}
 use Rattle.cob_calc.proofs.Within as within
 use Rattle.dec_num.proofs.Shifting.{near_shift}
+use Rattle.cob_data.specs.declared.layout.Place.{Place}
 use Rattle.cob_program.proofs.SmallSums.{small_sum_bound}
 
 -- ---- results
