@@ -7,9 +7,9 @@ _cobsound_options() {
   case $1 in
     report)
       echo --certs --html --sarif --format --witness --timeout --jobs --exit-zero --baseline --write-baseline \
-        --suppressions --shard --merge --explain --prepare --prepared -I --form --encoding --version --help
+        --suppressions --shard --merge --explain --prepare --prepared -I --form --encoding --assume --version --help
       ;;
-    prepare) echo -I -o --form --encoding --places --quiet --help ;;
+    prepare) echo -I -o --form --encoding --assume --places --quiet --help ;;
     witness) echo --seconds --runs -o --seed --jobs --prepare -I --form --encoding --help ;;
     run) echo --steps --help ;;
     *) echo --help ;;

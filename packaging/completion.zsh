@@ -22,6 +22,7 @@ _cobsound_report() {
     '*-I[a folder of copybooks]:folder:_files -/' \
     '--form[the form of the source]:form:(fixed free)' \
     '--encoding[its encoding]:encoding:(auto utf-8 latin-1 cp037 cp1140 cp273)' \
+    '--assume[statements give way to what allows more]' \
     '--version[the version]' \
     '--help[help]' \
     '*:source:_files'
@@ -33,6 +34,7 @@ _cobsound_prepare() {
     '-o[where the prepared source is written]:file:_files' \
     '--form[the form of the source]:form:(fixed free)' \
     '--encoding[its encoding]:encoding:(auto utf-8 latin-1 cp037 cp1140 cp273)' \
+    '--assume[statements give way to what allows more]' \
     '--places[put places before the lines of an answer]:map:_files' \
     '--quiet[tell nothing of rewritings]' \
     '--help[help]' \

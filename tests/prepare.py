@@ -9,6 +9,8 @@ is shown.
 
 import json
 import pathlib
+import re
+import subprocess
 import sys
 import tempfile
 
@@ -25,6 +27,8 @@ from cobsound_prepare.tokens import Block, LineKind, Origin  # noqa: E402
 from cobsound_prepare.work import Work  # noqa: E402
 
 KINDS = {"plain", "border", "left"}
+ASSUMED = {rewriting.name for rewriting in REWRITINGS if rewriting.is_assumed}
+ALARM = re.compile(r"([A-Z]+) statement [0-9]+ line ([0-9]+)")
 
 
 def rows():
@@ -51,14 +55,28 @@ def prepared(source, folders=(), **more):
 def of_row(name, row, program):
     """The prepared source answers as its row says, and the rewriting was made, or not where it must leave it alone."""
     source = source_of(row)
-    found = prepared(source)
+    found = prepared(source, assumes=name in ASSUMED)
     made = {applied.rewriting.name for applied in found.applied}
     if (name in made) != (row["kind"] != "left"):
         return f"prepare, {name}, {row['rule']}: {sorted(made)} were made"
     if row.get("same") and found.text != source:
         return f"prepare, {name}, {row['rule']}: {found.text!r} in place of the source"
+    if "alarms" in row:
+        alarms = alarms_of(found, program)
+        wanted = [] if alarms == row["alarms"] else [f"prepare, {name}, {row['rule']}: {alarms} of {found.text}"]
+        return wanted[0] if wanted else None
     prepared_row = {**row, "source": found.text}
     return programs.case_of(f"prepare, {name}", prepared_row).tried(program)
+
+
+def alarms_of(found, program):
+    """The kind of each alarm of a prepared source, with the line of the source from which its line comes."""
+    with tempfile.TemporaryDirectory() as folder:
+        pathlib.Path(folder, "S").write_bytes(encoded(found.text))
+        done = subprocess.run([program, "analyse", "S", "C"], cwd=folder, capture_output=True, text=True)
+    alarms = [ALARM.fullmatch(line) for line in done.stdout.splitlines()]
+    told = [f"{alarm[1]} line {found.map.place(int(alarm[2])).line}" for alarm in alarms if alarm]
+    return told if done.returncode < 2 else done.stdout.splitlines()
 
 
 def tokens_of(text):

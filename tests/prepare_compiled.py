@@ -54,5 +54,5 @@ def checks():
         print(f"{COMPILER} isn't installed: prepared sources aren't compared with the originals under it")
         return
     for name, row in rows():
-        if row.get("cobc", ()) is not None:
+        if "alarms" not in row and row.get("cobc", ()) is not None:
             yield lambda name=name, row=row: of_row(name, row)

@@ -69,7 +69,7 @@ KINDS = ("SIZE", "CLASS")
 CALL = ("--prepare", "-I", "books")
 
 # the copybook with a statement that isn't in the profile
-REFUSED = {**FILES, ADD1: "\n               CONTINUE INITIALIZE WHAT\n"}
+REFUSED = {**FILES, ADD1: "\n               CONTINUE ALTER WHAT\n"}
 HEAD = "prepared: note: what is told holds of the prepared sources, which `cobsound prepare -I books SOURCE` shows"
 
 
@@ -166,9 +166,9 @@ def of_a_refusal(folder):
     place, other = f"{ADD1}:2:25", "books/sums.cpy:2:12"
     copied = [f"note: copied by {file} line {line}" for file, line in COPIES]
     wanted = [
-        f"{place}: error: E8: INITIALIZE isn't in the profile",
+        f"{place}: error: E8: ALTER isn't in the profile",
         *(f"{place}: {line}" for line in copied),
-        f"{place}: note: write MOVE ZERO and MOVE SPACES",
+        f"{place}: note: write an IF round a GO TO",
     ]
     missing = [
         f"{other}: error: copybook NONE isn't found in books",
@@ -305,9 +305,40 @@ def of_a_refused_witness(folder):
     return told("prepared, a refused witness", found, [(2, f"{ADD1}: E8 line 2\n", ""), (2, missing, "")])
 
 
+# A called program may change what it is handed.
+ASSUMING = """\
+       IDENTIFICATION DIVISION.
+       PROGRAM-ID. T.
+       DATA DIVISION.
+       WORKING-STORAGE SECTION.
+       77 A PIC 9(3) VALUE 1.
+       PROCEDURE DIVISION.
+           CALL 'RATES' USING A
+           ADD 1 TO A ON SIZE ERROR STOP RUN.
+"""
+
+
+def of_assumptions(folder):
+    """What is assumed stands in the first line, and in SARIF; it isn't for `run`."""
+    (folder / "call.cob").write_text(ASSUMING)
+    words = ["--prepare", "--assume", "call.cob"]
+    status, text, _ = reported(words, folder)
+    sarif = json.loads(reported([*words, "--format", "sarif"], folder)[1])
+    lines = text.splitlines()
+    found = [line for line in lines if ": warning: " in line]
+    assumed = "a called program changes nothing but what it is handed by reference"
+    heads = [assumed in lines[0], assumed in sarif["runs"][0]["properties"]["prepared"]]
+    plain = reported(["--prepare", "call.cob"], folder)[0]
+    refused, _, why = called(["call.cob", "--prepare", "--assume"], folder)
+    wanted = (1, [f"call.cob:8: warning: CLASS: {SENTENCES['CLASS']} (statement 3)"], [True, True], 2, 3, True)
+    found = (status, found, heads, plain, refused, "can't be run" in why)
+    return told("prepared, what is only assumed", found, wanted)
+
+
 def checks():
     for check in (of_text, of_json, of_sarif, of_servers, of_pages, of_a_baseline, of_shards, of_forms, of_wrong_calls):
         yield lambda check=check: in_folder(check)
     yield lambda: in_folder(of_a_witness)
     yield lambda: in_folder(of_a_refusal, REFUSED)
     yield lambda: in_folder(of_a_refused_witness, REFUSED)
+    yield lambda: in_folder(of_assumptions)

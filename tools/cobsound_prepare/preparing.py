@@ -11,7 +11,7 @@ from .libraries import Library, is_file
 from .lines import TAB, Form, guessed_form
 from .places import Map, mapped
 from .printing import printed
-from .rewritings import REWRITINGS
+from .rewritings import NAMING, SAYING
 from .tokens import Block, LineKind, Note, Origin, Place, Token, raw_column
 from .work import Rewriting, Work
 
@@ -38,10 +38,14 @@ class Prepared:
 
 
 def prepare(
-    path: str | os.PathLike[str], folders: Sequence[str], form: Form | None = None, encoding: str = "auto"
+    path: str | os.PathLike[str],
+    folders: Sequence[str],
+    form: Form | None = None,
+    encoding: str = "auto",
+    assumes: bool = False,
 ) -> Prepared:
-    """Prepares the source at a path, with copybooks in its folder and in these. A SourceError tells why it can't, an
-    OSError what can't be read."""
+    """Prepares the source at a path, with copybooks in its folder and in these; where it `assumes`, statements give way
+    to what allows more than they do. A SourceError tells why it can't, an OSError what can't be read."""
     library = Library(list(folders), encoding)
     origin = Origin(os.fspath(path))
     if os.path.exists(path) and not is_file(path):
@@ -53,12 +57,12 @@ def prepare(
     if asks_for_debugging(tokens):
         expander = Expander(library, form, True)
         tokens = expander.expanded(origin)
-    work = Work(lexed(with_replace(tokens)), library.encoding, list(odd_lines(expander.blocks)))
+    work = Work(lexed(with_replace(tokens)), library.encoding, list(odd_lines(expander.blocks)), assumes)
     applied = tuple(rewritten(work))
-    made = list(printed(work.tokens, expander.blocks))
-    text = "".join(f"{line.text.rstrip(' ') if line.columns else line.text}\n" for line in made)
+    lines = list(printed(work.tokens, expander.blocks))
+    text = "".join(f"{line.text.rstrip(' ') if line.columns else line.text}\n" for line in lines)
     notes = tuple(work.notes)
-    return Prepared(text, mapped(made, origin), tuple(library.read), library.encoding, applied, notes)
+    return Prepared(text, mapped(lines, origin), tuple(library.read), library.encoding, applied, notes)
 
 
 def odd_lines(blocks: list[Block]) -> Iterator[Note]:
@@ -86,10 +90,18 @@ def asks_for_debugging(tokens: list[Token]) -> bool:
 
 
 def rewritten(work: Work) -> Iterator[Applied]:
-    """Makes all rewritings, in the order of their table."""
+    """Makes all rewritings, in the order of their tables."""
+    yield from made(work, SAYING)
+    if work.unknown:
+        work.unknown.declare(work)
+    yield from made(work, NAMING)
+
+
+def made(work: Work, rewritings: tuple[Rewriting, ...]) -> Iterator[Applied]:
     words = work.words()
-    for rewriting in REWRITINGS:
-        if rewriting.words and not rewriting.words & words:
+    for rewriting in rewritings:
+        is_asked = work.assumes or not rewriting.is_assumed
+        if not is_asked or rewriting.words and not rewriting.words & words:
             continue
         count = rewriting.apply(work)
         if count:

@@ -2,11 +2,16 @@
 
 from collections.abc import Callable, Iterator
 from dataclasses import dataclass, field
+from typing import TYPE_CHECKING
 
 from .lexing import with_pictures
 from .scanner import Text, scanned
 from .tokens import Block, Kind, Note, Token
 
+if TYPE_CHECKING:
+    from .unknown import Unknown
+
+LONGEST = 30  # the characters of a name
 END = Token(Kind.STOP, ".", Block.__new__(Block), 0, 0, False)
 
 
@@ -17,6 +22,8 @@ class Work:
     tokens: list[Token]
     encoding: str = "utf-8"
     notes: list[Note] = field(default_factory=list)
+    assumes: bool = False  # whether statements may give way to what allows more than they do
+    unknown: "Unknown | None" = None  # what stands for contents of which nothing is known
 
     def note(self, token: Token, text: str) -> None:
         """Tells what stays as it is, and that the program will refuse it."""
@@ -64,6 +71,7 @@ class Rewriting:
     assumes: str
     words: frozenset[str]
     apply: Callable[[Work], int]
+    is_assumed: bool = False  # it allows more than the statement does, and is made where that is asked for alone
 
 
 def at_edits(words: str, change: Callable[[list[Token], int], Edit | None]) -> Callable[[Work], int]:
@@ -136,3 +144,13 @@ def sentences(tokens: list[Token], first: int, behind: int) -> Iterator[tuple[in
         end = min(behind_stop(tokens, first), behind)
         yield first, end
         first = end
+
+
+def free_name(wanted: str, used: set[str]) -> str:
+    """The name, or that with a number behind it, that isn't used."""
+    name = wanted[:LONGEST].rstrip("-")
+    number = 2
+    while name.upper() in used:
+        name = f"{wanted[: LONGEST - 1 - len(str(number))].rstrip('-')}-{number}"
+        number += 1
+    return name

@@ -27,7 +27,7 @@ def parsed(words: list[str]) -> argparse.Namespace:
     if not options.paths and not options.explain:
         parser.error("the following arguments are required: SOURCE")
     if not options.prepare and (options.kept or not Way.of(options).is_plain):
-        parser.error("-I, --form, --encoding and --prepared go with --prepare")
+        parser.error("-I, --form, --encoding, --assume and --prepared go with --prepare")
     if options.prepare and options.merge:
         parser.error("--merge takes sources as the shards have prepared them")
     if options.shard and options.merge:

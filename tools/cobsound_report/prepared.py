@@ -17,6 +17,7 @@ from cobsound_prepare.encodings import decoded
 from cobsound_prepare.encodings import lines_of as text_lines
 from cobsound_prepare.options import Way
 from cobsound_prepare.places import Map
+from cobsound_prepare.rewritings import assumptions
 from cobsound_prepare.tokens import Note, SourceError
 from cobsound_prepare.tokens import Place as Found
 
@@ -60,9 +61,10 @@ class Preparation:
         return replace(source, path=str(path), original=original)
 
     def told(self) -> str:
-        """Of what all that is told holds, and where that is to be seen."""
+        """Of what all that is told holds, where that is to be seen, and what is assumed."""
         where = f"are kept below {self.kept}" if self.kept else f"`{self.way.command()} SOURCE` shows"
-        return shown(os.fsencode(f"what is told holds of the prepared sources, which {where}"))
+        assumed = f"; assumed where statements gave way: {'; '.join(assumptions())}" if self.way.assumes else ""
+        return shown(os.fsencode(f"what is told holds of the prepared sources, which {where}{assumed}"))
 
     def all_made(self, sources: list[Source], jobs: int) -> list[Source]:
         """Each source as it was prepared, side by side in processes of their own."""

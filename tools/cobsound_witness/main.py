@@ -54,8 +54,10 @@ def parsed(words: list[str]) -> argparse.Namespace:
     parser.add_argument("--jobs", metavar="N", type=number, help="runs at a time; a processor each without it")
     told = "prepare the source first, as `cobsound prepare` does; places are those of the files from which it is made"
     parser.add_argument("--prepare", action="store_true", help=told)
-    add_way(parser)
+    add_way(parser, can_assume=False)
     options = parser.parse_args(words)
+    if options.assume:
+        parser.error("what is only assumed can't be run: --assume goes with cobsound report alone")
     if not options.prepare and not Way.of(options).is_plain:
         parser.error("-I, --form and --encoding go with --prepare")
     return options

@@ -1,19 +1,15 @@
 -- What the work of an edge of a source's graph gives a walk with packs.
-use Rattle.std.proofs.Common.{◌≡◌, Bool, List, Vec, Some, sym, subst}
-use Rattle.std.specs.declared.alloc.Global.{Global}
+use Rattle.std.proofs.Common.{List, Some, sym, subst}
 use Rattle.std.specs.List.{AllByRecursion}
-use Rattle.std.proofs.Props.{props}
 use Rattle.std.proofs.Math.Logic.{∥∥₁_elim}
 use Rattle.cob_program.specs.Act.{Stmt, MkStmt, Program}
 use Rattle.cob_runs.specs.declared.action.Action.{Action}
-use Rattle.cob_runs.specs.declared.action.Cell.{Cell}
 use Rattle.cob_graph.specs.declared.graph.Edge.{Edge}
 use Rattle.cob_graph.specs.declared.graph.Graph.{Graph}
 use Rattle.edge_parts.specs.PartView.{edge_parts}
 use Rattle.edge_parts.specs.declared.work.EdgeWork.{EdgeWork}
 use Rattle.graph_runs.specs.Sources.{IsSourceGraph}
 use Rattle.cell_laws.specs.Layer.{left}
-use Rattle.cell_layer.specs.Forgetting.{AreMarks}
 use Rattle.cell_layer.specs.NumberedStatements.{act_in}
 use Rattle.cell_layer.specs.Works.{program_of, statement_of, act_of, IsLeft, IsWorkOf}
 use Rattle.diff_layer.specs.declared.pack.plans.PackPlan.{PackPlan}
@@ -44,10 +40,3 @@ module _ (p : Program) (g : Graph) (x : Edge) (w : EdgeWork) (work : ∥ IsWorkO
   pub plans_of_work : (plans : List PackPlan) → ArePlansOf p plans → ArePlansOf (program_of w) plans
   plans_of_work plans all =
       ∥∥₁_elim work (plans_prop (program_of w) plans) (λ is. subst (λ q. ArePlansOf q plans) (sym is.program) all)
-
-  pub marks_of_work : (cells found : List Cell) (rows lent : List (Vec Bool Global)) → found ≡ cells → lent ≡ rows → AreMarks p cells rows →
-      AreMarks (program_of w) found lent
-  marks_of_work cells found rows lent same these marked =
-      ∥∥₁_elim work (hlevel props)
-      (λ is. subst (λ q. AreMarks q found lent) (sym is.program)
-      (subst (λ cs. AreMarks p cs lent) (sym same) (subst (AreMarks p cells) (sym these) marked)))

@@ -16,7 +16,7 @@ use Rattle.cob_program.specs.declared.act.How.{How}
 use Rattle.cob_program.specs.declared.act.How.TheVariants as how
 use Rattle.cob_program.specs.Sum.{Sum, MkSum, no_parts, more_parts, MkPart, Atom, no_factors, more_factors, MkFactor, item, number}
 use Rattle.cob_program.specs.Logic.{Test, numbers, test}
-use Rattle.cob_program.specs.Act.{MkStmt, no_stmts, more_stmts, Phrase, left_out, given, Act, arith, if_, Program}
+use Rattle.cob_program.specs.Act.{no_stmts, Phrase, left_out, given, Act, arith, if_, Program}
 use Rattle.cob_program.specs.Act as act
 use Rattle.cob_runs.specs.declared.action.Action.TheVariants as action
 use Rattle.interval_domain.specs.Corners.{interval}

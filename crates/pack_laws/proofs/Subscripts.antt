@@ -1,5 +1,5 @@
 -- What matrices show of a subscript: where its ends are those of occurrences, no run meets its fault.
-use Rattle.std.proofs.Common.{◌≡◌, ◌≤◌, ℕ, ◌*◌, ◌^◌, Bool, true, false, ◌||◌, ◌⊎◌, if◌then◌else◌, inl, inr, List, [], Option, Some, None, Err, ℤ, pos, neg_ℤ, ◌*ℤ◌, ◌≤ℤ◌, refl, sym, ap, subst, ◌∙◌, arith}
+use Rattle.std.proofs.Common.{◌≡◌, ◌≤◌, ℕ, ◌*◌, ◌^◌, Bool, true, false, ◌||◌, ◌⊎◌, if◌then◌else◌, inl, inr, List, [], Option, Some, None, Err, ℤ, pos, neg_ℤ, ◌*ℤ◌, ◌≤ℤ◌, refl, ap, subst, ◌∙◌, arith}
 use Rattle.std.specs.Prelude.{IfSome, int_le}
 use Rattle.std.proofs.lemmas.Int.{ints}
 use Rattle.dec_num.specs.declared.types.Scaled.{Scaled}
@@ -31,7 +31,6 @@ use Rattle.diff_steps.specs.Moments.{Seen2}
 use Rattle.diff_steps.specs.Stores.{upper_negated}
 use Rattle.diff_steps.specs.Forms.{is_whole_sender, own_form, subscript_form}
 use Rattle.diff_steps.specs.Clearing.{high_in_table, low_in_table, high_found, low_found, ends_in_table}
-use Rattle.pack_laws.specs.Orders.{IsShown}
 use Rattle.pack_laws.specs.Agreeing.{ArePacksOf, Agrees2}
 use Rattle.pack_laws.specs.Showing.{ShowsAt}
 use Rattle.pack_laws.proofs.FormsShowSums.{item_told}

@@ -2,8 +2,7 @@
 
 from ..procedures import headers, named
 from ..tokens import Kind
-from ..work import Rewriting, Work, token_at
-from .names import free_name
+from ..work import Rewriting, Work, free_name, token_at
 
 
 def apply(work: Work) -> int:

@@ -3,22 +3,11 @@
 import re
 
 from ..tokens import Kind, Token
-from ..work import Rewriting, Work, division, token_at
+from ..work import LONGEST, Rewriting, Work, division, free_name, token_at
 
-LONGEST = 30
 LETTER = re.compile("[^0-9-]")
 # Reserved by the program, and by no compiler or only in places of their own.
 OWN = ("RECORD-SIZE", "END-PROGRAM", "RECORDING", "ID")
-
-
-def free_name(wanted: str, used: set[str]) -> str:
-    """The name, or that with a number behind it, that isn't used."""
-    name = wanted[:LONGEST].rstrip("-")
-    number = 2
-    while name.upper() in used:
-        name = f"{wanted[: LONGEST - 1 - len(str(number))].rstrip('-')}-{number}"
-        number += 1
-    return name
 
 
 def is_wrong(tokens: list[Token], at: int) -> bool:

@@ -1,8 +1,7 @@
 """RETURN-CODE."""
 
 from ..tokens import Kind, Token
-from ..work import Rewriting, Work, division, line_of, token_at
-from .names import free_name
+from ..work import Rewriting, Work, division, free_name, line_of, token_at
 
 
 def apply(work: Work) -> int:

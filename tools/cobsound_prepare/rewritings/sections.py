@@ -5,8 +5,7 @@ from dataclasses import dataclass, field
 
 from ..procedures import Header, behind_name, headers, named
 from ..tokens import Kind, Token
-from ..work import Rewriting, Work, division, token_at
-from .names import free_name
+from ..work import Rewriting, Work, division, free_name, token_at
 
 
 @dataclass

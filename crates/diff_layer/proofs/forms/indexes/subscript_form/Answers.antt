@@ -5,8 +5,8 @@ use Rattle.diff_layer.specs.Views.{item_cell, program_of, known_in}
 use Rattle.diff_layer.proofs.Over.{own_over, few, is_of_pack}
 use Rattle.diff_layer.proofs.forms.indexes.subscript_form.Goals as goal
 
-pub returns-then-item_decimals-clause-of_pack : goal.returns-then-item_decimals-clause-of_pack
-returns-then-item_decimals-clause-of_pack c =
+pub returns-then-item_decimals-eq0-clause-of_pack : goal.returns-then-item_decimals-eq0-clause-of_pack
+returns-then-item_decimals-eq0-clause-of_pack c =
     let pack = c.args.pack.now in
     let items = c.args.items.now in
     let size = length pack.cells.now in

@@ -6,11 +6,11 @@ use Rattle.cell_steps.specs.OwnRanges.{owns}
 use Rattle.cell_layer.specs.ProgramRows.{IsRowOf}
 use Rattle.cell_layer.specs.Works as works
 use Rattle.cell_layer.proofs.Leaving as cells
-use Rattle.cell_layer.proofs.Leaving.{can_walk}
+use Rattle.cell_layer.proofs.Leaving.{can_walk, marks_of_work}
 use Rattle.diff_layer.specs.GraphWorks.{program_of, graph_of, packs_of, edge_of, matrices_of, cells_at}
 use Rattle.diff_layer.specs.Walks.{statement_clears2}
 use Rattle.diff_layer.proofs.ClearedByCells.{all_cleared_by_cells}
-use Rattle.diff_layer.proofs.EdgeOperands.{of_edge, plans_of_work, marks_of_work}
+use Rattle.diff_layer.proofs.EdgeOperands.{of_edge, plans_of_work}
 use Rattle.diff_layer.proofs.EdgesWalked.{cleared_by, cleared_by_none}
 use Rattle.diff_layer.proofs.layer.edges.edge_cleared.Goals as goal
 

@@ -1,8 +1,8 @@
 use Rattle.std.proofs.Common.{◌∙◌}
 use Rattle.interval_domain.specs.Rows.{cells_of}
-use Rattle.cell_layer.proofs.Leaving.{can_walk}
+use Rattle.cell_layer.proofs.Leaving.{can_walk, marks_of_work}
 use Rattle.diff_layer.specs.GraphWorks.{program_of, graph_of, packs_of, edge_of, matrices_of}
-use Rattle.diff_layer.proofs.EdgeOperands.{of_edge, plans_of_work, marks_of_work}
+use Rattle.diff_layer.proofs.EdgeOperands.{of_edge, plans_of_work}
 use Rattle.diff_layer.proofs.EdgesWalked.{walks_it, walks_none}
 use Rattle.diff_layer.proofs.layer.edges.walk_edge.Goals as goal
 
