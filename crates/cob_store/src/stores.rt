@@ -140,7 +140,13 @@ fn fit_in(layout: &Layout, place: Place, value: Scaled, mode: Mode) -> Fit
 /// Stores the value in the item at a place, cut or rounded to its scale, where its digits hold it; otherwise storage stays
 /// as it is (ISO 1989:1985, "The ROUNDED phrase"). Answers whether it is held.
 #[inline(always)]
-pub fn store_at(layout: &Layout, storage: &mut [u8], place: Place, value: Scaled, mode: Mode) -> bool
+pub fn store_at(
+    layout: &Layout,
+    storage: &mut [u8],
+    place: Place,
+    value: Scaled,
+    mode: Mode,
+) -> bool
     requires sound { HasWellFormedItems layout.now }
     requires whole { length storage.old ≡ layout.now.storage }
     requires takes { IsTrue (takes_number (form_at layout.now place.item)) }

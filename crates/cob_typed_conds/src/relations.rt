@@ -232,7 +232,12 @@ fn numeric_item(
     ensures noted { OnOk result (findings.new.items ≡ noted line findings.old.items (numeric_item scope.now reference.now).broken) }
 {
     let place = or_leave!(scope.the_place(findings, line, reference));
-    or_leave!(demand(findings, line, Rule::Q5, is_testable(scope.form(place.item))));
+    or_leave!(demand(
+        findings,
+        line,
+        Rule::Q5,
+        is_testable(scope.form(place.item))
+    ));
     Ok(Test::Numeric(place))
 }
 

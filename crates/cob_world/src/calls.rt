@@ -114,7 +114,11 @@ fn write_from(
     ensures { IfOk result (λ status. (file.new, storage.new, status)
         ≡ written_by layout.now choice.now decl.now rec storage.old file.old) }
 {
-    let status = file.write(alloc, bytes_at(layout, storage, Place::plain(rec)), decl.length)?;
+    let status = file.write(
+        alloc,
+        bytes_at(layout, storage, Place::plain(rec)),
+        decl.length,
+    )?;
     put_written(layout, choice, decl, status, storage);
     Ok(status)
 }

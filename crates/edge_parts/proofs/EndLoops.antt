@@ -1,5 +1,6 @@
 -- What is read of the ends of ranges, one range after the other.
 use Rattle.std.proofs.Common.{◌≡◌, ℕ, ◌+◌, ◌<◌, List, [], ◌∷◌, ◌++◌, length, get_or, drop, refl, sym, ap, append_assoc, ◌∙◌, arith}
+use Rattle.cob_data.specs.declared.layout.Place.{Place}
 use Rattle.cob_data.specs.Places.{plain}
 use Rattle.cob_data.specs.declared.layout.Layout.{Layout}
 use Rattle.cob_data.specs.declared.layout.Pair.{Pair}
@@ -14,7 +15,7 @@ ends_first l xs i x within is =
     ap (end_reads l) (item_step xs i x within is)
     ∙ sym (append_assoc (text_reads l x.low) (text_reads l x.high) (end_reads l (drop (i + 1) xs)))
 
-pub member_cut : (l : Layout) (place : ℕ) (ps : List Pair) → 0 < length ps →
-    member_reads l place ps ≡ text_reads l (sender.Item (plain place)) ++ end_reads l ps
-member_cut l place [] some = absurd (omega arith)
-member_cut l place (p ∷ ps) some = refl
+pub member_cut : (l : Layout) (item : ℕ) (place : Place) (ps : List Pair) → place ≡ plain item → 0 < length ps →
+    member_reads l item ps ≡ text_reads l (sender.Item place) ++ end_reads l ps
+member_cut l item place [] is some = absurd (omega arith)
+member_cut l item place (p ∷ ps) is some = ap (λ (k : Place). text_reads l (sender.Item k) ++ end_reads l (p ∷ ps)) (sym is)
