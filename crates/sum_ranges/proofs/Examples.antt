@@ -1,6 +1,7 @@
 -- Ranges of sums, worked by hand.
 use Rattle.std.proofs.Common.{◌≡◌, ℕ, zero, suc, ℤ, pos, true, false, List, [], ◌∷◌, Some, None, refl}
 use Rattle.std.specs.Prelude.{neg_ℤ}
+use Rattle.cob_data.specs.Places.{plain}
 use Rattle.interval_domain.specs.Corners.{interval}
 use Rattle.cob_program.specs.Sum.{Sum, MkSum, parts_of, Part, MkPart, factors_of, Factor, MkFactor, Atom, item, number, group}
 use Rattle.sum_ranges.specs.declared.ranged.Ranged.{Ranged}
@@ -24,22 +25,22 @@ items (suc (suc (suc (suc zero)))) = between (pos 1) (pos 9) 1
 items _ = between (pos 0) (pos 0) 0
 
 abbrev A : Atom
-A = item 0
+A = item (plain 0)
 
 abbrev B : Atom
-B = item 1
+B = item (plain 1)
 
 abbrev C : Atom
-C = item 2
+C = item (plain 2)
 
 abbrev D : Atom
-D = item 3
+D = item (plain 3)
 
 abbrev E : Atom
-E = item 4
+E = item (plain 4)
 
 abbrev Z : Atom
-Z = item 5
+Z = item (plain 5)
 
 -- a literal, by its sign, digits and decimals
 abbrev literal_of : ℕ → List ℕ → ℕ → Atom
