@@ -166,11 +166,12 @@ pub fn push_augmenting<'a>(parts: &mut PartTaker<'a>, item: u32, by: &'a Sender)
     ensures { Takes plain_part parts.old (augment_parts item by.now) (goes_on result) parts.new }
 {
     push_number_read(parts, by)?;
+    let place = Place::plain(item);
     push_two(
         parts,
-        EdgePart::Read(Place::plain(item)),
+        EdgePart::Read(place),
         EdgePart::Store {
-            place: Place::plain(item),
+            place,
             mode: Mode::Trunc,
             amount: Amount::Augmented(by),
         },
