@@ -47,7 +47,7 @@ fn count_outcome(outcome: Result<(), Kind>) -> Result<(), DoEnd>
 // ---- what is moved
 
 fn move_all(alloc: Global, from: &Sender, to: &[Place], world: &mut World) -> Result<(), DoEnd>
-    requires able { AllByRecursion (CanMoveTo world.old.program.layout from.now) to.now }
+    requires able { AllByRecursion (λ p. CanMoveTo world.old.program.layout from.now p.item) to.now }
     ensures value { Meets (met (move world.old.program.layout from.now to.now world.old.world)) world.old.world
         world.new.world result }
     ensures kept { world.new.program ≡ world.old.program }
