@@ -12,6 +12,7 @@ use Rattle.cob_tree.specs.declared.stmt.Way.{Way}
 use Rattle.cob_tree.specs.declared.stmt.Way.TheVariants as way
 use Rattle.cob_tree.specs.Expr.{Expr}
 use Rattle.cob_tree.specs.Forms.{is_number_form}
+use Rattle.cob_data.specs.declared.layout.Place.{Place}
 use Rattle.cob_data.specs.declared.end.Rule.TheVariants.{Q3, N5}
 use Rattle.cob_program.specs.declared.act.Target.{Target}
 use Rattle.cob_program.specs.declared.act.How.{How}
@@ -134,7 +135,7 @@ module _ (s : Scope) where
   each_numbers [] is = tt
   each_numbers (o ∷ os) is = (operand_numbers s o is.0, each_numbers os is.1)
 
-  with_nothing : (xs ys : List ℕ) → AreNumbers s xs → AreNumbers s ys → AreNumbers s ((xs ++ []) ++ ys)
+  with_nothing : (xs ys : List Place) → AreNumbers s xs → AreNumbers s ys → AreNumbers s ((xs ++ []) ++ ys)
   with_nothing xs ys first second = both_numbers s (xs ++ []) ys (both_numbers s xs [] first tt) second
 
   parts_numbers : (minus : Bool) (as_ : List Atom) (rest : Parts) → AllByRecursion AtomNumbers as_ →
