@@ -1,5 +1,5 @@
 -- What the scanner cuts off stands there.
-use Rattle.std.proofs.Common.{◌≡◌, ℕ, suc, ◌+◌, ◌<◌, ◌≤◌, Bool, true, false, cond, eqb, leb, List, [], ◌∷◌, ◌++◌, length, drop, take, refl, ap, ◌∙◌, sym, subst, arith, Option, Some, None, ◌⊎◌, inl, inr}
+use Rattle.std.proofs.Common.{◌≡◌, ℕ, suc, ◌+◌, ◌≤◌, Bool, true, false, cond, eqb, leb, List, [], ◌∷◌, ◌++◌, length, drop, take, refl, ap, ◌∙◌, sym, subst, arith, Option, Some, None, ◌⊎◌, inl, inr}
 use Rattle.std.specs.Prelude.{◌&&◌, ◌||◌}
 use Rattle.std.proofs.lemmas.Bool.{and_parts, eqb-true, leb-true, cases_Bool}
 use Rattle.std.proofs.lemmas.Bool.Decides.{nat_tests}
@@ -21,7 +21,7 @@ use Rattle.cob_lex.specs.WordTests.{is_unsigned}
 use Rattle.cob_lex.specs.Cuts.{token_of_len, gap, single, ended, run_token, plus_token, point_token, angle_token, is_literal, literal_token, picture_token, is_is, token_by, cut}
 use Rattle.cob_lex.specs.Characters.{ch_at, is_digit, is_word_character, is_gap, ends_rightly}
 use Rattle.cob_lex.specs.Literal.{is_quotation}
-use Rattle.cob_lex.specs.Tokens.{NumberFollows, MarkEnds, IsFollows, IsDue, IsPicture, PictureEnds, is_no_space, is_mark, Stands, with_sign, a_separator, a_number, a_text, a_relation, a_stop, the_word_is, a_picture}
+use Rattle.cob_lex.specs.Tokens.{NumberFollows, IsFollows, IsDue, is_mark, Stands, with_sign, a_separator, a_number, a_text, a_relation, a_stop, the_word_is, a_picture}
 use Rattle.cob_lex.proofs.Runs.{number_run}
 use Rattle.cob_lex.proofs.RunTests.{is_the_number, number_is}
 use Rattle.cob_lex.proofs.CutOff.{is_single, at, cut_by, run_is}

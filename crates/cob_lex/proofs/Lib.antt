@@ -24,4 +24,4 @@ pub mod Scans
 pub mod Most
 pub mod TextLengths
 pub mod TokenCounts
-pub mod Examples
+pub mod TextExamples

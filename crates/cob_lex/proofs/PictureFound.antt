@@ -4,7 +4,7 @@ use Rattle.std.specs.List.{list_all, position_or_len}
 use Rattle.std.proofs.Math.Seq.{take-append_seam}
 use Rattle.std.proofs.lemmas.Bool.{and_parts, eqb-true}
 use Rattle.std.proofs.lemmas.Bool.Decides.{nat_tests}
-use Rattle.std.proofs.lemmas.List.{take-append-drop, length-take}
+use Rattle.std.proofs.lemmas.List.{take-append-drop}
 use Rattle.std.proofs.lemmas.List.Recursion.{is_position_or_len}
 use Rattle.cob_lex.specs.declared.text.Mark.{Mark}
 use Rattle.cob_lex.specs.declared.cut.Shape.TheVariants.{PictureString}

@@ -1,5 +1,5 @@
 -- Each row: what stands at the beginning of a text is cut off whole.
-use Rattle.std.proofs.Common.{◌≡◌, ℕ, ◌-◌, ◌<◌, Bool, true, false, cond, eqb, List, [], ◌∷◌, ◌++◌, length, drop, take, refl, ap, sym, subst, ◌∙◌, arith, Option, Some, None, ◌⊎◌, inl, inr}
+use Rattle.std.proofs.Common.{◌≡◌, ℕ, ◌-◌, Bool, true, false, cond, eqb, List, [], ◌∷◌, ◌++◌, length, drop, take, refl, ap, sym, subst, ◌∙◌, arith, Option, Some, None, ◌⊎◌, inl, inr}
 use Rattle.std.specs.Prelude.{◌&&◌, ◌||◌}
 use Rattle.std.specs.List.{list_all}
 use Rattle.std.proofs.Math.Seq.{drop-append_seam}
@@ -17,12 +17,12 @@ use Rattle.cob_lex.specs.declared.cut.Shape.TheVariants.{Word, Number, Symbol, R
 use Rattle.cob_lex.specs.declared.cut.Due.{Due}
 use Rattle.cob_lex.specs.declared.cut.Due.TheVariants.{Nothing, BehindPic, BehindIs}
 use Rattle.cob_lex.specs.declared.cut.State.{State}
-use Rattle.cob_lex.specs.Characters.{ch_at, last_ch, characters, is_sign, is_gap, ends_rightly, goes_on, is_point_comma_semicolon}
+use Rattle.cob_lex.specs.Characters.{ch_at, characters, is_sign, is_gap, ends_rightly, is_point_comma_semicolon}
 use Rattle.cob_lex.specs.Marks.{run_len, run_of, solid_len}
 use Rattle.cob_lex.specs.Words.{spelled_keyword}
 use Rattle.cob_lex.specs.WordTests.{is_word}
 use Rattle.cob_lex.specs.Cuts.{token_of_len, gap, picture_token, is_the_word_is, is_is, token_at, cut}
-use Rattle.cob_lex.specs.Tokens.{is_word_mark, IsUnsigned, IsWord, IsMark, is_mark, MarkEnds, NumberFollows, IsRelation, RelationEnds, IsStop, is_no_space, IsPicture, IsTheWordIs, IsFollows, PictureEnds, IsDue, Stands, IsNumber, without_sign, with_sign, a_separator, a_word, a_number, a_text, a_mark, a_relation, a_stop, the_word_is, a_picture}
+use Rattle.cob_lex.specs.Tokens.{is_word_mark, IsUnsigned, IsWord, IsMark, is_mark, MarkEnds, NumberFollows, IsRelation, RelationEnds, IsStop, is_no_space, IsPicture, IsTheWordIs, IsFollows, PictureEnds, IsDue, Stands, without_sign, with_sign, a_separator, a_word, a_number, a_text, a_mark, a_relation, a_stop, the_word_is, a_picture}
 use Rattle.cob_lex.proofs.Runs.{word_run, no_gap, ended_stops}
 use Rattle.cob_lex.proofs.RunTests.{word_is, is_the_word}
 use Rattle.cob_lex.proofs.RunsFound.{run_width}

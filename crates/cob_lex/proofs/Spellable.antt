@@ -1,17 +1,16 @@
 -- Canonical tokens are spellable, and a printed text has its tokens.
-use Rattle.std.proofs.Common.{◌≡◌, ◌⊎◌, inl, inr, ℕ, suc, ◌+◌, ◌≤◌, ◌<◌, Bool, true, false, cond, eqb, ◌&&◌, List, [], ◌∷◌, ◌++◌, length, map, refl, ap, ◌∙◌, sym, subst, arith, append-nil, Option, Some, None, Result, Ok}
+use Rattle.std.proofs.Common.{◌≡◌, inl, inr, ℕ, ◌+◌, ◌≤◌, ◌<◌, Bool, true, false, cond, eqb, ◌&&◌, List, [], ◌∷◌, ◌++◌, length, map, refl, ap, ◌∙◌, sym, subst, arith, append-nil, Option, Some, None, Result, Ok}
 use Rattle.std.specs.Prelude.{◌||◌}
-use Rattle.std.specs.List.{list_all, AllByRecursion, All}
+use Rattle.std.specs.List.{list_all, All}
 use Rattle.std.specs.Str.{bytes_eq}
 use Rattle.std.specs.Char.{to_ascii_uppercase}
 use Rattle.std.specs.Prelude.{IfSome}
-use Rattle.std.proofs.lemmas.Bool.{and_parts, eq-eqb}
+use Rattle.std.proofs.lemmas.Bool.{and_parts}
 use Rattle.std.proofs.lemmas.Bool.Decides.{nat_tests}
 use Rattle.std.proofs.lemmas.Slice.Eq.{bytes_eq-Decides}
 use Rattle.cob_tree.specs.declared.keyword.Keyword.{Keyword}
 use Rattle.cob_tree.specs.declared.token.Rel.{Rel}
 use Rattle.cob_tree.specs.declared.token.Rel.TheVariants.{Equal, Less, Greater, AtLeast, AtMost}
-use Rattle.cob_tree.specs.declared.token.Tok.{Tok}
 use Rattle.cob_tree.specs.declared.token.Token.{Token}
 use Rattle.cob_tree.specs.Keywords.{text_of, keywords, keyword_among, keyword_of}
 use Rattle.cob_tree.proofs.KeywordLemmas.{keyword_of-text, among-written}
@@ -34,7 +33,7 @@ use Rattle.cob_lex.specs.declared.refusal.Place.{Place}
 use Rattle.cob_lex.specs.Text.{numbered_lines}
 use Rattle.cob_lex.specs.Plain.{IsPlain, plain_text}
 use Rattle.cob_lex.specs.Scan.{Tokens, ScansBy, Scans}
-use Rattle.cob_lex.specs.Spellable.{IsOwn, IsSpellable, IsSpellableToken, AreSpellable}
+use Rattle.cob_lex.specs.Spellable.{IsSpellable, AreSpellable}
 use Rattle.cob_lex.specs.Printed.{is_letter_i, IsPlaced, IsPrinted, tokens_of}
 use Rattle.cob_lex.proofs.PlainLemmas.{plain_source}
 use Rattle.cob_lex.proofs.RowsCut.{one_character}

@@ -2,7 +2,6 @@
 use Rattle.std.proofs.Common.{◌≡◌, ℕ, zero, suc, ◌+◌, ◌-◌, ◌<◌, ◌≤◌, Bool, false, List, [], ◌∷◌, ◌++◌, length, drop, take, map, refl, ap, ◌∙◌, sym, subst, arith, length-append, append_assoc, append-nil, Option, Some, None, Result, Ok, Err}
 use Rattle.std.proofs.Math.Seq.{drop-append_seam}
 use Rattle.std.proofs.lemmas.List.{take-append-drop, get_or_append_left}
-use Rattle.reading.specs.Fronts.{NoFurther}
 use Rattle.cob_tree.specs.declared.token.Rel.{Rel}
 use Rattle.cob_tree.specs.declared.token.Rel.TheVariants.{Equal, Less, Greater, AtLeast, AtMost}
 use Rattle.cob_tree.specs.declared.token.Token.{Token}
@@ -18,13 +17,13 @@ use Rattle.cob_lex.specs.declared.piece.Piece.{Piece}
 use Rattle.cob_lex.specs.declared.piece.Place.{Place}
 use Rattle.cob_lex.specs.Characters.{blank, ch_at, last_ch, first, characters}
 use Rattle.cob_lex.specs.Tokens.{IsRelation, Stands, is_opening, due_after, without_sign, with_sign, a_separator, a_word, a_number, a_text, a_mark, a_relation, a_stop, the_word_is, a_picture}
-use Rattle.cob_lex.specs.Spelled.{Part, text_of, StandBehind, Stand, place_of, piece_list, pieces, IsSpelled, IsStopped}
+use Rattle.cob_lex.specs.Spelled.{Part, text_of, StandBehind, place_of, piece_list, pieces, IsSpelled, IsStopped}
 use Rattle.cob_lex.specs.Cuts.{cut, after}
 use Rattle.cob_lex.specs.Pieces.{prefixed, read, beginning, raw_tokens, Gives}
 use Rattle.cob_lex.specs.Rows.{rewritten}
 use Rattle.cob_lex.specs.Canonical.{token, AreTokensOf, IfBadToken}
 use Rattle.cob_lex.proofs.CutOff.{some_digit}
-use Rattle.cob_lex.proofs.RowsCut.{one_character, stands_cut}
+use Rattle.cob_lex.proofs.RowsCut.{stands_cut}
 use Rattle.cob_lex.proofs.Found.{cut_stands}
 use Rattle.cob_lex.proofs.PieceLemmas.{read_more, read_stops_here, read_ends_here}
 

@@ -6,7 +6,7 @@ use Rattle.cob_tree.specs.declared.token.Rel.TheVariants.{Equal, Less, Greater, 
 use Rattle.cob_lex.specs.declared.mark.Class.{Class}
 use Rattle.cob_lex.specs.declared.mark.Class.TheVariants.{Space, Comma, Point, Plus, Single, EqualSign, LessSign, GreaterSign, QuotationMark, Run, Other}
 use Rattle.cob_tree.specs.declared.keyword.Keyword.{Keyword}
-use Rattle.cob_tree.specs.declared.keyword.Keyword.TheVariants.{Pic, Picture, Is}
+use Rattle.cob_tree.specs.declared.keyword.Keyword.TheVariants.{Is}
 use Rattle.cob_lex.specs.declared.cut.Shape.{Shape}
 use Rattle.cob_lex.specs.declared.cut.Shape.TheVariants.{Word, Number, Literal, Symbol, Relation, Stop, PictureString}
 use Rattle.cob_lex.specs.declared.cut.Due.{Due}

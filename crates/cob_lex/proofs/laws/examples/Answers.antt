@@ -1,4 +1,4 @@
-use Rattle.cob_lex.proofs.Examples.{are_read, are_refused}
+use Rattle.cob_lex.proofs.TextExamples.{are_read, are_refused}
 use Rattle.cob_lex.proofs.laws.examples.Goals as goal
 
 pub returns : goal.returns

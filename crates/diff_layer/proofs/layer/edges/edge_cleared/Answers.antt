@@ -30,6 +30,13 @@ invariant_of-edge c =
       of_edge = of_edge (program_of e) (graph_of e) (edge_of e a.at) w work e.works.now.source;
     }
 
+pub cleared_by_edge-requires-clause-marks : goal.cleared_by_edge-requires-clause-marks
+cleared_by_edge-requires-clause-marks c =
+    let a = c.args in
+    let e = a.edges.now in
+    marks_of_work (program_of e) (graph_of e) (edge_of e a.at) c.in-Some.work.now (rw c.in-Some.is at c.at.ensures) e.works.now.graph.now.cells c.get.result.now e.works.now.marks.items
+    c.as_slice.result.now c.get.ensures c.as_slice.ensures.value e.works.now.marked
+
 pub cleared_by_edge-requires-clause-can : goal.cleared_by_edge-requires-clause-can
 cleared_by_edge-requires-clause-can c =
     let a = c.args in
