@@ -8,17 +8,21 @@ use Rattle.cob_graph.specs.declared.graph.Edge.{Edge}
 use Rattle.cob_graph.specs.declared.graph.Graph.{Graph}
 use Rattle.cob_graph.specs.declared.graph.Node.{Node}
 use Rattle.dom_laws.specs.Meaning.{Storage, IsMeaning}
+use Rattle.dom_laws.proofs.Including.{means_for_fewer}
 use Rattle.interval_domain.specs.Known.{Known}
 use Rattle.interval_domain.specs.Elements.{Element, ElementBelow}
 use Rattle.interval_domain.specs.Rows.{element_of}
 use Rattle.interval_domain.proofs.Rows.{element_back}
 use Rattle.graph_runs.specs.Places.{edge_at, IsOf, DoesAt}
 use Rattle.graph_runs.specs.Doing.{Begins, Acts, MeetsAt}
+use Rattle.graph_runs.specs.Told.{told_runs}
+use Rattle.graph_runs.proofs.Following.{told_runs_are_runs}
 use Rattle.cob_graph.specs.Homes.{homes_of}
 use Rattle.cell_steps.specs.OwnRanges.{owns}
 use Rattle.cell_steps.specs.Storages.{storage, StandsIn, ElementStands}
 use Rattle.cell_steps.specs.Edges.{post_cells, clears_edge}
 use Rattle.cell_laws.specs.Entry.{entry_cells}
+use Rattle.cell_laws.specs.Laws.{CellsMeanAsTold}
 use Rattle.cell_laws.specs.Layer.{statement_at, row_for, left, edge_cells, post_at, edge_clears, clears_at, cell_flow, cell_meaning}
 use Rattle.cell_laws.proofs.Entry.{entry_fits, entry_stands}
 use Rattle.cell_laws.proofs.HomesStand.{homes_stand_above}
@@ -111,3 +115,8 @@ module _ (p : Program) (g : Graph) where
     clears_below = λ node a b fault is el other below clears.
         clears_stay p g node fault (element_of a) (element_of b) el.formed.fits below clears;
   }
+
+pub cells_mean_as_told : CellsMeanAsTold
+cells_mean_as_told p g thresholds =
+    means_for_fewer (lattice p thresholds) (cell_flow p g) (cell_meaning p g) (told_runs p g) (told_runs_are_runs p g)
+    (cells_mean p g thresholds)

@@ -6,6 +6,7 @@ use Rattle.dom_laws.specs.Flow.{IsFlow}
 use Rattle.dom_laws.specs.Meaning.{IsMeaning}
 use Rattle.interval_domain.specs.Rows.{cells_lattice}
 use Rattle.graph_runs.specs.Sources.{IsSourceGraph}
+use Rattle.graph_runs.specs.Standing.{MeansAsTold}
 use Rattle.cell_steps.specs.OwnRanges.{owns}
 use Rattle.cell_laws.specs.Layer.{cell_flow, cell_meaning}
 
@@ -18,3 +19,9 @@ abbrev pub CellsMean : Type 0
 CellsMean =
     (p : Program) (g : Graph) (thresholds : List (List ℤ)) →
     IsMeaning (cells_lattice (owns p) thresholds) (cell_flow p g) (cell_meaning p g)
+
+-- so it does for those that tell what each statement does
+abbrev pub CellsMeanAsTold : Type 0
+CellsMeanAsTold =
+    (p : Program) (g : Graph) (thresholds : List (List ℤ)) →
+    MeansAsTold (cells_lattice (owns p) thresholds) (cell_flow p g) (cell_meaning p g) p g

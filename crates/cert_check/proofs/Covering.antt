@@ -19,16 +19,17 @@ use Rattle.cert_text.specs.View.{Certificate}
 use Rattle.cert_text.specs.Allowed.{IsAllowed}
 use Rattle.dom_laws.specs.Flow.{IsFlow, IsInductive}
 use Rattle.dom_laws.specs.Meaning.{Storage, Runs, IsMeaning, ReachesIn, IsGranted}
+use Rattle.dom_laws.proofs.Including.{includes_itself}
 use Rattle.dom_laws.proofs.Soundness.{granted_by_facts}
 use Rattle.interval_domain.specs.Elements.{Element, ElementFits}
 use Rattle.interval_domain.specs.Rows.{cells_lattice}
 use Rattle.graph_runs.specs.Places.{IsOf}
 use Rattle.graph_runs.specs.Sources.{IsSourceGraph}
 use Rattle.graph_runs.specs.Flows.{flow_over}
-use Rattle.graph_runs.specs.Doing.{graph_runs}
+use Rattle.graph_runs.specs.Doing.{MeetsAt, graph_runs}
 use Rattle.graph_runs.specs.Clearing.{IsLayerOf}
-use Rattle.graph_runs.proofs.Following.{faults_are_reached}
-use Rattle.graph_runs.proofs.Clearing.{includes_itself, cleared_is_not_met}
+use Rattle.graph_runs.proofs.Following.{told_runs_are_runs, faults_are_reached}
+use Rattle.graph_runs.proofs.Clearing.{cleared_is_not_met}
 use Rattle.cell_steps.specs.OwnRanges.{owns}
 use Rattle.cell_laws.specs.Entry.{entry_cells}
 use Rattle.cell_laws.specs.Layer.{post_at, cell_flow, cell_meaning}
@@ -80,7 +81,7 @@ module _ (p : Program) (g : Graph) (c : Certificate) (source : ∥ IsSourceGraph
   packs_granted : IsGranted (diff_flow p g (packs_at p g c) (row_at p g c)) (diff_meaning p g (packs_at p g c) (row_at p g c))
   packs_granted n node s reaches =
       granted_by_facts (cells_lattice (owns p) []) (cell_flow p g) (cell_meaning p g) (diff_meaning p g (packs_at p g c) (row_at p g c))
-      (row_at p g c) (laws.flows []) (laws.means []) inductive cells_granted refl (λ node s stands. stands) n node s
+      (row_at p g c) (laws.flows []) (laws.means []) inductive cells_granted (includes_itself (graph_runs p g)) (λ node s stands. stands) n node s
       (reaches_along g (graph_runs p g) _ _ _ _ n node s reaches)
 
   module _ (contents : Contents) (first : List ℕ) (choices : List Choice) (n : ℕ) (fault : Kind) (statement : ℕ)
@@ -89,15 +90,16 @@ module _ (p : Program) (g : Graph) (c : Certificate) (source : ∥ IsSourceGraph
     numbered : IsSourceGraph p g → (1 ≤ statement) × (statement ≤ p.statements)
     numbered s =
         let met = faults_are_reached p g s (cell_flow p g).entry (cell_flow p g).post contents first choices n fault statement meets in
-        let does = met.meets.on.does in
-        subst (λ k. (1 ≤ k) × (k ≤ p.statements)) (one_number g met.node met.meets.statement statement does.of met.of)
-        (s.numbers met.meets.statement met.meets.act does.act)
+        let at : MeetsAt p g met.node fault met.storage = met.meets in
+        let does = at.on.does in
+        subst (λ k. (1 ≤ k) × (k ≤ p.statements)) (one_number g met.node at.statement statement does.of met.of)
+        (s.numbers at.statement at.act does.act)
 
     not_by_cells : TestsTell (cell_flow p g) (cell_meaning p g) (row_at p g c) (claims_clear p g c) →
         is_cleared_by g (claims_clear p g c) statement fault ≡ true → ⊥
     not_by_cells tell e =
         cleared_is_not_met p g (cells_lattice (owns p) []) (cell_flow p g) (cell_meaning p g) (row_at p g c)
-        (record { of_source = source; flow = refl; runs = includes_itself (graph_runs p g) }) (laws.flows []) (laws.means []) inductive
+        (record { of_source = source; flow = refl; runs = told_runs_are_runs p g }) (laws.flows []) (laws.means []) inductive
         cells_granted fault statement
         (cleared_at g (claims_clear p g c) (cell_flow p g) (cell_meaning p g) (row_at p g c) refl tell statement fault e) contents first
         choices n meets
@@ -108,7 +110,7 @@ module _ (p : Program) (g : Graph) (c : Certificate) (source : ∥ IsSourceGraph
         let flow = diff_flow p g (packs_at p g c) (row_at p g c) in
         let meaning = diff_meaning p g (packs_at p g c) (row_at p g c) in
         cleared_is_not_met p g (diff_lattice (packs_at p g c) lists) flow meaning (bounds_row p g c)
-        (record { of_source = source; flow = refl; runs = includes_itself (graph_runs p g) })
+        (record { of_source = source; flow = refl; runs = told_runs_are_runs p g })
         (flows p g c source shape allowed lists listed) (means p g c source shape allowed lists listed)
         (bounds_kept p g c source shape allowed lists listed parts.1) packs_granted fault statement
         (cleared_at g (claims_clear p g c) flow meaning (bounds_row p g c) refl tell statement fault e) contents first choices n meets

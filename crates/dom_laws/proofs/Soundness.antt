@@ -1,9 +1,10 @@
 -- Inductive rows stand for all storages that runs come with, so that what they clear is clear.
-use Rattle.std.proofs.Common.{◌≡◌, ℕ, zero, suc, List, ℤ, subst, sym, arith}
+use Rattle.std.proofs.Common.{ℕ, zero, suc, List, ℤ, subst, sym, arith}
 use Rattle.cob_tree.specs.declared.fault.Kind.{Kind}
 use Rattle.dom_laws.specs.Lattice.{Lattice, IsElement}
 use Rattle.dom_laws.specs.Flow.{Flow, IsNode, IsFlow, IsInductive}
-use Rattle.dom_laws.specs.Meaning.{Storage, Meaning, IsMeaning, ReachesIn, IsGranted}
+use Rattle.dom_laws.specs.Meaning.{Storage, Includes, Meaning, IsMeaning, ReachesIn, IsGranted}
+use Rattle.dom_laws.proofs.Including.{reaches_more}
 
 first_node : (l : Lattice) (f : Flow) → IsFlow l f → IsNode f 1
 first_node l f laws = record { first = omega arith; last = laws.has_node }
@@ -31,7 +32,8 @@ no_fault l f m rows flows means inductive granted n node s kind comes clears =
     let is : IsNode f node = comes_to_node l f m flows n node s comes in
     means.cleared node (rows node) kind s is (inductive.elements node is) clears (granted n node s comes) (standing l f m rows flows means inductive granted n node s comes)
 
--- What a second layer takes for granted holds where it follows from the inductive rows of a first one.
-pub granted_by_facts : (l : Lattice) (f : Flow) (m second : Meaning) (facts : ℕ → List ℤ) → IsFlow l f → IsMeaning l f m → IsInductive l f facts → IsGranted f m → second.runs ≡ m.runs → ((node : ℕ) (s : Storage) → m.StandsFor (facts node) s → second.Granted node s) → IsGranted f second
-granted_by_facts l f m second facts flows means inductive granted same gives n node s comes =
-    gives node s (standing l f m facts flows means inductive granted n node s (subst (λ r. ReachesIn f r n node s) same comes))
+-- What a second layer takes for granted holds where it follows from the inductive rows of a first one, whose runs include
+-- those of the second.
+pub granted_by_facts : (l : Lattice) (f : Flow) (m second : Meaning) (facts : ℕ → List ℤ) → IsFlow l f → IsMeaning l f m → IsInductive l f facts → IsGranted f m → Includes m.runs second.runs → ((node : ℕ) (s : Storage) → m.StandsFor (facts node) s → second.Granted node s) → IsGranted f second
+granted_by_facts l f m second facts flows means inductive granted more gives n node s comes =
+    gives node s (standing l f m facts flows means inductive granted n node s (reaches_more f m.runs second.runs more n node s comes))

@@ -18,6 +18,12 @@ pub record Runs : Type 1 where
   -- the node meets a fault of this kind on the storage
   pub Meets : ℕ → Kind → Storage → Type 0
 
+-- all that the second does, the first does too
+pub record Includes (r q : Runs) : Type 0 where
+  pub begins : (s : Storage) → q.Begins s → r.Begins s
+  pub acts : (edge : ℕ) (s t : Storage) → q.Acts edge s t → r.Acts edge s t
+  pub meets : (node : ℕ) (kind : Kind) (s : Storage) → q.Meets node kind s → r.Meets node kind s
+
 -- What a layer's rows say of a program.
 pub record Meaning : Type 1 where
   pub runs : Runs
@@ -27,6 +33,10 @@ pub record Meaning : Type 1 where
   pub Granted : ℕ → Storage → Type 0
   -- at this node a row shows that there is no fault of this kind
   pub Clears : ℕ → List ℤ → Kind → Type 0
+
+-- what the same rows say of other runs
+abbrev pub for_runs : Runs → Meaning → Meaning
+for_runs r m = record { runs = r; StandsFor = m.StandsFor; Granted = m.Granted; Clears = m.Clears }
 
 pub record IsMeaning (l : Lattice) (f : Flow) (m : Meaning) : Type 0 where
   -- a row stands for all that a lower one stands for

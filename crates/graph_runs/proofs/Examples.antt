@@ -34,7 +34,7 @@ use Rattle.cob_edge_parts.specs.Edges.{fault_edge}
 use Rattle.dom_laws.specs.Meaning.{Storage}
 use Rattle.graph_runs.specs.Places.{edge_at, DoesAt}
 use Rattle.cob_edge_parts.specs.Counters.{PassesParts, MeetsAmong}
-use Rattle.graph_runs.specs.Doing.{start}
+use Rattle.graph_runs.specs.Doing.{start, graph_runs}
 use Rattle.graph_runs.specs.Following.{Reaches}
 use Rattle.graph_runs.specs.Sources.{HasValue, SeparateItemsHaveSigns, HasNoTables, IsSourceGraph}
 
@@ -196,7 +196,7 @@ adding_does = record {
 }
 
 -- so 999 comes to the phrase's list along the second edge
-comes_to_the_list : Reaches adding graph_of_adding [] (λ e row. row) 1 2 full
+comes_to_the_list : Reaches (graph_runs adding graph_of_adding) graph_of_adding [] (λ e row. row) 1 2 full
 comes_to_the_list = (
   2,
   full,

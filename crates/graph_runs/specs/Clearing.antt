@@ -7,23 +7,18 @@ use Rattle.cob_runs.specs.Files.{Choice}
 use Rattle.cob_runs.specs.Runs.{Contents, run, IsFaultless}
 use Rattle.cob_graph.specs.declared.graph.Graph.{Graph}
 use Rattle.dom_laws.specs.Flow.{Flow, IsNode}
-use Rattle.dom_laws.specs.Meaning.{Storage, Runs, Meaning}
+use Rattle.dom_laws.specs.Meaning.{Includes, Meaning}
 use Rattle.graph_runs.specs.Places.{IsOf}
 use Rattle.graph_runs.specs.Sources.{IsSourceGraph}
-use Rattle.graph_runs.specs.Doing.{graph_runs}
 use Rattle.graph_runs.specs.Flows.{flow_over}
+use Rattle.graph_runs.specs.Told.{told_runs}
 
--- all that the second does, the first does too
-pub record Includes (r q : Runs) : Type 0 where
-  pub begins : (s : Storage) → q.Begins s → r.Begins s
-  pub acts : (e : ℕ) (s t : Storage) → q.Acts e s t → r.Acts e s t
-  pub meets : (node : ℕ) (fault : Kind) (s : Storage) → q.Meets node fault s → r.Meets node fault s
-
--- the layer's nodes and edges are those of the graph, and its runs are those of the program along it
+-- The layer's nodes and edges are those of the graph, and its runs are those of the program along it, or more: as much
+-- as each edge tells, or only that its parts are passed.
 pub record IsLayerOf (p : Program) (g : Graph) (f : Flow) (m : Meaning) : Type 0 where
   pub of_source : ∥ IsSourceGraph p g ∥₁
   pub flow : f ≡ flow_over g f.entry f.post
-  pub runs : Includes m.runs (graph_runs p g)
+  pub runs : Includes m.runs (told_runs p g)
 
 module _ (f : Flow) (m : Meaning) (rows : ℕ → List ℤ) where
   -- at each node of the statement the row shows that there is no such fault

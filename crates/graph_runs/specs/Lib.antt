@@ -3,6 +3,8 @@ pub mod Sent
 pub mod Places
 pub mod Sources
 pub mod Doing
+pub mod Told
 pub mod Flows
 pub mod Following
 pub mod Clearing
+pub mod Standing

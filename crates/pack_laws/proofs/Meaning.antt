@@ -4,11 +4,14 @@ use Rattle.cob_tree.specs.declared.fault.Kind.{Kind}
 use Rattle.cob_program.specs.Act.{Program}
 use Rattle.cob_graph.specs.declared.graph.Graph.{Graph}
 use Rattle.dom_laws.specs.Meaning.{Storage}
+use Rattle.dom_laws.proofs.Including.{means_for_fewer}
 use Rattle.interval_domain.specs.Known.{Known}
 use Rattle.interval_domain.specs.Elements.{Element}
 use Rattle.interval_domain.specs.Rows.{element_of}
 use Rattle.graph_runs.specs.Places.{edge_at, DoesAt}
 use Rattle.graph_runs.specs.Doing.{Acts, MeetsAt}
+use Rattle.graph_runs.specs.Told.{told_runs}
+use Rattle.graph_runs.proofs.Following.{told_runs_are_runs}
 use Rattle.cell_steps.specs.Storages.{storage, StandsIn, ElementStands}
 use Rattle.cell_laws.specs.Entry.{entry_cells}
 use Rattle.cell_laws.proofs.Entry as first_cells
@@ -22,8 +25,8 @@ use Rattle.diff_bounds.specs.PackRows.{matrices_in, row_of}
 use Rattle.pack_laws.specs.Agreeing.{AreMatrices, ArePacksOf}
 use Rattle.pack_laws.proofs.PacksStand.{all_packs_stand}
 use Rattle.pack_laws.proofs.PacksClearAll.{none_cleared_is_met}
-use Rattle.pack_laws.specs.Layer.{sizes_of, edge_packs, packs_post, edge_clears2, clears_at2}
-use Rattle.pack_laws.specs.Laws.{PacksMean}
+use Rattle.pack_laws.specs.Layer.{sizes_of, diff_lattice, edge_packs, packs_post, edge_clears2, clears_at2, diff_flow, diff_meaning}
+use Rattle.pack_laws.specs.Laws.{PacksMean, PacksMeanAsTold}
 use Rattle.pack_laws.proofs.Pieces.{matrices_back, are_matrices, all_stand_above}
 use Rattle.pack_laws.proofs.Entry.{entry_fits, entry_stands}
 use Rattle.pack_laws.proofs.Flow.{same_below, post_fits}
@@ -96,3 +99,8 @@ packs_mean p g packs lists facts is_packs are = record {
   clears_below = λ node a b fault is el other below clears.
       cleared_stays p g packs lists facts facts is_packs are are (same_below g facts) node a b fault is el other below clears;
 }
+
+pub packs_mean_as_told : PacksMeanAsTold
+packs_mean_as_told p g packs lists facts is_packs are =
+    means_for_fewer (diff_lattice packs lists) (diff_flow p g packs facts) (diff_meaning p g packs facts) (told_runs p g)
+    (told_runs_are_runs p g) (packs_mean p g packs lists facts is_packs are)

@@ -7,6 +7,7 @@ use Rattle.dom_laws.specs.Lattice.{IsElement}
 use Rattle.dom_laws.specs.Flow.{IsNode, IsEdge, IsFlow}
 use Rattle.dom_laws.specs.Meaning.{IsMeaning}
 use Rattle.graph_runs.specs.Sources.{IsSourceGraph}
+use Rattle.graph_runs.specs.Standing.{MeansAsTold}
 use Rattle.interval_domain.specs.Rows.{RowBelow, element_of}
 use Rattle.diff_bounds.specs.PackRows.{matrices_in}
 use Rattle.diff_steps.specs.Packs.{Pack}
@@ -19,6 +20,11 @@ PacksFlow = (p : Program) (g : Graph) (packs : List Pack) (lists : List (List �
 abbrev pub PacksMean : Type 0
 PacksMean = (p : Program) (g : Graph) (packs : List Pack) (lists : List (List ℤ)) (facts : Facts)
     → ArePacks p packs lists → AreFacts p g facts → IsMeaning (diff_lattice packs lists) (diff_flow p g packs facts) (diff_meaning p g packs facts)
+
+-- so it is with the runs that tell what each statement does
+abbrev pub PacksMeanAsTold : Type 0
+PacksMeanAsTold = (p : Program) (g : Graph) (packs : List Pack) (lists : List (List ℤ)) (facts : Facts)
+    → ArePacks p packs lists → AreFacts p g facts → MeansAsTold (diff_lattice packs lists) (diff_flow p g packs facts) (diff_meaning p g packs facts) p g
 
 -- less is known to be possible at each node
 abbrev pub AreBelow : Graph → Facts → Facts → Type 0

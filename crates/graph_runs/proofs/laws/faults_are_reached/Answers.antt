@@ -1,5 +1,8 @@
-use Rattle.graph_runs.proofs.Following.{faults_are_reached}
+use Rattle.graph_runs.proofs.Following.{faults_are_reached, told_faults_are_reached}
 use Rattle.graph_runs.proofs.laws.faults_are_reached.Goals as goal
 
-pub returns : goal.returns
-returns c = faults_are_reached
+pub returns-clause-parts : goal.returns-clause-parts
+returns-clause-parts c = faults_are_reached
+
+pub returns-clause-told : goal.returns-clause-told
+returns-clause-told c = told_faults_are_reached
