@@ -16,7 +16,7 @@ use Rattle.interval_domain.proofs.Rows.{element_back}
 use Rattle.graph_runs.specs.Places.{edge_at, IsOf, DoesAt}
 use Rattle.graph_runs.specs.Doing.{Begins, Acts, MeetsAt}
 use Rattle.graph_runs.specs.Told.{told_runs}
-use Rattle.graph_runs.proofs.Following.{told_runs_are_runs}
+use Rattle.graph_runs.proofs.Told.{told_runs_are_runs}
 use Rattle.cob_graph.specs.Homes.{homes_of}
 use Rattle.cell_steps.specs.OwnRanges.{owns}
 use Rattle.cell_steps.specs.Storages.{storage, StandsIn, ElementStands}

@@ -28,7 +28,8 @@ use Rattle.graph_runs.specs.Sources.{IsSourceGraph}
 use Rattle.graph_runs.specs.Flows.{flow_over}
 use Rattle.graph_runs.specs.Doing.{MeetsAt, graph_runs}
 use Rattle.graph_runs.specs.Clearing.{IsLayerOf}
-use Rattle.graph_runs.proofs.Following.{told_runs_are_runs, faults_are_reached}
+use Rattle.graph_runs.proofs.Told.{told_runs_are_runs}
+use Rattle.graph_runs.proofs.Following.{faults_are_reached}
 use Rattle.graph_runs.proofs.Clearing.{cleared_is_not_met}
 use Rattle.cell_steps.specs.OwnRanges.{owns}
 use Rattle.cell_laws.specs.Entry.{entry_cells}

@@ -30,8 +30,9 @@ use Rattle.graph_runs.specs.Sources.{IsSourceGraph}
 use Rattle.cob_edge_parts.specs.Counters.{PassesParts, MeetsAmong}
 use Rattle.graph_runs.specs.Doing.{start, IsMetOn, MeetsAt, graph_runs}
 use Rattle.graph_runs.specs.Flows.{flow_over}
-use Rattle.graph_runs.specs.Told.{IsStorageOf, ActsAsTold, told_runs, ToldRunsAreRuns}
+use Rattle.graph_runs.specs.Told.{IsStorageOf, ActsAsTold, told_runs}
 use Rattle.graph_runs.specs.Following.{Reaches, IsReached, IsMet, StandsAt, IsStateReached, WaysAreFollowed, FaultsAreReached, StatesAreReached}
+use Rattle.graph_runs.proofs.Told.{told_runs_are_runs}
 use Rattle.graph_runs.proofs.Numbering.{IsNumbered, numbered}
 use Rattle.graph_runs.proofs.Phrases.{size_beside}
 use Rattle.graph_runs.proofs.Counting.{AreSmall, begins_small, begins_standing, stand_length}
@@ -333,14 +334,7 @@ module _ (p : Program) (g : Graph) (source : IsSourceGraph p g) where
           let r = followed h.way in
           (h.node, record { at = h.at; stands = h.stands; number = h.its }, r.is)
 
--- ---- runs that tell more, among the runs by parts
-
-pub told_runs_are_runs : ToldRunsAreRuns
-told_runs_are_runs p g = record {
-  begins = λ s begins. begins;
-  acts = λ e s t acts. acts.acts;
-  meets = λ node fault s meets. meets;
-}
+-- ---- what comes there along some runs comes there along those that include them
 
 module _ (r q : Runs) (more : Includes r q) (g : Graph) (entry : List ℤ) (post : ℕ → List ℤ → List ℤ) where
   reached_more : (node : ℕ) (w : World) → IsReached q g entry post node w → IsReached r g entry post node w

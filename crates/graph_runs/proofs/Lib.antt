@@ -19,6 +19,7 @@ pub mod Counting
 pub mod Holding
 pub mod Quiet
 pub mod Fitting
+pub mod Told
 pub mod Following
 pub mod Clearing
 pub mod Examples

@@ -11,7 +11,7 @@ use Rattle.interval_domain.specs.Rows.{element_of}
 use Rattle.graph_runs.specs.Places.{edge_at, DoesAt}
 use Rattle.graph_runs.specs.Doing.{Acts, MeetsAt}
 use Rattle.graph_runs.specs.Told.{told_runs}
-use Rattle.graph_runs.proofs.Following.{told_runs_are_runs}
+use Rattle.graph_runs.proofs.Told.{told_runs_are_runs}
 use Rattle.cell_steps.specs.Storages.{storage, StandsIn, ElementStands}
 use Rattle.cell_laws.specs.Entry.{entry_cells}
 use Rattle.cell_laws.proofs.Entry as first_cells

@@ -1,4 +1,4 @@
-use Rattle.graph_runs.proofs.Following.{told_runs_are_runs}
+use Rattle.graph_runs.proofs.Told.{told_runs_are_runs}
 use Rattle.graph_runs.proofs.laws.told_runs_are_runs.Goals as goal
 
 pub returns : goal.returns
