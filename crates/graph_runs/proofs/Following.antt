@@ -215,7 +215,7 @@ module _ (p : Program) (g : Graph) (source : IsSourceGraph p g) where
 
         module _ (v : World) (c : Choice) (e : effect p statement c w y ≡ Ok (Some v))
             (b : LeadsBeside p statement a y from.counters w v) where
-          to : Storage
+          abbrev to : Storage
           to = record { bytes = v.storage; counters = b.later }
 
           acts : PassesParts p.layout (is_handled a y) parts old b.leads.last → ActsAsTold p g k.e from to
