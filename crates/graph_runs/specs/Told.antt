@@ -4,7 +4,7 @@ use Rattle.std.specs.Prelude.{◌≡◌, ℕ, Some, Ok}
 use Rattle.cob_program.specs.Act.{Program}
 use Rattle.cob_runs.specs.Files.{Choice}
 use Rattle.cob_runs.specs.State.{World}
-use Rattle.cob_runs.specs.Effects.{effect}
+use Rattle.cob_runs.specs.Effects.{effect_of, effect}
 use Rattle.cob_graph.specs.declared.graph.Graph.{Graph}
 use Rattle.cob_edge_parts.specs.Edges.{StandFor}
 use Rattle.dom_laws.specs.Meaning.{Storage, Runs, Includes}
@@ -35,3 +35,9 @@ module _ (p : Program) (g : Graph) where
 -- So they are among these, and what holds of runs by parts holds of them.
 abbrev pub ToldRunsAreRuns : Type 0
 ToldRunsAreRuns = (p : Program) (g : Graph) → Includes (graph_runs p g) (told_runs p g)
+
+-- What is told is what the very act does whose parts are passed.
+abbrev pub ActsAreTold : Type 0
+ActsAreTold =
+    (p : Program) (g : Graph) (e : ℕ) (s t : Storage) (a : ActsAsTold p g e s t) →
+    effect_of p a.acts.statement a.choice a.before (edge_at g e).action a.acts.act ≡ Ok (Some a.after)

@@ -8,7 +8,7 @@ ghost use Rattle.graph_runs.specs.Doing.{graph_runs};
 ghost use Rattle.graph_runs.specs.Flows.{GraphsAreFlows};
 ghost use Rattle.graph_runs.specs.Following.{FaultsAreReached, StatesAreReached, WaysAreFollowed};
 ghost use Rattle.graph_runs.specs.Standing.{MeansAsTold, StatesStand};
-ghost use Rattle.graph_runs.specs.Told.{ToldRunsAreRuns, told_runs};
+ghost use Rattle.graph_runs.specs.Told.{ActsAreTold, ToldRunsAreRuns, told_runs};
 
 use dom_laws::{Layer, Rows};
 
@@ -18,9 +18,11 @@ pub fn graphs_are_flows()
     ensures { GraphsAreFlows }
 {}
 
-/// A law: the runs that tell what each statement does are among the runs by parts.
+/// A law: the runs that tell what each statement does are among the runs by parts. On an edge they tell what the
+/// statement does whose parts are passed.
 pub fn told_runs_are_runs()
-    ensures { ToldRunsAreRuns }
+    ensures among { ToldRunsAreRuns }
+    ensures acts { ActsAreTold }
 {}
 
 /// A law: what a program does along its graph follows each way through the graph. Where a way comes to a node, a
