@@ -1,5 +1,5 @@
 -- Runs that tell what each statement does, among the runs by parts.
-use Rattle.std.proofs.Common.{◌≡◌, ℕ, Option, Some, Ok, sym, ap, ◌∙◌}
+use Rattle.std.proofs.Common.{Option, sym, ap, ◌∙◌}
 use Rattle.std.specs.Option.{option_map_or}
 use Rattle.cob_program.specs.Act.{Act}
 use Rattle.cob_runs.specs.Effects.{effect_of, not_taken}
