@@ -23,3 +23,4 @@ pub mod Told
 pub mod Following
 pub mod Clearing
 pub mod Examples
+pub mod ToldExamples
