@@ -119,7 +119,7 @@ module _ (p : Program) (g : Graph) (source : IsSourceGraph p g) where
         PassesParts p.layout (is_handled a x.action) (parts_of p statement a x.action) (start s) last →
         last.storage ≡ t.bytes → last.counts ≡ t.counters → last.failed ≡ is_handled a x.action →
         effect p statement c w x.action ≡ Ok (Some v) → IsStorageOf w s → IsStorageOf v t → ActsAsTold p g e s t
-    told_by s t last c w v does way bytes counters fails told before after = record {
+    told_by s t last c w v does way bytes counters fails told old_is new_is = record {
       acts = record {
         of_source = source;
         statement = statement;
@@ -136,8 +136,8 @@ module _ (p : Program) (g : Graph) (source : IsSourceGraph p g) where
       after = v;
       choice = c;
       told = numbered_so (λ (y : Edge). effect p statement c w y.action ≡ Ok (Some v)) told;
-      from = before;
-      to = after;
+      from = old_is;
+      to = new_is;
     }
 
   met_on : (n statement m : ℕ) (a : Act) (x : Action) (k : IsNumbered g (edge n x m)) → DoesAt p g n statement a →
