@@ -76,6 +76,7 @@ is_tool() {
 # A line for each tool that stands here.
 tools_told() {
   ! is_tool report || echo "  cobsound report SOURCE..                      analyses many sources, and reports on them"
+  ! is_tool explain || echo "  cobsound explain SOURCE [LINE]                tells why a program has its alarms"
   ! is_tool witness || echo "  cobsound witness SOURCE                       looks for input files that meet an alarm"
   ! is_tool prepare || echo "  cobsound prepare SOURCE                       makes of a source one of the profile"
 }
@@ -103,7 +104,7 @@ show_hint() {
 # The command that begins as the word does, where one does.
 meant_by() {
   local word=${1,,} command
-  for command in analyse check run trial report witness prepare help; do
+  for command in analyse check run trial report explain witness prepare help; do
     case $command in
       analyse | check | run | trial | help) ;;
       *) is_tool "$command" || continue ;;

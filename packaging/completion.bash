@@ -1,6 +1,6 @@
 # Completion of `cobsound` and its tools in bash.
 
-_cobsound_commands="analyse check run trial report prepare witness help --help --version"
+_cobsound_commands="analyse check run trial report explain prepare witness help --help --version"
 
 # The options of a command, or of the tool of that name.
 _cobsound_options() {
@@ -32,4 +32,4 @@ _cobsound() {
   mapfile -t COMPREPLY < <(compgen -W "$words" -- "$word")
 }
 
-complete -o default -F _cobsound cobsound cobsound-report cobsound-prepare cobsound-witness
+complete -o default -F _cobsound cobsound cobsound-report cobsound-explain cobsound-prepare cobsound-witness

@@ -1,4 +1,4 @@
-#compdef cobsound cobsound-report cobsound-prepare cobsound-witness
+#compdef cobsound cobsound-report cobsound-explain cobsound-prepare cobsound-witness
 # Completion of `cobsound` and its tools in zsh.
 
 _cobsound_report() {
@@ -26,6 +26,10 @@ _cobsound_report() {
     '--version[the version]' \
     '--help[help]' \
     '*:source:_files'
+}
+
+_cobsound_explain() {
+  _arguments '--help[help]' '1:source:_files' '2:line:'
 }
 
 _cobsound_prepare() {
@@ -67,6 +71,7 @@ _cobsound() {
     'run:run the program on its files'
     'trial:try the tool itself'
     'report:analyse many sources, and report on them'
+    'explain:tell why a program has its alarms'
     'prepare:make of a source one of the profile'
     'witness:look for input files that meet an alarm'
     'help:tell of a command'
@@ -77,7 +82,7 @@ _cobsound() {
   fi
   case $words[2] in
     help) _describe command commands ;;
-    report | prepare | witness)
+    report | explain | prepare | witness)
       shift words
       (( CURRENT -= 1 ))
       _cobsound_$words[1]

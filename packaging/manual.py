@@ -19,6 +19,7 @@ cobsound \- find the faults that a COBOL\-85 batch program may meet, or prove th
 .B cobsound run \fISOURCE\fB [\-\-steps \fIN\fB] [\fINAME\fB=\fIPATH\fB]..
 .B cobsound trial \fIN\fB
 .B cobsound report \fISOURCE\fB..
+.B cobsound explain \fISOURCE\fB [\fILINE\fB]
 .B cobsound witness \fISOURCE\fB
 .B cobsound prepare \fISOURCE\fB
 .B cobsound help \fR[\fICOMMAND\fR]

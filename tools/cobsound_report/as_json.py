@@ -3,7 +3,7 @@
 import json
 
 from . import VERSION
-from .findings import Finding, Item, SourceReport
+from .findings import Beside, Finding, Item, SourceReport
 from .history import key_of
 from .report import Report
 from .shards import Shard, sum_or_none
@@ -72,12 +72,19 @@ def finding_told(finding: Finding) -> dict:
         "text": finding.text,
         "paragraph": finding.paragraph,
         "items": [item_told(item) for item in finding.items],
+        "said": finding.said,
+        "beside": [beside_told(note) for note in finding.beside],
+        "group": finding.group,
         "fingerprint": finding.fingerprint,
         "new": finding.is_new,
         "known": finding.is_known,
         "suppressed": finding.reason,
         "witness": witness_told(finding.witness) if finding.witness else None,
     }
+
+
+def beside_told(note: Beside) -> dict:
+    return {"text": note.text, "file": note.file, "line": note.line, "marked": marked(note.span)}
 
 
 def item_told(item: Item) -> dict:

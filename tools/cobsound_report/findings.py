@@ -18,7 +18,8 @@ from .prepared import OwnFiles, listing_of
 from .program import Result
 from .remarks import OUTSIDE, Remark
 from .sources import Listing, Original, Place, Source, Span, shown
-from .words import UNPREPARED, Entry, Words, rule_of, sentence
+from .why import Reasons, Why
+from .words import SENTENCES, UNPREPARED, Entry, Words, rule_of, sentence
 
 if TYPE_CHECKING:
     from .witnesses import Witness
@@ -30,6 +31,7 @@ class Level(Enum):
     ERROR = "error"
     WARNING = "warning"
     NOTE = "note"
+    HELP = "help"
 
 
 @dataclass(frozen=True)
@@ -44,12 +46,24 @@ class Item:
 
 
 @dataclass(frozen=True)
+class Beside:
+    """What is said beside an alarm, with the line of which it speaks, if it does of one, its characters, and the file as
+    that of a finding."""
+
+    text: str
+    line: int | None = None
+    span: Span | None = None
+    file: str = ""
+
+
+@dataclass(frozen=True)
 class Finding:
     """What is told at a place of a source, or of the whole where it has no line. `file` is the copybook in which that
     stands, empty where it is the source itself, and `copies` are the COPYs that led there, the nearest first, each with
     its file and line. `column` stands where the program named one. The fingerprint is the same as long as the statement
     stays, on whatever line. `is_new` is said beside an earlier report, `is_known` beside a baseline, the reason is that
-    of a suppression, and the witness what a search for input files left."""
+    of a suppression, and the witness what a search for input files left. `said` is what is known of an alarm's cause, in
+    place of the sentence of its kind, with what is said beside it; alarms of one group are mended by one test."""
 
     rule: str
     level: Level
@@ -70,6 +84,19 @@ class Finding:
     witness: "Witness | None" = None
     file: str = ""
     copies: tuple[tuple[str, int], ...] = ()
+    said: str = ""
+    beside: tuple[Beside, ...] = ()
+    group: str = ""
+
+    @property
+    def sentence(self) -> str:
+        """What is said of an alarm."""
+        return self.said or SENTENCES[self.rule]
+
+    @property
+    def whole(self) -> str:
+        """The message, with what mends it where that is known."""
+        return f"{self.message}; {self.advice}" if self.said else self.message
 
     def at(self, place: Place) -> "Finding":
         """The finding at a place."""
@@ -116,7 +143,7 @@ class SourceReport:
     @cached_property
     def copybooks(self) -> list[str]:
         """The copybooks in which something is told, or is declared that it names."""
-        places = (place.file for finding in self.findings for place in (finding, *finding.items))
+        places = (place.file for f in self.findings for place in (f, *f.items, *f.beside))
         return list(dict.fromkeys(filter(None, places)))
 
     def alarms(self) -> list[Finding]:
@@ -133,7 +160,8 @@ def report_of(result: Result, words: Words) -> SourceReport:
     verdict = answer.verdict
     if verdict <= Verdict.ALARMS:
         listing = listing_of(result.source)
-        found = [of_alarm(alarm, listing, words) for alarm in answer.alarms]
+        reasons = Reasons(result.why, listing.text) if result.why else None
+        found = [of_alarm(alarm, listing, words, reasons) for alarm in answer.alarms]
         warnings = [of_remark(remark, Level.WARNING, listing) for remark in words.reader.warnings(listing.raw)]
         verdict = max(verdict, Verdict.WARNED) if warnings else verdict
         found += warnings
@@ -142,7 +170,7 @@ def report_of(result: Result, words: Words) -> SourceReport:
     else:
         found = [of_failure(result, words)]
     shape = (result.cells, result.nodes, result.is_kept, result.seconds)
-    return SourceReport(result.source, verdict, with_fingerprints(found), answer.told, *shape)
+    return SourceReport(result.source, verdict, grouped(with_fingerprints(found)), answer.told, *shape)
 
 
 def of_remark(remark: Remark, level: Level, listing: Listing) -> Finding:
@@ -154,7 +182,34 @@ def of_remark(remark: Remark, level: Level, listing: Listing) -> Finding:
     return replace(found.at(place), column=place.column)
 
 
-def of_alarm(alarm: Alarm, listing: Listing, words: Words) -> Finding:
+def of_alarm(alarm: Alarm, listing: Listing, words: Words, reasons: Reasons | None) -> Finding:
+    """An alarm, with why it is told where that is known."""
+    found = of_kind(alarm, listing, words)
+    why = reasons.of(alarm) if reasons else None
+    return because(found, alarm, why, listing) if why else found
+
+
+def because(found: Finding, alarm: Alarm, why: Why, listing: Listing) -> Finding:
+    """An alarm at the operand that is its cause."""
+    place = why.place and listing.place(why.place.line, why.place.column, why.place.length)
+    return replace(
+        found.at(place) if place else found,
+        message=f"{alarm.kind}: {why.said} (statement {alarm.statement})",
+        said=why.said,
+        advice=why.advice,
+        beside=tuple(beside(note.text, note.line, listing) for note in why.notes),
+        group=" ".join(str(part) for part in why.group),
+    )
+
+
+def beside(text: str, line: int | None, listing: Listing) -> Beside:
+    if line is None:
+        return Beside(text)
+    place = listing.text_place(line)
+    return Beside(text, place.line, place.span, place.file)
+
+
+def of_kind(alarm: Alarm, listing: Listing, words: Words) -> Finding:
     """An alarm at the first word of its statement; at the whole text of its line where that isn't found."""
     entry = words.kinds.get(alarm.kind)
     plain = Finding(
@@ -244,6 +299,28 @@ def of_failure(result: Result, words: Words) -> Finding:
 def named(told: str, cause: str) -> str:
     """The cause behind the number of what was told, or behind nothing where these are its own words."""
     return f"{told.split()[0]}: {cause}" if cause != told else cause
+
+
+def grouped(findings: tuple[Finding, ...]) -> tuple[Finding, ...]:
+    """The findings, with those together that one test mends, where the first of them stands; what mends them names all
+    lines round which it is to be."""
+    groups: dict[str, list[Finding]] = {}
+    for number, finding in enumerate(findings):
+        groups.setdefault(finding.group or str(number), []).append(finding)
+    return tuple(
+        replace(finding, advice=round_lines(finding.advice, group)) if finding.group else finding
+        for group in groups.values()
+        for finding in group
+    )
+
+
+def round_lines(advice: str, group: list[Finding]) -> str:
+    """What mends a group; a test stands round its lines."""
+    if "IF " not in advice:
+        return advice
+    lines = sorted({finding.line for finding in group if finding.line is not None})
+    told = ", ".join(str(line) for line in lines[:-1])
+    return f"{advice} round " + (f"lines {told} and {lines[-1]}" if told else f"line {lines[-1]}")
 
 
 def with_fingerprints(findings: list[Finding]) -> tuple[Finding, ...]:

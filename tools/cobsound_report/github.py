@@ -15,7 +15,7 @@ def annotation(source: SourceReport, finding: Finding) -> str:
     file, title = finding.file_told(source), f"Cobsound {finding.rule}"
     given = {"file": file, "line": finding.line, "col": column, "title": title}
     words = ",".join(f"{name}={escaped(str(value), ',:')}" for name, value in given.items() if value is not None)
-    return f"::{finding.level.value.replace('note', 'notice')} {words}::{escaped(finding.message)}"
+    return f"::{finding.level.value.replace('note', 'notice')} {words}::{escaped(finding.whole)}"
 
 
 def escaped(text: str, more: str = "") -> str:

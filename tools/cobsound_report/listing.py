@@ -3,9 +3,8 @@
 from dataclasses import dataclass
 from html import escape
 
-from .findings import Finding, Item, Level, SourceReport
+from .findings import Beside, Finding, Item, Level, SourceReport
 from .sources import Span
-from .words import SENTENCES
 
 
 def anchor(source: SourceReport, line: int | None, file: str = "") -> str:
@@ -57,10 +56,19 @@ def note(source: SourceReport, finding: Finding) -> str:
         text = f"{escape(finding.message)}.{advice}{marks(finding)}"
     else:
         items = declared(source, finding.items)
-        text = f"<b>{finding.rule}</b> {escape(SENTENCES[finding.rule])}{items}{marks(finding)}"
+        text = f"<b>{finding.rule}</b> {escape(finding.sentence)}{items}{marks(finding)}"
+        text += f".{advice}" if finding.said else ""
+        text += "".join(f" {said_beside(source, note)}." for note in finding.beside)
         text += f' <span class="statement">statement {finding.statement}</span>'
     text += "".join(f"; {escape(copied)}" for copied in finding.copies_told())
     return f'\n<tr class="note {finding.level.value}"><td class="number"></td><td>{text}</td></tr>'
+
+
+def said_beside(source: SourceReport, note: Beside) -> str:
+    """What is said beside an alarm, with a link to the line of which it speaks."""
+    text = escape(note.text[:1].upper() + note.text[1:])
+    where = f"line {note.line}" + (f" of {escape(note.file)}" if note.file else "")
+    return f'{text} (<a href="#{anchor(source, note.line, note.file)}">{where}</a>)' if note.line else text
 
 
 def marks(finding: Finding) -> str:

@@ -17,6 +17,7 @@ from . import as_json, baseline, github, junit, outputs, pages, sarif, text
 from .answers import Verdict
 from .baseline import Baseline
 from .explain import explained
+from .explainer import Explainer, found_explainer
 from .findings import report_of
 from .history import Earlier
 from .options import parsed
@@ -59,7 +60,7 @@ def analysed(analyser: Analyser, sources: list[Source], jobs: int) -> list[Resul
                 print(progress(done, len(sources)), end="", file=sys.stderr, flush=True)
         return [future.result() for future in pending]
     except BaseException:
-        analyser.program.stop()
+        analyser.stop()
         raise
     finally:
         pool.shutdown(cancel_futures=True)
@@ -119,7 +120,9 @@ def show(shown: str) -> None:
 
 def found(options: argparse.Namespace, words: Words, folder: pathlib.Path) -> Report:
     """What the program answers of each source."""
-    analyser = Analyser(Program(found_program()), options.certs or folder / "certs", options.timeout)
+    path = found_explainer()
+    explainer = Explainer(path) if path else None
+    analyser = Analyser(Program(found_program()), options.certs or folder / "certs", options.timeout, explainer)
     listed = sources_at(options.paths, folder)
     sources = options.shard.taken(listed) if options.shard else listed
     if options.shard and not all(source.is_file for source in listed):

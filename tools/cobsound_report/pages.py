@@ -256,7 +256,8 @@ def found_table(
 
 
 def alarm_row(source: SourceReport, alarm: Finding) -> str:
-    text = f"<code>{escape(alarm.text)}</code>{marks(alarm)}{witnessed(alarm)}"
+    said = f"<br>{escape(capital(alarm.said))}.{advised(alarm.advice)}" if alarm.said else ""
+    text = f"<code>{escape(alarm.text)}</code>{marks(alarm)}{said}{witnessed(alarm)}"
     return f'<tr><td class="place">{line_link(source, alarm)}</td><td><b>{alarm.rule}</b></td><td>{text}</td></tr>'
 
 

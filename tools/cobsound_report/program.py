@@ -8,11 +8,15 @@ import subprocess
 import tempfile
 import threading
 import time
-from dataclasses import dataclass
+from dataclasses import dataclass, replace
+from typing import TYPE_CHECKING
 
 from . import ROOT
 from .answers import Answer, Verdict, answer_of
 from .sources import Source
+
+if TYPE_CHECKING:
+    from .explainer import Explainer, Told
 
 # Endings of files that are made below a folder for each source.
 MADE = (".cert", ".made", ".html", ".txt", ".map.json")
@@ -28,7 +32,8 @@ class TimeIsUp(Exception):
 
 @dataclass(frozen=True)
 class Result:
-    """What came of a source; `cells` and `nodes` are those of its certificate, where one was written or kept."""
+    """What came of a source; `cells` and `nodes` are those of its certificate, where one was written or kept, and `why`
+    what stands behind its alarms."""
 
     source: Source
     answer: Answer
@@ -36,6 +41,7 @@ class Result:
     nodes: int | None = None
     is_kept: bool = False
     seconds: float = 0
+    why: "Told | None" = None
 
 
 def found_program() -> str:
@@ -83,7 +89,11 @@ class Program:
 
     def asked(self, command: str, source: str, certificate: pathlib.Path, deadline: float) -> Answer:
         """The answer to a command, which must come before the deadline of the clock `time.monotonic`."""
-        process = self.started([self.path, command, as_name(source), as_name(str(certificate))])
+        return answer_of(*self.shown([command, as_name(source), as_name(str(certificate))], deadline))
+
+    def shown(self, words: list[str], deadline: float) -> tuple[int, str]:
+        """The status with which the program ends, and what it shows."""
+        process = self.started([self.path, *words])
         try:
             out, _ = process.communicate(timeout=max(deadline - time.monotonic(), 0))
         except subprocess.TimeoutExpired:
@@ -92,7 +102,7 @@ class Program:
             raise TimeIsUp from None
         finally:
             self.running.discard(process)
-        return answer_of(process.returncode, out.decode("latin-1"))
+        return process.returncode, out.decode("latin-1")
 
     def started(self, words: list[str]) -> subprocess.Popen:
         with self.lock:
@@ -111,12 +121,14 @@ class Program:
 
 
 class Analyser:
-    """Analyses sources with a program, and keeps their certificates in a folder. A source takes `seconds` at most."""
+    """Analyses sources with a program, and keeps their certificates in a folder. A source takes `seconds` at most. Where
+    there is a program that explains, it is asked about alarms."""
 
-    def __init__(self, program: Program, folder: pathlib.Path, seconds: float):
+    def __init__(self, program: Program, folder: pathlib.Path, seconds: float, explainer: "Explainer | None" = None):
         self.program = program
         self.folder = folder
         self.seconds = seconds
+        self.explainer = explainer
         self.program_sum = sum_of(program.path)
 
     def certificate_of(self, source: Source) -> pathlib.Path:
@@ -141,14 +153,27 @@ class Analyser:
         if source.original and source.original.answer:
             return Result(source, source.original.answer)
         begun = time.monotonic()
+        deadline = begun + self.seconds
         try:
-            found = self.found(source, begun + self.seconds)
+            found = self.explained(self.found(source, deadline), deadline)
         except TimeIsUp:
             told = f"no answer within {self.seconds:g} seconds"
             found = Result(source, Answer(Verdict.TIMEOUT, told=told))
         except OSError as error:
             found = Result(source, Answer(Verdict.FAILED, told=told_of(error)))
-        return Result(found.source, found.answer, found.cells, found.nodes, found.is_kept, time.monotonic() - begun)
+        return replace(found, seconds=time.monotonic() - begun)
+
+    def explained(self, found: Result, deadline: float) -> Result:
+        """The result with what stands behind its alarms."""
+        if not self.explainer or found.answer.verdict != Verdict.ALARMS:
+            return found
+        certificate = self.certificate_of(found.source)
+        return replace(found, why=self.explainer.told(found.source, certificate, found.answer.alarms, deadline))
+
+    def stop(self) -> None:
+        self.program.stop()
+        if self.explainer:
+            self.explainer.program.stop()
 
     def found(self, source: Source, deadline: float) -> Result:
         kept = self.certificate_of(source)

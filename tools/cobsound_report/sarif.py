@@ -8,7 +8,7 @@ import urllib.parse
 from . import ROOT, VERSION
 from .answers import Verdict
 from .baseline import Known
-from .findings import Finding, Item, Level, SourceReport
+from .findings import Beside, Finding, Item, Level, SourceReport
 from .report import Report
 from .sources import Source, Span
 from .remarks import PARAGRAPH
@@ -98,7 +98,7 @@ def result(source: SourceReport, finding: Finding, rules: list[str], report: Rep
         "ruleId": finding.rule,
         "ruleIndex": rules.index(finding.rule) if finding.rule in rules else -1,
         "level": finding.level.value,
-        "message": {"text": finding.message},
+        "message": {"text": finding.whole},
         "locations": [location(finding.file or source.source.name, finding.line, finding.span)],
         "partialFingerprints": {FINGERPRINT: finding.fingerprint},
     }
@@ -107,6 +107,7 @@ def result(source: SourceReport, finding: Finding, rules: list[str], report: Rep
     if finding.reason:
         told["suppressions"] = [{"kind": "external", "status": "accepted", "justification": finding.reason}]
     related = [declaration(source.source, item) for item in finding.items]
+    related += [said_beside(source.source, note) for note in finding.beside]
     related += [copied(file, line) for file, line in finding.copies]
     if related:
         told["relatedLocations"] = [{"id": number} | place for number, place in enumerate(related, 1)]
@@ -141,6 +142,11 @@ def declaration(source: Source, item: Item) -> dict:
     """Where an item of the statement is declared."""
     message = {"text": f"{item.name} is declared here"}
     return {"message": message, **location(item.file or source.name, item.line, item.span)}
+
+
+def said_beside(source: Source, note: Beside) -> dict:
+    """What is said beside an alarm, at the line of which it speaks."""
+    return {"message": {"text": note.text}, **location(note.file or source.name, note.line, note.span)}
 
 
 def copied(file: str, line: int) -> dict:

@@ -9,7 +9,7 @@ import pathlib
 from dataclasses import dataclass, replace
 
 from .answers import Verdict
-from .findings import Finding, Item, Level, SourceReport
+from .findings import Beside, Finding, Item, Level, SourceReport
 from .program import sum_of
 from .sources import Original, Source, Span
 
@@ -139,14 +139,23 @@ def finding_of(told: dict) -> Finding:
     plain = {name: told[name] for name in PLAIN}
     copies = tuple((copy["file"], copy["line"]) for copy in told["copied_by"])
     items = tuple(item_of(item) for item in told["items"])
-    return Finding(**plain, level=Level(told["level"]), span=span_of(told["marked"]), items=items, copies=copies)
+    beside = tuple(beside_of(note) for note in told["beside"])
+    level, span = Level(told["level"]), span_of(told["marked"])
+    return Finding(**plain, level=level, span=span, items=items, copies=copies, beside=beside)
+
+
+def beside_of(told: dict) -> Beside:
+    return Beside(told["text"], told["line"], span_of(told["marked"]), told["file"])
 
 
 def item_of(told: dict) -> Item:
     return Item(told["name"], told["line"], span_of(told["marked"]) or Span(0, 0), told["file"])
 
 
-PLAIN = ("rule", "message", "advice", "file", "line", "column", "shown", "statement", "text", "paragraph", "fingerprint")
+PLAIN = (
+    *("rule", "message", "advice", "file", "line", "column", "shown", "statement", "text", "paragraph", "fingerprint"),
+    *("said", "group"),
+)
 
 
 def span_of(marked: dict | None) -> Span | None:

@@ -46,7 +46,8 @@ class Statement:
 
 
 class Text:
-    """A source's statements in order, and its items by their names in capitals."""
+    """A source's statements in order, with the stretches of the joined text that are their own, and its items by their
+    names in capitals."""
 
     def __init__(self, lines: list[bytes]):
         self.joined = Joined(lines)
@@ -56,6 +57,7 @@ class Text:
         self.begin = begin.end() if begin else len(self.plain)
         declared = DECLARATION.finditer(self.plain[: self.begin])
         self.items = {match[1].upper(): self.place(match, 1) for match in declared}
+        self.spans: list[tuple[int, int]] = []
         self.statements = self.found_statements()
 
     def place(self, match: re.Match, group: int = 0) -> Place:
@@ -71,6 +73,7 @@ class Text:
                 paragraph = paragraphs.pop()[1]
             begin, behind = verb.start(), self.own_end(verb, end)
             text = " ".join(self.written[begin:behind].split())
+            self.spans.append((begin, behind))
             found.append(Statement(self.place(verb), text, self.items_in(begin, behind), paragraph))
         return found
 

@@ -1,0 +1,14 @@
+-- Which alarms are told.
+use Rattle.std.specs.Prelude.{◌≡◌, List, map}
+use Rattle.commands.specs.declared.alarms.Alarm.{Alarm}
+use Rattle.commands.specs.Answer.{Answer, Report}
+use Rattle.explain.specs.declared.alarms.AlarmTold.{AlarmTold}
+
+-- the alarm that is told of, as `check` reports it
+abbrev pub alarm_of : AlarmTold → Alarm
+alarm_of told = record { kind = told.kind.0; statement = told.statement; line = told.line }
+
+-- Where the answer is a report, its alarms are told of, each once and in its order.
+abbrev pub Lists : Answer → List AlarmTold → Type 0
+Lists (Report alarms) told = map alarm_of told ≡ alarms
+Lists _ told = Unit {0}

@@ -1,0 +1,281 @@
+//! Alarms with what stands behind them.
+ghost use Rattle.std.specs.Prelude.{◌≡◌, ◌<◌, ◌+◌, ◌*◌, map, length, IfOk, IfSome};
+ghost use Rattle.cob_program.specs.ActView.{plain_program};
+ghost use Rattle.cell_steps.specs.OwnRanges.{owns};
+ghost use Rattle.commands.specs.Steps.{IsOfSource};
+ghost use Rattle.explain.specs.Told.{alarm_of};
+
+use crate::claims::narrowed;
+use crate::moments::{Moment, What, moments_of};
+use crate::range::Range;
+use cell_layer::EdgeWorks;
+use cell_ranges::own_ranges;
+use cert_text::{Cert, Element, set_claimed_row};
+use cob_graph::{Graph, Node};
+use cob_tree::Kind;
+use commands::{Alarm, Laid};
+use edge_amounts::EdgeWork;
+use interval_domain::{Interval, is_reached};
+use serde::{Described, Serialize, Serializer};
+use source_facts::sources_have_source_graphs;
+use std::alloc::{AllocError, Global};
+
+/// A kind of fault, which is written as its word.
+#[derive(Clone, Copy, PartialEq, Eq)]
+pub struct KindTold(pub Kind);
+
+impl Described for KindTold {}
+
+impl Serialize for KindTold {
+    fn serialize<S: Serializer>(&self, out: &mut S) -> Result<(), S::Error> {
+        self.0.text().serialize(out)
+    }
+}
+
+/// A part of an edge that leaves a node, by the item that it is of. `range` is that of the item that is read, where it is
+/// known to be numeric, that of what divides, or that of what a receiver is to get; `narrowed` is the same where
+/// differences narrow the ranges of items first. `open` says that the part may meet the fault.
+#[derive(Clone, Copy, PartialEq, Eq, Serialize)]
+pub struct PartTold {
+    pub what: What,
+    pub item: Option<u32>,
+    pub open: bool,
+    pub range: Option<Range>,
+    pub narrowed: Option<Range>,
+}
+
+/// A node that leaves a pair open: the statements of the PERFORMs in whose copies it lies, outermost first, and the parts
+/// of its edges that read, divide or store.
+#[derive(Drop, Serialize)]
+pub struct NodeTold {
+    pub node: u32,
+    pub performs: Vec<u32>,
+    pub parts: Vec<PartTold>,
+}
+
+/// An open pair, with the source's line on which its statement begins, the PERFORMs that lead to each copy of it, outermost
+/// first, and the nodes that leave it open.
+#[derive(Drop, Serialize)]
+pub struct AlarmTold {
+    pub kind: KindTold,
+    pub statement: u32,
+    pub line: u32,
+    pub ways: Vec<Vec<u32>>,
+    pub nodes: Vec<NodeTold>,
+}
+
+/// All open pairs.
+#[derive(Drop, Serialize)]
+pub struct AlarmsTold {
+    pub alarms: Vec<AlarmTold>,
+}
+
+// A program's edges and the own ranges of its cells, with a certificate.
+#[derive(Drop)]
+struct Ground<'a> {
+    works: EdgeWorks<'a>,
+    ranges: Vec<Interval>,
+    cert: &'a Cert,
+    ghost owned: { ranges.items ≡ owns (plain_program works.program.now) },
+}
+
+// ---- along an edge
+
+// What is told of an edge's parts, by claims at the node that it leaves.
+fn moments_by(
+    alloc: Global,
+    ground: &Ground,
+    at: usize,
+    place: &Element,
+    kind: Kind,
+) -> Result<Vec<Moment>, AllocError>
+    requires edge { at < length ground.now.works.graph.now.edges }
+{
+    let ranges = ground.ranges.as_slice();
+    let mut words = vec![in alloc; 0; 2 * ranges.len() + 1]?;
+    let row = words.as_mut_slice();
+    set_claimed_row(ranges, place, row);
+    match ground.works.at(at) {
+        Some(work) if is_reached(row) => {
+            moments_of(alloc, ground.works.graph.cells.get(), work, kind, row)
+        }
+        _ => Ok(Vec::new(alloc)),
+    }
+}
+
+fn is_told(what: What) -> bool {
+    match what {
+        What::Other => false,
+        What::Read | What::Divide | What::Store | What::Count => true,
+    }
+}
+
+// A part as it is told, by its moment and the one with narrowed ranges, where a run comes there.
+fn part_told(moment: Moment, narrowed: Option<&Moment>) -> PartTold {
+    PartTold {
+        what: moment.what,
+        item: moment.item,
+        open: moment.open && narrowed.is_some_and(|narrowed| narrowed.open),
+        range: moment.range,
+        narrowed: narrowed.and_then(|narrowed| narrowed.range),
+    }
+}
+
+// Adds the parts of an edge.
+fn push_parts(
+    parts: &mut Vec<PartTold>,
+    moments: &[Moment],
+    narrowed: &[Moment],
+) -> Result<(), AllocError> {
+    for (k, moment) in moments.iter().enumerate() {
+        if is_told(moment.what) {
+            parts.push(part_told(*moment, narrowed.get(k)))?;
+        }
+    }
+    Ok(())
+}
+
+// ---- at a node
+
+// What is claimed of a node, which counts from 0.
+fn claimed_at(cert: &Cert, node: usize) -> Option<&Element> {
+    cert.nodes.as_slice().get(node)
+}
+
+// The parts of the edges that leave a node, which counts from 0. With `narrow` those are open that stay so where
+// differences narrow ranges; without it both rows are the claimed one.
+fn parts_at(
+    alloc: Global,
+    ground: &Ground,
+    node: usize,
+    kind: Kind,
+    narrow: bool,
+) -> Result<Vec<PartTold>, AllocError> {
+    let mut parts = Vec::new(alloc);
+    let Some(place) = claimed_at(ground.cert, node) else {
+        return Ok(parts);
+    };
+    let graph = ground.works.graph;
+    let closer = narrowed(alloc, graph.cells.get(), ground.cert.packs.as_slice(), place)?;
+    let edges = graph.edges.get();
+    for at in 0..edges.len() {
+        if edges[at].from as usize == node + 1 {
+            let moments = moments_by(alloc, ground, at, place, kind)?;
+            let second = if narrow { &closer } else { place };
+            let narrowed = moments_by(alloc, ground, at, second, kind)?;
+            push_parts(&mut parts, moments.as_slice(), narrowed.as_slice())?;
+        }
+    }
+    Ok(parts)
+}
+
+// Adds a node, where a part of it is open.
+fn push_node(
+    alloc: Global,
+    nodes: &mut Vec<NodeTold>,
+    number: u32,
+    node: &Node,
+    parts: Vec<PartTold>,
+) -> Result<(), AllocError> {
+    if parts.iter().any(|part| part.open) {
+        nodes.push(NodeTold {
+            node: number,
+            performs: Vec::from_slice(alloc, node.sites.get())?,
+            parts,
+        })?;
+    }
+    Ok(())
+}
+
+// The nodes of a statement at which a part is open.
+fn nodes_by(
+    alloc: Global,
+    ground: &Ground,
+    alarm: Alarm,
+    narrow: bool,
+) -> Result<Vec<NodeTold>, AllocError> {
+    let mut nodes = Vec::new(alloc);
+    for (k, node) in ground.works.graph.nodes.get().iter().enumerate() {
+        if node.statement == alarm.statement {
+            let parts = parts_at(alloc, ground, k, alarm.kind, narrow)?;
+            push_node(alloc, &mut nodes, (k as u32).saturating_add(1), node, parts)?;
+        }
+    }
+    Ok(nodes)
+}
+
+// The nodes that leave a pair open. Where narrowed ranges leave none, since the second layer shows less there than they,
+// those of the first layer alone.
+fn nodes_of(alloc: Global, ground: &Ground, alarm: Alarm) -> Result<Vec<NodeTold>, AllocError> {
+    let nodes = nodes_by(alloc, ground, alarm, true)?;
+    if nodes.as_slice().is_empty() {
+        nodes_by(alloc, ground, alarm, false)
+    } else {
+        Ok(nodes)
+    }
+}
+
+// ---- alarms
+
+// Whether the last way is this one.
+fn ends_with(ways: &[Vec<u32>], way: &[u32]) -> bool {
+    ways.last().is_some_and(|last| last.as_slice() == way)
+}
+
+// The PERFORMs that lead to each copy of a statement: its nodes in one copy follow each other among all of its nodes.
+fn ways_to(alloc: Global, graph: &Graph, statement: u32) -> Result<Vec<Vec<u32>>, AllocError> {
+    let mut ways = Vec::new(alloc);
+    for node in graph.nodes.get() {
+        let way = node.sites.get();
+        if node.statement == statement && !ends_with(ways.as_slice(), way) {
+            ways.push(Vec::from_slice(alloc, way)?)?;
+        }
+    }
+    Ok(ways)
+}
+
+fn alarm_told(alloc: Global, ground: &Ground, alarm: Alarm) -> Result<AlarmTold, AllocError>
+    ensures { IfOk result (λ told. alarm_of told ≡ alarm) }
+{
+    let nodes = nodes_of(alloc, ground, alarm)?;
+    let ways = ways_to(alloc, ground.works.graph, alarm.statement)?;
+    Ok(AlarmTold {
+        kind: KindTold(alarm.kind),
+        statement: alarm.statement,
+        line: alarm.line,
+        ways,
+        nodes,
+    })
+}
+
+fn all_told(alloc: Global, ground: &Ground, alarms: &[Alarm]) -> Result<Vec<AlarmTold>, AllocError>
+    ensures { IfOk result (λ told. map alarm_of told.items ≡ alarms.now) }
+{
+    let mut told = Vec::new(alloc);
+    for alarm in alarms {
+        told.push(alarm_told(alloc, ground, *alarm)?)?;
+    }
+    Ok(told)
+}
+
+/// The alarms of a source's program, which a certificate leaves open, with what stands behind each. The ranges are those
+/// that the certificate claims: who calls this has checked it.
+pub fn explained(
+    alloc: Global,
+    laid: &Laid,
+    cert: &Cert,
+    alarms: &[Alarm],
+) -> Result<Vec<AlarmTold>, AllocError>
+    requires { IsOfSource laid.now }
+    ensures { IfOk result (λ told. map alarm_of told.items ≡ alarms.now) }
+{
+    sources_have_source_graphs();
+    let works = EdgeWorks::new(alloc, &laid.program, &laid.graph)?;
+    let ranges = own_ranges(alloc, laid.graph.cells.get())?;
+    let ground = Ground {
+        works,
+        ranges,
+        cert,
+    };
+    all_told(alloc, &ground, alarms)
+}

@@ -1,0 +1,154 @@
+//! Claims of cells at a node, narrowed by what is claimed of their differences there.
+//!
+//! A bound says that the value at one place of a pack minus that at another is at most a number, in the pack's finest
+//! unit. So the one has no greater numbers than the other can have and that number more, and the other no lesser ones.
+use cert_text::{Bound, Claim, Element};
+use cob_runs::Cell;
+use dec_num::pow10;
+use diff_bounds::Pack;
+use std::alloc::{AllocError, Global};
+
+// As many times bounds are gone over as a pack can have cells, so that what one of them shows reaches all others.
+const ROUNDS: usize = 8;
+
+// The most places behind the point.
+const MOST_PLACES: u32 = 18;
+
+/// A place of a pack: the number 0, or a claim by its place, whose unit stands by a factor above the pack's.
+#[derive(Clone, Copy)]
+enum Side {
+    Zero,
+    Claimed { at: usize, factor: i128 },
+}
+
+fn scale_of(cells: &[Cell], cell: u32) -> u32 {
+    match cells.get((cell as usize).saturating_sub(1)) {
+        None => 0,
+        Some(cell) => cell.scale,
+    }
+}
+
+// The places behind the point of a pack's finest unit.
+fn pack_scale(cells: &[Cell], pack: &Pack) -> u32 {
+    let mut most = 0;
+    for cell in pack.cells.as_slice() {
+        most = most.max(scale_of(cells, *cell));
+    }
+    most
+}
+
+fn place_of(claims: &[Claim], cell: u32) -> Option<usize> {
+    claims.iter().position(|claim| claim.cell == cell)
+}
+
+// A place of a pack, if there is something claimed of it.
+fn side_of(claims: &[Claim], cells: &[Cell], pack: &Pack, place: u32) -> Option<Side> {
+    if place == 0 {
+        return Some(Side::Zero);
+    }
+    let cell = *pack.cells.as_slice().get(place as usize - 1)?;
+    let at = place_of(claims, cell)?;
+    let places = pack_scale(cells, pack).checked_sub(scale_of(cells, cell))?;
+    if places > MOST_PLACES {
+        return None;
+    }
+    Some(Side::Claimed {
+        at,
+        factor: pow10(places),
+    })
+}
+
+// The least and the greatest number there, in the pack's unit.
+fn ends_of(claims: &[Claim], side: Side) -> Option<(i128, i128)> {
+    match side {
+        Side::Zero => Some((0, 0)),
+        Side::Claimed { at, factor } => {
+            let claim = claims.get(at)?;
+            let low = i128::from(claim.low).checked_mul(factor)?;
+            let high = i128::from(claim.high).checked_mul(factor)?;
+            Some((low, high))
+        }
+    }
+}
+
+// No number is greater than this one of the pack's unit.
+fn lower_high(claims: &mut [Claim], side: Side, most: i128) {
+    if let Side::Claimed { at, factor } = side {
+        if let Some(claim) = claims.get_mut(at) {
+            if factor > 0 {
+                if let Ok(high) = i64::try_from(most.div_euclid(factor)) {
+                    if claim.low <= high && high < claim.high {
+                        claim.high = high;
+                    }
+                }
+            }
+        }
+    }
+}
+
+// No number is less than this one of the pack's unit.
+fn raise_low(claims: &mut [Claim], side: Side, least: i128) {
+    if let Side::Claimed { at, factor } = side {
+        if let Some(claim) = claims.get_mut(at) {
+            if factor > 0 {
+                if let Some(low) = least_units(least, factor) {
+                    if claim.low < low && low <= claim.high {
+                        claim.low = low;
+                    }
+                }
+            }
+        }
+    }
+}
+
+// The least number of units, each a factor above the pack's, that isn't less than this one.
+fn least_units(least: i128, factor: i128) -> Option<i64> {
+    if factor <= 0 {
+        return None;
+    }
+    let turned = least.checked_neg()?.div_euclid(factor);
+    i64::try_from(turned.checked_neg()?).ok()
+}
+
+fn narrow(claims: &mut [Claim], row: Side, column: Side, most: i128) -> Option<()> {
+    let (_, column_high) = ends_of(claims, column)?;
+    let (row_low, _) = ends_of(claims, row)?;
+    lower_high(claims, row, column_high.checked_add(most)?);
+    raise_low(claims, column, row_low.checked_sub(most)?);
+    Some(())
+}
+
+// Narrows claims by a bound, where both of its places have one.
+fn narrow_by(claims: &mut [Claim], cells: &[Cell], packs: &[Pack], bound: Bound) -> Option<()> {
+    let pack = packs.get((bound.pack as usize).checked_sub(1)?)?;
+    let row = side_of(claims, cells, pack, bound.row)?;
+    let column = side_of(claims, cells, pack, bound.column)?;
+    narrow(claims, row, column, bound.most)
+}
+
+/// What is claimed of a node, with its bounds taken into the ranges of cells.
+pub(crate) fn narrowed(
+    alloc: Global,
+    cells: &[Cell],
+    packs: &[Pack],
+    place: &Element,
+) -> Result<Element, AllocError> {
+    match place {
+        Element::Unreached => Ok(Element::Unreached),
+        Element::At {
+            cells: claims,
+            bounds,
+        } => {
+            let mut claims = Vec::from_slice(alloc, claims.as_slice())?;
+            for _round in 0..ROUNDS {
+                for bound in bounds.as_slice() {
+                    narrow_by(claims.as_mut_slice(), cells, packs, *bound);
+                }
+            }
+            Ok(Element::At {
+                cells: claims,
+                bounds: Vec::new(alloc),
+            })
+        }
+    }
+}
