@@ -93,11 +93,11 @@ SHOP = {
 }
 
 # What is said of payroll's rate, which two statements read: they stand together, and one line says what mends both.
-TOGETHER = """tests/shop/payroll.cob:79: warning: CLASS: T-RATE may not be numeric here (statement 26)
+TOGETHER = """tests/shop/payroll.cob:79: warning: CLASS: T-RATE may not be numeric here (statement 21)
                    T-RATE * (40 + (T-HOURS - 40) * 1.5)
                    ^~~~~~
 tests/shop/payroll.cob:79: note: T-RATE is of TIME-REC, a record of CARDS
-tests/shop/payroll.cob:81: warning: CLASS: T-RATE may not be numeric here (statement 27)
+tests/shop/payroll.cob:81: warning: CLASS: T-RATE may not be numeric here (statement 22)
                COMPUTE GROSS ROUNDED = T-HOURS * T-RATE                 CLASSIZE
                                                  ^~~~~~
 tests/shop/payroll.cob:81: note: T-RATE is of TIME-REC, a record of CARDS

@@ -95,11 +95,12 @@ fn moments_by(
     let mut words = vec![in alloc; 0; 2 * ranges.len() + 1]?;
     let row = words.as_mut_slice();
     set_claimed_row(ranges, place, row);
+    if !is_reached(row) {
+        return Ok(Vec::new(alloc));
+    }
     match ground.works.at(at) {
-        Some(work) if is_reached(row) => {
-            moments_of(alloc, ground.works.graph.cells.get(), work, kind, row)
-        }
-        _ => Ok(Vec::new(alloc)),
+        None => Ok(Vec::new(alloc)),
+        Some(work) => moments_of(alloc, ground.works.graph.cells.get(), work, kind, row),
     }
 }
 

@@ -31,7 +31,8 @@ pub fn told_alarms<'a, F: Files>(
     ensures answer { IfOk result (λ answer. IfSome (known_bytes (F.state files.old)) (λ contents.
         AnswersCheck contents source.now certificate.now (plain_answer answer))) }
     ensures usage { IfOk result (λ answer. is_usage (plain_answer answer) ≡ false) }
-    ensures lists { IfOk result (λ answer. Lists (plain_answer answer) told.new.items) }
+    ensures lists { IfOk result (λ answer. IfSome (known_bytes (F.state files.old)) (λ contents.
+        Lists (plain_answer answer) told.new.items)) }
 {
     match read_source(alloc, source, files) {
         Ok(laid) => told_of_program(alloc, &laid, certificate, files, told),
