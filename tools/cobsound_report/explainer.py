@@ -134,10 +134,11 @@ class Told:
 
 
 def found_explainer() -> str | None:
-    """The program that COBSOUND_EXPLAIN names, else the one that the launcher would start, if there is one."""
+    """The program that COBSOUND_EXPLAIN names, none where that is empty; else the one that the launcher would start, if
+    there is one."""
     named = os.environ.get("COBSOUND_EXPLAIN")
-    if named:
-        return named
+    if named is not None:
+        return named or None
     if not RELEASED.exists():
         return None
     found = subprocess.run([ROOT / "cobsound"], env={**os.environ, "COBSOUND_FIND": "explain"}, stdout=subprocess.PIPE)

@@ -11,7 +11,7 @@ use crate::range::Range;
 use cell_layer::EdgeWorks;
 use cell_ranges::own_ranges;
 use cert_text::{Cert, Element, set_claimed_row};
-use cob_graph::{Graph, Node};
+use cob_graph::Node;
 use cob_tree::Kind;
 use commands::{Alarm, Laid};
 use edge_amounts::EdgeWork;
@@ -53,8 +53,8 @@ pub struct NodeTold {
     pub parts: Vec<PartTold>,
 }
 
-/// An open pair, with the source's line on which its statement begins, the PERFORMs that lead to each copy of it, outermost
-/// first, and the nodes that leave it open.
+/// An open pair, with the source's line on which its statement begins, the PERFORMs that lead to each copy of it that is
+/// reached, outermost first, and the nodes that leave it open.
 #[derive(Drop, Serialize)]
 pub struct AlarmTold {
     pub kind: KindTold,
@@ -138,36 +138,55 @@ fn push_parts(
 
 // ---- at a node
 
-// What is claimed of a node, which counts from 0.
-fn claimed_at(cert: &Cert, node: usize) -> Option<&Element> {
-    cert.nodes.as_slice().get(node)
+// The number of a node by its place.
+fn number_of(place: usize) -> u32 {
+    u32::try_from(place).unwrap_or(u32::MAX).saturating_add(1)
 }
 
-// The parts of the edges that leave a node, which counts from 0. With `narrow` those are open that stay so where
-// differences narrow ranges; without it both rows are the claimed one.
-fn parts_at(
+// What is claimed of a node.
+fn claimed_at(cert: &Cert, number: u32) -> Option<&Element> {
+    let place = (number as usize).checked_sub(1)?;
+    cert.nodes.as_slice().get(place)
+}
+
+// The parts of the edges that leave a node, by what is claimed of it, and by the same with narrowed ranges.
+fn parts_by(
     alloc: Global,
     ground: &Ground,
-    node: usize,
+    number: u32,
+    place: &Element,
+    closer: &Element,
     kind: Kind,
-    narrow: bool,
 ) -> Result<Vec<PartTold>, AllocError> {
     let mut parts = Vec::new(alloc);
-    let Some(place) = claimed_at(ground.cert, node) else {
-        return Ok(parts);
-    };
-    let graph = ground.works.graph;
-    let closer = narrowed(alloc, graph.cells.get(), ground.cert.packs.as_slice(), place)?;
-    let edges = graph.edges.get();
+    let edges = ground.works.graph.edges.get();
     for at in 0..edges.len() {
-        if edges[at].from as usize == node + 1 {
+        if edges[at].from == number {
             let moments = moments_by(alloc, ground, at, place, kind)?;
-            let second = if narrow { &closer } else { place };
-            let narrowed = moments_by(alloc, ground, at, second, kind)?;
+            let narrowed = moments_by(alloc, ground, at, closer, kind)?;
             push_parts(&mut parts, moments.as_slice(), narrowed.as_slice())?;
         }
     }
     Ok(parts)
+}
+
+// The parts of the edges that leave a node. With `narrow` those are open that stay so where differences narrow ranges.
+fn parts_at(
+    alloc: Global,
+    ground: &Ground,
+    number: u32,
+    kind: Kind,
+    narrow: bool,
+) -> Result<Vec<PartTold>, AllocError> {
+    let Some(place) = claimed_at(ground.cert, number) else {
+        return Ok(Vec::new(alloc));
+    };
+    if !narrow {
+        return parts_by(alloc, ground, number, place, place, kind);
+    }
+    let cells = ground.works.graph.cells.get();
+    let closer = narrowed(alloc, cells, ground.cert.packs.as_slice(), place)?;
+    parts_by(alloc, ground, number, place, &closer, kind)
 }
 
 // Adds a node, where a part of it is open.
@@ -196,24 +215,26 @@ fn nodes_by(
     narrow: bool,
 ) -> Result<Vec<NodeTold>, AllocError> {
     let mut nodes = Vec::new(alloc);
-    for (k, node) in ground.works.graph.nodes.get().iter().enumerate() {
+    for (place, node) in ground.works.graph.nodes.get().iter().enumerate() {
         if node.statement == alarm.statement {
-            let parts = parts_at(alloc, ground, k, alarm.kind, narrow)?;
-            push_node(alloc, &mut nodes, (k as u32).saturating_add(1), node, parts)?;
+            let number = number_of(place);
+            let parts = parts_at(alloc, ground, number, alarm.kind, narrow)?;
+            push_node(alloc, &mut nodes, number, node, parts)?;
         }
     }
     Ok(nodes)
 }
 
-// The nodes that leave a pair open. Where narrowed ranges leave none, since the second layer shows less there than they,
-// those of the first layer alone.
+// The nodes that leave a pair open. Which items are numeric no difference tells. Where narrowed ranges leave none, since
+// the second layer shows less there than they, those of the first layer alone.
 fn nodes_of(alloc: Global, ground: &Ground, alarm: Alarm) -> Result<Vec<NodeTold>, AllocError> {
-    let nodes = nodes_by(alloc, ground, alarm, true)?;
-    if nodes.as_slice().is_empty() {
-        nodes_by(alloc, ground, alarm, false)
-    } else {
-        Ok(nodes)
+    if alarm.kind != Kind::Class {
+        let nodes = nodes_by(alloc, ground, alarm, true)?;
+        if !nodes.as_slice().is_empty() {
+            return Ok(nodes);
+        }
     }
+    nodes_by(alloc, ground, alarm, false)
 }
 
 // ---- alarms
@@ -223,12 +244,19 @@ fn ends_with(ways: &[Vec<u32>], way: &[u32]) -> bool {
     ways.last().is_some_and(|last| last.as_slice() == way)
 }
 
-// The PERFORMs that lead to each copy of a statement: its nodes in one copy follow each other among all of its nodes.
-fn ways_to(alloc: Global, graph: &Graph, statement: u32) -> Result<Vec<Vec<u32>>, AllocError> {
+// Whether a node is claimed to be reached.
+fn is_claimed(cert: &Cert, number: u32) -> bool {
+    matches!(claimed_at(cert, number), Some(Element::At { .. }))
+}
+
+// The PERFORMs that lead to each copy of a statement that is claimed to be reached: its nodes in one copy follow each other
+// among all of its nodes.
+fn ways_to(alloc: Global, ground: &Ground, statement: u32) -> Result<Vec<Vec<u32>>, AllocError> {
     let mut ways = Vec::new(alloc);
-    for node in graph.nodes.get() {
+    for (place, node) in ground.works.graph.nodes.get().iter().enumerate() {
         let way = node.sites.get();
-        if node.statement == statement && !ends_with(ways.as_slice(), way) {
+        let is_here = node.statement == statement && is_claimed(ground.cert, number_of(place));
+        if is_here && !ends_with(ways.as_slice(), way) {
             ways.push(Vec::from_slice(alloc, way)?)?;
         }
     }
@@ -239,7 +267,7 @@ fn alarm_told(alloc: Global, ground: &Ground, alarm: Alarm) -> Result<AlarmTold,
     ensures { IfOk result (λ told. alarm_of told ≡ alarm) }
 {
     let nodes = nodes_of(alloc, ground, alarm)?;
-    let ways = ways_to(alloc, ground.works.graph, alarm.statement)?;
+    let ways = ways_to(alloc, ground, alarm.statement)?;
     Ok(AlarmTold {
         kind: KindTold(alarm.kind),
         statement: alarm.statement,

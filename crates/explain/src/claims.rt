@@ -8,8 +8,9 @@ use dec_num::pow10;
 use diff_bounds::Pack;
 use std::alloc::{AllocError, Global};
 
-// As many times bounds are gone over as a pack can have cells, so that what one of them shows reaches all others.
-const ROUNDS: usize = 8;
+// Bounds are gone over again, so that what one of them shows serves those before it. What a matrix shows of its cells by
+// way of others stands among its bounds.
+const ROUNDS: usize = 2;
 
 // The most places behind the point.
 const MOST_PLACES: u32 = 18;
@@ -37,8 +38,14 @@ fn pack_scale(cells: &[Cell], pack: &Pack) -> u32 {
     most
 }
 
+// The place of a cell's claim, if it has one; claims stand by rising cell.
 fn place_of(claims: &[Claim], cell: u32) -> Option<usize> {
-    claims.iter().position(|claim| claim.cell == cell)
+    let at = claims.partition_point(|claim| claim.cell < cell);
+    if claims.get(at)?.cell == cell {
+        Some(at)
+    } else {
+        None
+    }
 }
 
 // A place of a pack, if there is something claimed of it.

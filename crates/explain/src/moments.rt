@@ -101,12 +101,7 @@ fn known_range(program: &Program, cells: &[Cell], row: &[i128], place: u32) -> O
 }
 
 // The range of a divisor; nothing where one in it is 0 alone.
-fn divisor_range(
-    program: &Program,
-    cells: &[Cell],
-    row: &[i128],
-    divisor: Divisor,
-) -> Option<Range>
+fn divisor_range(program: &Program, cells: &[Cell], row: &[i128], divisor: Divisor) -> Option<Range>
     requires row { IsRowOf (plain_program program.now) cells.now row.now }
     requires fits { CellsFit (owns (plain_program program.now)) (cells_of row.now) }
     requires small { is_small_atom (bound_at program.now.layout) (plain_divisor divisor) ≡ true }

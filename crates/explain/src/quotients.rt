@@ -20,7 +20,11 @@ fn quotient(top: i128, top_scale: u32, under: i128, under_scale: u32, scale: u32
     let behind = scale.checked_add(under_scale)?;
     let raised = moved(top, behind.checked_sub(top_scale)?)?;
     if under == 0 || under == -1 {
-        return if under == 0 { None } else { raised.checked_neg() };
+        return if under == 0 {
+            None
+        } else {
+            raised.checked_neg()
+        };
     }
     Some(raised / under)
 }

@@ -5,9 +5,9 @@ mod top;
 
 use batch_io::{RealFiles, StdSink};
 use std::alloc::Global;
+use std::env;
 use std::io::{self, ErrorKind};
 use std::process::ExitCode;
-use std::env;
 use top::cobsound_explain;
 
 // The status where a word of the command isn't text.

@@ -1,8 +1,6 @@
 //! The top call: what the words ask for is told.
 use batch_io::{Files, Sink};
-use commands::{
-    Answer, OUT_OF_MEMORY, WRITE_FAULT, read_source, show_found, show_line, show_text,
-};
+use commands::{Answer, OUT_OF_MEMORY, WRITE_FAULT, read_source, show_found, show_line, show_text};
 use explain::{alarms_text, layout_text, told_alarms};
 use std::alloc::{AllocError, Global};
 
