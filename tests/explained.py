@@ -20,6 +20,9 @@ EXPLAIN = ROOT / "tools/cobsound-explain"
 
 PROGRAMS = ("explain_top",)
 
+# The order of a statement's alarms.
+KINDS = ("SIZE", "TRUNCATION", "ZERO", "CLASS")
+
 # Of each program: the line and the kind of an alarm, what is said of it, the word that is pointed at with its line, and
 # the lines of the PERFORMs that are told.
 SHOP = {
@@ -140,8 +143,8 @@ def of_alarm(name, lines, found, wanted):
 def of_program(name):
     """All alarms of a program."""
     lines = lines_of(name)
-    found = sorted(findings_of(name), key=lambda finding: finding["statement"])
-    alarms = [finding for finding in found if finding["statement"] is not None]
+    found = [finding for finding in findings_of(name) if finding["statement"] is not None]
+    alarms = sorted(found, key=lambda alarm: (alarm["statement"], KINDS.index(alarm["rule"])))
     wanted = SHOP[name]
     if len(alarms) != len(wanted):
         return f"{name}: {len(alarms)} alarms in place of {len(wanted)}"
@@ -158,7 +161,7 @@ def of_a_line():
     """`cobsound explain SOURCE LINE` tells of the statement on this line alone."""
     status, out, _ = shown(EXPLAIN, "tests/shop/payroll.cob", "79")
     warnings = [line for line in out.splitlines() if ": warning: " in line]
-    is_right = status == 1 and len(warnings) == 2 and "T-HOURS (PIC 9(2)V9(2) of TIME-REC, line 27): 40.01 to 99.99" in out
+    is_right = status == 1 and len(warnings) == 2 and "T-HOURS (PIC 99V99 of TIME-REC, line 26): 40.01 to 99.99" in out
     return None if is_right else f"a line: {status}, {out!r}"
 
 
@@ -239,7 +242,7 @@ YES = {"form": "text", "text": "Y"}
 PRICE = {
     "name": "PRICE",
     "line": 13,
-    "picture": "9(3)V9(2)",
+    "picture": "999V99",
     "usage": "DISPLAY",
     "digits": 5,
     "scale": 2,

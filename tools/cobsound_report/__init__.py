@@ -2,9 +2,10 @@
 
 Nothing of it is proved: it shows what the program answered. `options` reads the command line (`command_line` is what
 all tools share of that), `sources` finds sources and reads them, `answers` takes an answer strictly, `program` asks for
-it, `findings` says what there is to tell in the words that `words` has of docs/GUIDE.md, `history` compares with an
+it, `explainer` asks the second program what stands behind alarms, `operands` finds where operands stand, `why` puts that
+together, `findings` says what there is to tell in the words that `words` has of docs/GUIDE.md, `history` compares with an
 earlier report, `outputs` writes without replacing a source, `text`, `as_json`, `sarif`, `github`, `junit` and `pages`
-are the forms of a report, and `main` is the command.
+are the forms of a report, and `main` is the command; `explaining` is the command `explain` of one program.
 
 `prepared` has sources prepared before the program reads them, by `cobsound_prepare`, and then says where what is told
 of them stands in their own files.

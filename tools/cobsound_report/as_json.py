@@ -73,6 +73,7 @@ def finding_told(finding: Finding) -> dict:
         "paragraph": finding.paragraph,
         "items": [item_told(item) for item in finding.items],
         "said": finding.said,
+        "begins": finding.begins,
         "beside": [beside_told(note) for note in finding.beside],
         "group": finding.group,
         "fingerprint": finding.fingerprint,

@@ -63,7 +63,8 @@ class Finding:
     its file and line. `column` stands where the program named one. The fingerprint is the same as long as the statement
     stays, on whatever line. `is_new` is said beside an earlier report, `is_known` beside a baseline, the reason is that
     of a suppression, and the witness what a search for input files left. `said` is what is known of an alarm's cause, in
-    place of the sentence of its kind, with what is said beside it; alarms of one group are mended by one test."""
+    place of the sentence of its kind, with the line on which its statement begins and what is said beside it; alarms of
+    one group are mended by one test."""
 
     rule: str
     level: Level
@@ -85,6 +86,7 @@ class Finding:
     file: str = ""
     copies: tuple[tuple[str, int], ...] = ()
     said: str = ""
+    begins: int | None = None
     beside: tuple[Beside, ...] = ()
     group: str = ""
 
@@ -196,6 +198,7 @@ def because(found: Finding, alarm: Alarm, why: Why, listing: Listing) -> Finding
         found.at(place) if place else found,
         message=f"{alarm.kind}: {why.said} (statement {alarm.statement})",
         said=why.said,
+        begins=listing.text_place(alarm.line).line,
         advice=why.advice,
         beside=tuple(beside(note.text, note.line, listing) for note in why.notes),
         group=" ".join(str(part) for part in why.group),
@@ -318,7 +321,7 @@ def round_lines(advice: str, group: list[Finding]) -> str:
     """What mends a group; a test stands round its lines."""
     if "IF " not in advice:
         return advice
-    lines = sorted({finding.line for finding in group if finding.line is not None})
+    lines = sorted({finding.begins for finding in group if finding.begins is not None})
     told = ", ".join(str(line) for line in lines[:-1])
     return f"{advice} round " + (f"lines {told} and {lines[-1]}" if told else f"line {lines[-1]}")
 

@@ -154,7 +154,7 @@ def item_of(told: dict) -> Item:
 
 PLAIN = (
     *("rule", "message", "advice", "file", "line", "column", "shown", "statement", "text", "paragraph", "fingerprint"),
-    *("said", "group"),
+    *("said", "begins", "group"),
 )
 
 

@@ -34,6 +34,9 @@ class Why:
 # The verbs that put a record or a group over another one, and the word before their receivers.
 TOWARDS = {"MOVE": "TO", "READ": "INTO"}
 
+# The most digits of an item.
+MOST_DIGITS = 18
+
 # What mends a divisor that isn't an item alone.
 UNNAMED = "ON SIZE ERROR, or the divisor in an item of its own, with a test of that"
 
@@ -70,6 +73,16 @@ def listed(words: list[str]) -> str:
 def digits_before(value: Fraction) -> int:
     """How many digits stand before the point."""
     return len(str(int(abs(value))))
+
+
+def digits_told(item: DataItem, result: Range | None) -> str:
+    """How many digits an item needs before its point, where it can have as many."""
+    if not result:
+        return ""
+    digits = digits_before(max(result.high, -result.low))
+    fits = digits <= item.digits - item.places or digits + item.places > MOST_DIGITS
+    where = "before the point of" if item.places else "in"
+    return "" if fits else f"{digits} digits {where} {item.name}"
 
 
 # ---- a source
@@ -112,7 +125,7 @@ class Reasons:
         alarm = behind.alarm
         names = [self.name(item) for item in items]
         place = next(filter(None, (self.place(sender, alarm, item) for item in items)), None)
-        notes = tuple(note for item in items if (note := self.since(alarm, item)))
+        notes = (*filter(None, (self.since(alarm, item) for item in items)), *self.whose(alarm, items))
         test = " AND ".join(f"{name} IS NUMERIC" for name in names)
         unset = [item for item in items if self.wants_value(item)]
         value = f"a VALUE for {listed([self.name(item) for item in unset])}, or " if unset == items else ""
@@ -135,22 +148,33 @@ class Reasons:
         verb, line = statement.text.upper().partition(" ")[0], statement.verb.line
         for group in self.layout.above(item):
             if verb in TOWARDS and self.is_received(number, group, TOWARDS[verb]):
-                yield Note(f"nothing has tested {self.name(item)} since this {verb} to {self.name(group)}", line)
+                told = f"this {verb} {TOWARDS[verb]} {self.name(group)}"
+                yield Note(f"nothing has tested {self.name(item)} since {told}", line)
 
     def since(self, alarm: Alarm, item: int) -> Note | None:
-        """What last made an item unknown, where a statement before it in the same paragraph does; else whose it is."""
-        name, file = self.name(item), self.layout.file(item)
-        changes = next(self.changes_before(alarm, item, file.name if file else None), None)
-        if changes:
+        """What last made an item unknown, where a statement before it in the same paragraph does; else, of an item that
+        is in no file's record, what fills its group, or that it has no VALUE."""
+        changes = self.change_before(alarm, item)
+        if changes or self.layout.file(item):
             return changes
-        if file:
-            return Note(f"{name} is of {self.name(self.layout.record(item))}, a record of {file.name}")
-        fills = list(self.fills(item))
-        if fills:
-            return fills[0]
         if self.wants_value(item):
-            return Note(f"{name} is declared without a VALUE", self.layout.items[item].line)
-        return None
+            return Note(f"{self.name(item)} is declared without a VALUE", self.layout.items[item].line)
+        return next(self.fills(item), None)
+
+    def whose(self, alarm: Alarm, items: list[int]) -> Iterator[Note]:
+        """Of which records items are that no statement in the paragraph has changed before."""
+        records: dict[int, list[str]] = {}
+        for item in items:
+            if self.layout.file(item) and not self.change_before(alarm, item):
+                records.setdefault(self.layout.record(item), []).append(self.name(item))
+        for record, names in records.items():
+            file = self.layout.file(record)
+            are = "is" if len(names) == 1 else "are"
+            yield Note(f"{listed(names)} {are} of {self.name(record)}, a record of {file.name if file else ''}")
+
+    def change_before(self, alarm: Alarm, item: int) -> Note | None:
+        file = self.layout.file(item)
+        return next(self.changes_before(alarm, item, file.name if file else None), None)
 
     def changes_before(self, alarm: Alarm, item: int, file: str | None) -> Iterator[Note]:
         """The statements before an alarm in its paragraph that make an item unknown, the last one first."""
@@ -203,17 +227,16 @@ class Reasons:
         if len(names) > 1:
             said += f"; so of {listed(names[1:])}"
         notes = tuple(self.ranges(behind)) if alarm.kind == "SIZE" else ()
-        return Why(said, self.place(receiver, alarm, target), notes, self.store_advice(behind, target, result), (alarm,))
+        advice = self.move_advice if alarm.kind == "TRUNCATION" else self.store_advice
+        return Why(said, self.place(receiver, alarm, target), notes, advice(behind, target, result), (alarm,))
 
     def store_said(self, alarm: Alarm, item: DataItem, result: Range | None, behind: Behind) -> str:
         holds = f"{item.name} holds {number(item.most, item.places)}"
         if not result:
             return f"{holds}, and the result may be more"
         worst = result.high if result.high > item.most else result.low
-        what = "the result"
-        senders = {part.item for part in behind.parts("read")}
-        if alarm.kind == "TRUNCATION" and len(senders) == 1:
-            what = self.name(senders.pop())
+        moved = self.moved(behind) if alarm.kind == "TRUNCATION" else None
+        what = "the result" if moved is None else self.name(moved)
         return f"{holds}, {what} may be {number(shortened(worst, item), item.places)}"
 
     def ranges(self, behind: Behind) -> Iterator[Note]:
@@ -234,17 +257,32 @@ class Reasons:
         return f"{declared.name} {spread(found, declared.places)}{mark}"
 
     def store_advice(self, behind: Behind, target: int, result: Range | None) -> str:
-        """A bound where a receiver grows by what is added to it; else as many digits as the result can have."""
+        """A bound where a receiver grows by what is added to it; else as many digits as the result can have. The item of
+        a VARYING, which has no phrase, grows once past what UNTIL tests."""
         item = self.layout.items[target]
-        name = item.name
-        phrase = "" if behind.alarm.kind == "TRUNCATION" else "ON SIZE ERROR, or "
+        if self.text.statements[behind.alarm.statement - 1].text.upper().startswith("PERFORM"):
+            return digits_told(item, result) or f"a lesser bound of {item.name} in UNTIL"
         own = hull_of([part for part in behind.parts("read") if part.item == target], target)
+        more = digits_told(item, result)
         if result and own and result.high > item.most:
             bound = item.most - (result.high - own.high)
-            return f"{phrase}IF {name} NOT > {number(bound, item.places)}" if bound > 0 else phrase.removesuffix(", or ")
-        if result and item.digits - item.places < (digits := digits_before(max(result.high, -result.low))) <= 18:
-            return f"{phrase}{digits} digits before the point of {name}"
-        return f"{phrase}a test before" if phrase else "test the sender before"
+            more = f"IF {item.name} NOT > {number(bound, item.places)}" if bound > 0 else ""
+        return f"ON SIZE ERROR, or {more}" if more else "ON SIZE ERROR"
+
+    def move_advice(self, behind: Behind, target: int, result: Range | None) -> str:
+        """As many digits as the sender can have, or a test of it."""
+        item, moved = self.layout.items[target], self.moved(behind)
+        told = [digits_told(item, result)]
+        if moved is not None and result:
+            name, most = self.name(moved), number(item.most, item.places)
+            tests = [f"{name} NOT > {most}"] * (result.high > item.most) + [f"{name} NOT < -{most}"] * (result.low < -item.most)
+            told += [f"IF {' AND '.join(tests)}"] if tests else []
+        return ", or ".join(filter(None, told)) or "a test of the sender before"
+
+    def moved(self, behind: Behind) -> int | None:
+        """The item that is moved, where only one is read."""
+        senders = {part.item for part in behind.parts("read")}
+        return senders.pop() if len(senders) == 1 else None
 
     # ---- PERFORMs
 

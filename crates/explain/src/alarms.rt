@@ -79,6 +79,21 @@ struct Ground<'a> {
     ghost owned: { ranges.items ≡ owns (plain_program works.program.now) },
 }
 
+impl<'a> Ground<'a> {
+    fn new(alloc: Global, laid: &'a Laid, cert: &'a Cert) -> Result<Ground<'a>, AllocError>
+        requires { IsOfSource laid.now }
+    {
+        sources_have_source_graphs();
+        let works = EdgeWorks::new(alloc, &laid.program, &laid.graph)?;
+        let ranges = own_ranges(alloc, laid.graph.cells.get())?;
+        Ok(Ground {
+            works,
+            ranges,
+            cert,
+        })
+    }
+}
+
 // ---- along an edge
 
 // What is told of an edge's parts, by claims at the node that it leaves.
@@ -298,13 +313,6 @@ pub fn explained(
     requires { IsOfSource laid.now }
     ensures { IfOk result (λ told. map alarm_of told.items ≡ alarms.now) }
 {
-    sources_have_source_graphs();
-    let works = EdgeWorks::new(alloc, &laid.program, &laid.graph)?;
-    let ranges = own_ranges(alloc, laid.graph.cells.get())?;
-    let ground = Ground {
-        works,
-        ranges,
-        cert,
-    };
+    let ground = Ground::new(alloc, laid, cert)?;
     all_told(alloc, &ground, alarms)
 }

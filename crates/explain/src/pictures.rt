@@ -4,19 +4,22 @@ use cob_tree::{Form, Usage};
 use itoa::Buffer;
 use std::alloc::{AllocError, Global};
 
+// So many places of a symbol are written out; more are counted.
+const MOST_WRITTEN: u32 = 3;
+
 // Adds so many places of one symbol.
 fn push_places(text: &mut String, symbol: char, count: u32) -> Result<(), AllocError> {
-    if count == 0 {
+    if count <= MOST_WRITTEN {
+        for _place in 0..count {
+            text.push(symbol)?;
+        }
         return Ok(());
     }
+    let mut buffer = Buffer::new();
     text.push(symbol)?;
-    if count > 1 {
-        let mut buffer = Buffer::new();
-        text.push('(')?;
-        text.push_str(buffer.format(count))?;
-        text.push(')')?;
-    }
-    Ok(())
+    text.push('(')?;
+    text.push_str(buffer.format(count))?;
+    text.push(')')
 }
 
 fn number_picture(

@@ -15,18 +15,22 @@ fn moved(units: i128, places: u32) -> Option<i128> {
     }
 }
 
-// A quotient at a scale; nothing where a divisor is 0 or words don't hold it.
-fn quotient(top: i128, top_scale: u32, under: i128, under_scale: u32, scale: u32) -> Option<i128> {
-    let behind = scale.checked_add(under_scale)?;
-    let raised = moved(top, behind.checked_sub(top_scale)?)?;
-    if under == 0 || under == -1 {
-        return if under == 0 {
-            None
-        } else {
-            raised.checked_neg()
-        };
+// What is divided and what divides, as whole numbers whose quotient has so many places behind the point.
+fn whole(top: Ranged, end: i128, under: Ranged, divisor: i128, scale: u32) -> Option<(i128, i128)> {
+    let behind = scale.checked_add(under.scale)?;
+    match behind.checked_sub(top.scale) {
+        Some(places) => Some((moved(end, places)?, divisor)),
+        None => Some((end, moved(divisor, top.scale.saturating_sub(behind))?)),
     }
-    Some(raised / under)
+}
+
+// A quotient, cut; nothing where the divisor is 0 or words don't hold it.
+fn quotient(top: i128, under: i128) -> Option<i128> {
+    match under {
+        0 => None,
+        -1 => top.checked_neg(),
+        _ => Some(top / under),
+    }
 }
 
 // The divisors next to 0 on either side, or the ends themselves.
@@ -47,7 +51,8 @@ pub(crate) fn quotient_range(top: Ranged, under: Ranged, scale: u32) -> Option<R
     for divisor in divisors(under) {
         if divisor != 0 {
             for end in [top.units.low, top.units.high] {
-                let value = quotient(end, top.scale, divisor, under.scale, scale)?;
+                let (divided, divisor) = whole(top, end, under, divisor, scale)?;
+                let value = quotient(divided, divisor)?;
                 found = Some(match found {
                     None => (value, value),
                     Some((low, high)) => (low.min(value), high.max(value)),
