@@ -17,6 +17,7 @@ out, which is told, and is a failure where the word is `--all`. With `--large` `
 """
 
 import itertools
+import os
 import sys
 from concurrent.futures import ThreadPoolExecutor
 from os import cpu_count
@@ -46,6 +47,8 @@ def missing():
 
 
 def main():
+    # why alarms are told is of `explained`, which names the program that tells it: for all others there is none
+    os.environ["COBSOUND_EXPLAIN"] = ""
     lacking = dict(missing())
     for line in lacking.values():
         print(line)

@@ -3,6 +3,7 @@ answers itself, and the files that it doesn't let a run lose.
 
 Of a program that isn't the recorded one the word TAMPERED would be seen."""
 
+import hashlib
 import os
 import pathlib
 import re
@@ -338,6 +339,20 @@ def of_a_tool_that_stands_beside(tree):
     return told("a tool", found, [(0, "tool a b -x\n", ""), (0, "tool --help\n", ""), True])
 
 
+def of_the_program_that_explains(tree):
+    """The second program is found where the record names it by its sum, and no other one."""
+    name, text = "release/cobsound-explain", "#!/bin/sh\n"
+    tree.write(name, text)
+    record = (tree.folder / "release/record").read_text()
+    others = [line for line in record.splitlines(True) if not line.startswith("explain ")]
+    line = f"explain {hashlib.sha256(text.encode()).hexdigest()}\n"
+    tree.write("release/record", "".join([*others, line]), 0o644)
+    found = tree.ran(COBSOUND_FIND="explain")
+    tree.write(name, TAMPERED)
+    cause = refusal_of("a tampered program that explains", tree.ran(COBSOUND_FIND="explain"), f"{name} isn't the program")
+    return told("the program that explains", (found, cause), ((0, f"{tree.folder}/{name}\n", ""), None))
+
+
 def of_the_version(tree):
     wanted = f"cobsound {(ROOT / 'VERSION').read_text()}{(ROOT / 'release/record').read_text()}"
     found = [tree.ran("--version"), tree.ran("-V")]
@@ -417,6 +432,7 @@ def checks():
     yield from said()
     kinds = (of_a_start, of_the_same_size, of_a_full_disk, of_racing_starts, of_an_odd_place, of_edited_sources)
     more = (of_a_package, of_unreadable_sources, of_itself, of_spent_steps, of_a_signal, of_a_tool_that_stands_beside)
-    yield from (in_a_tree(kind) for kind in (*kinds, *more, of_the_version, of_usual_names))
+    last = (of_the_program_that_explains, of_the_version, of_usual_names)
+    yield from (in_a_tree(kind) for kind in (*kinds, *more, *last))
     yield from (in_a_tree(of_a_missing_program, name) for name in ("release/cobsound", "release/record"))
     yield from (in_a_tree(of_losing_words, *pair) for pair in LOSING)

@@ -30,7 +30,7 @@ ANSWERS = [
 ]
 
 
-TOOLS = ("report", "prepare", "witness")
+TOOLS = ("report", "explain", "prepare", "witness")
 
 # some of what stands below a prefix
 INSTALLED = (

@@ -46,9 +46,8 @@ SAMPLES = (*CLEAN, "orders", "indexed")
 
 
 def reported(words, cwd=ROOT, program=None, **more):
-    """The status of the tool, and what it shows on standard output and standard error. Why alarms are told is of
-    `explained`: here no program tells it."""
-    env = {**os.environ, "COBSOUND_EXPLAIN": "", **({"COBSOUND_PROGRAM": str(program)} if program else {})}
+    """The status of the tool, and what it shows on standard output and standard error."""
+    env = {**os.environ, **({"COBSOUND_PROGRAM": str(program)} if program else {})}
     done = subprocess.run([TOOL, *words], cwd=cwd, env=env, capture_output=True, text=True, **more)
     return done.returncode, done.stdout, done.stderr
 
