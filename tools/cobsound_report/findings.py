@@ -97,8 +97,10 @@ class Finding:
 
     @property
     def whole(self) -> str:
-        """The message, with what mends it where that is known."""
-        return f"{self.message}; {self.advice}" if self.said else self.message
+        """The message, with what is said beside it of no line, and what mends it where that is known."""
+        if not self.said:
+            return self.message
+        return "; ".join([self.message, *(note.text for note in self.beside if note.line is None), self.advice])
 
     def at(self, place: Place) -> "Finding":
         """The finding at a place."""

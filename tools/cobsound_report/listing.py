@@ -57,8 +57,8 @@ def note(source: SourceReport, finding: Finding) -> str:
     else:
         items = declared(source, finding.items)
         text = f"<b>{finding.rule}</b> {escape(finding.sentence)}{items}{marks(finding)}"
+        text += "".join(f". {said_beside(source, note)}" for note in finding.beside)
         text += f".{advice}" if finding.said else ""
-        text += "".join(f" {said_beside(source, note)}." for note in finding.beside)
         text += f' <span class="statement">statement {finding.statement}</span>'
     text += "".join(f"; {escape(copied)}" for copied in finding.copies_told())
     return f'\n<tr class="note {finding.level.value}"><td class="number"></td><td>{text}</td></tr>'

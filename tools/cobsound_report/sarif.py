@@ -107,7 +107,7 @@ def result(source: SourceReport, finding: Finding, rules: list[str], report: Rep
     if finding.reason:
         told["suppressions"] = [{"kind": "external", "status": "accepted", "justification": finding.reason}]
     related = [declaration(source.source, item) for item in finding.items]
-    related += [said_beside(source.source, note) for note in finding.beside]
+    related += [said_beside(source.source, note) for note in finding.beside if note.line is not None]
     related += [copied(file, line) for file, line in finding.copies]
     if related:
         told["relatedLocations"] = [{"id": number} | place for number, place in enumerate(related, 1)]

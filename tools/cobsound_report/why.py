@@ -184,8 +184,10 @@ class Reasons:
             if statement.paragraph != paragraph:
                 return
             words = statement.text.upper().split()
-            if words[0] == "READ" and words[1:2] == [file]:
-                yield Note(f"nothing has tested {self.name(item)} since this READ of {file}", statement.verb.line)
+            record = self.name(self.layout.record(item))
+            for verb, named in (("READ", file), ("WRITE", record)):
+                if words[0] == verb and words[1:2] == [named]:
+                    yield Note(f"nothing has tested {self.name(item)} since this {verb} of {named}", statement.verb.line)
             yield from self.fill_by(before, item)
 
     def is_received(self, statement: int, item: int, before: str) -> bool:
