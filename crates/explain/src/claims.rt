@@ -78,43 +78,47 @@ fn ends_of(claims: &[Claim], side: Side) -> Option<(i128, i128)> {
     }
 }
 
-// No number is greater than this one of the pack's unit.
-fn lower_high(claims: &mut [Claim], side: Side, most: i128) {
-    if let Side::Claimed { at, factor } = side {
-        if let Some(claim) = claims.get_mut(at) {
-            if factor > 0 {
-                if let Ok(high) = i64::try_from(most.div_euclid(factor)) {
-                    if claim.low <= high && high < claim.high {
-                        claim.high = high;
-                    }
-                }
-            }
-        }
+// The greatest number of units, each a factor above the pack's, that isn't greater than this one.
+fn greatest_units(most: i128, factor: i128) -> Option<i64> {
+    if factor <= 0 {
+        return None;
     }
+    i64::try_from(most.div_euclid(factor)).ok()
 }
 
-// No number is less than this one of the pack's unit.
-fn raise_low(claims: &mut [Claim], side: Side, least: i128) {
-    if let Side::Claimed { at, factor } = side {
-        if let Some(claim) = claims.get_mut(at) {
-            if factor > 0 {
-                if let Some(low) = least_units(least, factor) {
-                    if claim.low < low && low <= claim.high {
-                        claim.low = low;
-                    }
-                }
-            }
-        }
-    }
-}
-
-// The least number of units, each a factor above the pack's, that isn't less than this one.
+// The least number of units that isn't less than this one.
 fn least_units(least: i128, factor: i128) -> Option<i64> {
     if factor <= 0 {
         return None;
     }
     let turned = least.checked_neg()?.div_euclid(factor);
     i64::try_from(turned.checked_neg()?).ok()
+}
+
+// No number there is greater than this one of the pack's unit.
+fn lower_high(claims: &mut [Claim], side: Side, most: i128) -> Option<()> {
+    let Side::Claimed { at, factor } = side else {
+        return None;
+    };
+    let high = greatest_units(most, factor)?;
+    let claim = claims.get_mut(at)?;
+    if claim.low <= high && high < claim.high {
+        claim.high = high;
+    }
+    Some(())
+}
+
+// No number there is less than this one of the pack's unit.
+fn raise_low(claims: &mut [Claim], side: Side, least: i128) -> Option<()> {
+    let Side::Claimed { at, factor } = side else {
+        return None;
+    };
+    let low = least_units(least, factor)?;
+    let claim = claims.get_mut(at)?;
+    if claim.low < low && low <= claim.high {
+        claim.low = low;
+    }
+    Some(())
 }
 
 fn narrow(claims: &mut [Claim], row: Side, column: Side, most: i128) -> Option<()> {
