@@ -164,7 +164,8 @@ fn claimed_at(cert: &Cert, number: u32) -> Option<&Element> {
     cert.nodes.as_slice().get(place)
 }
 
-// The parts of the edges that leave a node, by what is claimed of it, and by the same with narrowed ranges.
+// The parts of the edges that leave a node, by what is claimed of it, and by the same with narrowed ranges. Edges stand in
+// the order of their nodes.
 fn parts_by(
     alloc: Global,
     ground: &Ground,
@@ -175,12 +176,14 @@ fn parts_by(
 ) -> Result<Vec<PartTold>, AllocError> {
     let mut parts = Vec::new(alloc);
     let edges = ground.works.graph.edges.get();
-    for at in 0..edges.len() {
-        if edges[at].from == number {
-            let moments = moments_by(alloc, ground, at, place, kind)?;
-            let narrowed = moments_by(alloc, ground, at, closer, kind)?;
-            push_parts(&mut parts, moments.as_slice(), narrowed.as_slice())?;
+    let first = edges.partition_point(|edge| edge.from < number);
+    for at in first..edges.len() {
+        if edges[at].from != number {
+            return Ok(parts);
         }
+        let moments = moments_by(alloc, ground, at, place, kind)?;
+        let narrowed = moments_by(alloc, ground, at, closer, kind)?;
+        push_parts(&mut parts, moments.as_slice(), narrowed.as_slice())?;
     }
     Ok(parts)
 }
