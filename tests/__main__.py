@@ -9,11 +9,11 @@ standard outputs that fail, `bytewise` files that give or take a byte at a time,
 document, `prepare`, `prepare_texts` and `damaged_sources` those of the tool that prepares sources, `prepared` those of
 the tools that do so first, `prepare_compiled` those of the former under another compiler, which takes a minute and is
 done where the word is `--all` or `--compiled`, `packaging` the packages, `costings` those of the script that watches the
-gate, `witness` the search for input files on one program (with `--witness`, or `--all`, on all of `tests/shop`), `explained` why alarms
-are told, `calls` the calls of libraries, `ranges` those that work with ranges of numbers, `matrices` those with matrices and forms,
-`edges` and `diffs` those with edges of control graphs, and `slow` the comparison of the interpreter with the plain slow
-step. `explained` and the last six need programs of their own, which the gate builds: without them their cases are left
-out, which is told, and is a failure where the word is `--all`. With `--large` `diffs` tries all of its programs.
+gate, `witness` the search for input files on one program (with `--witness`, or `--all`, on all of `tests/shop`),
+`explained` why alarms are told, `calls` the calls of libraries, `ranges` those that work with ranges of numbers,
+`matrices` those with matrices and forms, `edges` and `diffs` those with edges of control graphs, and `slow` the
+comparison of the interpreter with the plain slow step. The last seven need programs of their own, which the gate
+builds: without them their cases are left out, which is told, and is a failure where the word is `--all`. With `--large` `diffs` tries all of its programs.
 """
 
 import itertools
@@ -22,8 +22,8 @@ import sys
 from concurrent.futures import ThreadPoolExecutor
 from os import cpu_count
 
-from tests import analysed, analyses, built, bytewise, calls, costings, damaged_sources, diffs, edges, explained, launching
-from tests import limits, matrices, nightly, outside, packaging, packs, prepare, prepare_compiled, prepare_texts
+from tests import analysed, analyses, built, bytewise, calls, costings, damaged_sources, diffs, edges, explained
+from tests import launching, limits, matrices, nightly, outside, packaging, packs, prepare, prepare_compiled, prepare_texts
 from tests import prepared, programs, ranges, reference, refusals, report, report_calls, report_files, sample, slow
 from tests import standing, trials, witness, words
 

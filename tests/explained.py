@@ -95,6 +95,28 @@ SHOP = {
     ],
 }
 
+# One is paid for each that is read, at the most: by ranges alone PAID-COUNT grows without a bound, and with differences it
+# is at most READ-COUNT, which is at most 50 there.
+BOTH = """
+       IDENTIFICATION DIVISION.
+       PROGRAM-ID. T.
+       DATA DIVISION.
+       WORKING-STORAGE SECTION.
+       77 READ-COUNT PIC 9(5) VALUE 0.
+       77 PAID-COUNT PIC 9(5) VALUE 0.
+       77 SHOWN PIC 9 VALUE 0.
+       77 SWITCH PIC X VALUE 'N'.
+       PROCEDURE DIVISION.
+       PERFORM UNTIL READ-COUNT NOT < 50
+         ADD 1 TO READ-COUNT
+         IF SWITCH = 'Y'
+           ADD 1 TO PAID-COUNT
+           MOVE PAID-COUNT TO SHOWN
+         END-IF
+       END-PERFORM.
+       STOP RUN.
+"""
+
 # What is said of payroll's rate, which two statements read: they stand together, and one line says what mends both.
 TOGETHER = """tests/shop/payroll.cob:79: warning: CLASS: T-RATE may not be numeric here (statement 21)
                    T-RATE * (40 + (T-HOURS - 40) * 1.5)
@@ -149,6 +171,17 @@ def of_program(name):
     if len(alarms) != len(wanted):
         return f"{name}: {len(alarms)} alarms in place of {len(wanted)}"
     return "\n".join(filter(None, (of_alarm(name, lines, *pair) for pair in zip(alarms, wanted)))) or None
+
+
+def of_both_layers():
+    """Ranges are those of both layers."""
+    with tempfile.TemporaryDirectory() as folder:
+        source = pathlib.Path(folder, "both.cob")
+        source.write_text(BOTH.lstrip("\n"))
+        _, out, _ = shown(TOOL, source, "--format", "json")
+    said = [finding["said"] for finding in json.loads(out)["sources"][0]["findings"]]
+    wanted = ["SHOWN holds 9, PAID-COUNT may be 50"]
+    return None if said == wanted else f"both layers: {said} in place of {wanted}"
 
 
 def of_alarms_together():
@@ -232,12 +265,13 @@ def of_layout():
         and {name: told["files"][0][name] for name in file} == file
         and {name: price[name] for name in PRICE} == PRICE
         and (switch["picture"], switch["conditions"]) == ("X", conditions)
-        and [paragraph["name"] for paragraph in told["paragraphs"]] == [None, "MAIN-LINE", "READ-ORDER", "TAKE-ORDER", "ADD-ORDER"]
+        and [paragraph["name"] for paragraph in told["paragraphs"]] == PARAGRAPHS
         and told["statements"][:3] == [24, 25, 26]
     )
     return None if is_right else f"layout: {told}"
 
 
+PARAGRAPHS = [None, "MAIN-LINE", "READ-ORDER", "TAKE-ORDER", "ADD-ORDER"]
 YES = {"form": "text", "text": "Y"}
 PRICE = {
     "name": "PRICE",
@@ -258,6 +292,7 @@ PRICE = {
 def checks():
     for name in SHOP:
         yield lambda name=name: of_program(name)
-    yield from (of_alarms_together, of_a_line, of_a_line_without_alarms, of_sarif, of_pages, of_words, of_layout)
+    yield from (of_both_layers, of_alarms_together, of_a_line, of_a_line_without_alarms)
+    yield from (of_sarif, of_pages, of_words, of_layout)
     for words, checked in refusals():
         yield lambda words=words, checked=checked: of_refusal(words, checked)

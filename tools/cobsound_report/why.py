@@ -277,7 +277,8 @@ class Reasons:
         told = [digits_told(item, result)]
         if moved is not None and result:
             name, most = self.name(moved), number(item.most, item.places)
-            tests = [f"{name} NOT > {most}"] * (result.high > item.most) + [f"{name} NOT < -{most}"] * (result.low < -item.most)
+            tests = [f"{name} NOT > {most}"] * (result.high > item.most)
+            tests += [f"{name} NOT < -{most}"] * (result.low < -item.most)
             told += [f"IF {' AND '.join(tests)}"] if tests else []
         return ", or ".join(filter(None, told)) or "a test of the sender before"
 
