@@ -13,7 +13,8 @@ gate, `witness` the search for input files on one program (with `--witness`, or 
 `explained` why alarms are told, `calls` the calls of libraries, `ranges` those that work with ranges of numbers,
 `matrices` those with matrices and forms, `edges` and `diffs` those with edges of control graphs, and `slow` the
 comparison of the interpreter with the plain slow step. The last seven need programs of their own, which the gate
-builds: without them their cases are left out, which is told, and is a failure where the word is `--all`. With `--large` `diffs` tries all of its programs.
+builds: without them their cases are left out, which is told, and is a failure where the word is `--all`. With `--large`
+`diffs` tries all of its programs.
 """
 
 import itertools
@@ -23,9 +24,9 @@ from concurrent.futures import ThreadPoolExecutor
 from os import cpu_count
 
 from tests import analysed, analyses, built, bytewise, calls, costings, damaged_sources, diffs, edges, explained
-from tests import launching, limits, matrices, nightly, outside, packaging, packs, prepare, prepare_compiled, prepare_texts
-from tests import prepared, programs, ranges, reference, refusals, report, report_calls, report_files, sample, slow
-from tests import standing, trials, witness, words
+from tests import launching, limits, matrices, nightly, outside, packaging, packs, prepare, prepare_compiled
+from tests import prepare_texts, prepared, programs, ranges, reference, refusals, report, report_calls, report_files
+from tests import sample, slow, standing, trials, witness, words
 
 PLAIN = (reference, sample, analysed, analyses, packs, trials, programs, words, limits, outside, bytewise)
 

@@ -6,7 +6,7 @@ use Rattle.explain.specs.declared.alarms.AlarmTold.{AlarmTold}
 
 -- the alarm that is told of, as `check` reports it
 abbrev pub alarm_of : AlarmTold → Alarm
-alarm_of told = record { kind = told.kind.0; statement = told.statement; line = told.line }
+alarm_of told = record { kind = told.kind.kind; statement = told.statement; line = told.line }
 
 -- Where the answer is a report, its alarms are told of, each once and in its order.
 abbrev pub Lists : Answer → List AlarmTold → Type 0

@@ -22,13 +22,15 @@ use std::alloc::{AllocError, Global};
 
 /// A kind of fault, which is written as its word.
 #[derive(Clone, Copy, PartialEq, Eq)]
-pub struct KindTold(pub Kind);
+pub struct KindTold {
+    pub kind: Kind,
+}
 
 impl Described for KindTold {}
 
 impl Serialize for KindTold {
     fn serialize<S: Serializer>(&self, out: &mut S) -> Result<(), S::Error> {
-        self.0.text().serialize(out)
+        self.kind.text().serialize(out)
     }
 }
 
@@ -287,7 +289,7 @@ fn alarm_told(alloc: Global, ground: &Ground, alarm: Alarm) -> Result<AlarmTold,
     let nodes = nodes_of(alloc, ground, alarm)?;
     let ways = ways_to(alloc, ground, alarm.statement)?;
     Ok(AlarmTold {
-        kind: KindTold(alarm.kind),
+        kind: KindTold { kind: alarm.kind },
         statement: alarm.statement,
         line: alarm.line,
         ways,
