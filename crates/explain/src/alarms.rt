@@ -11,10 +11,11 @@ use crate::range::Range;
 use cell_layer::EdgeWorks;
 use cell_ranges::own_ranges;
 use cert_text::{Cert, Element, set_claimed_row};
-use cob_graph::Node;
+use cob_graph::Graph;
+use cob_runs::Cell;
 use cob_tree::Kind;
 use commands::{Alarm, Laid};
-use edge_amounts::EdgeWork;
+use edge_amounts::{EdgePart, cell_of};
 use interval_domain::{Interval, is_reached};
 use serde::{Described, Serialize, Serializer};
 use source_facts::sources_have_source_graphs;
@@ -72,13 +73,38 @@ pub struct AlarmsTold {
     pub alarms: Vec<AlarmTold>,
 }
 
-// A program's edges and the own ranges of its cells, with a certificate.
+// A program's edges, the own ranges of its cells and the nodes of each statement, with a certificate.
 #[derive(Drop)]
 struct Ground<'a> {
     works: EdgeWorks<'a>,
     ranges: Vec<Interval>,
+    nodes: Vec<Vec<u32>>,
     cert: &'a Cert,
     ghost owned: { ranges.items ≡ owns (plain_program works.program.now) },
+}
+
+// The number of a node by its place.
+fn number_of(place: usize) -> u32 {
+    u32::try_from(place).unwrap_or(u32::MAX).saturating_add(1)
+}
+
+// The nodes of each statement, by its number; 0 is that of the final node.
+fn nodes_of_statements(
+    alloc: Global,
+    graph: &Graph,
+    statements: u32,
+) -> Result<Vec<Vec<u32>>, AllocError> {
+    let mut lists = Vec::new(alloc);
+    lists.push(Vec::new(alloc))?;
+    for _statement in 0..statements {
+        lists.push(Vec::new(alloc))?;
+    }
+    for (place, node) in graph.nodes.get().iter().enumerate() {
+        if let Some(list) = lists.as_mut_slice().get_mut(node.statement as usize) {
+            list.push(number_of(place))?;
+        }
+    }
+    Ok(lists)
 }
 
 impl<'a> Ground<'a> {
@@ -88,11 +114,30 @@ impl<'a> Ground<'a> {
         sources_have_source_graphs();
         let works = EdgeWorks::new(alloc, &laid.program, &laid.graph)?;
         let ranges = own_ranges(alloc, laid.graph.cells.get())?;
+        let nodes = nodes_of_statements(alloc, &laid.graph, laid.program.statements)?;
         Ok(Ground {
             works,
             ranges,
+            nodes,
             cert,
         })
+    }
+
+    // The numbers of a statement's nodes.
+    fn nodes_of(&self, statement: u32) -> &[u32] {
+        match self.nodes.as_slice().get(statement as usize) {
+            None => &[],
+            Some(nodes) => nodes.as_slice(),
+        }
+    }
+
+    // The PERFORMs in whose copies a node lies.
+    fn way_to(&self, number: u32) -> &[u32] {
+        let place = (number as usize).saturating_sub(1);
+        match self.works.graph.nodes.get().get(place) {
+            None => &[],
+            Some(node) => node.sites.get(),
+        }
     }
 }
 
@@ -155,15 +200,42 @@ fn push_parts(
 
 // ---- at a node
 
-// The number of a node by its place.
-fn number_of(place: usize) -> u32 {
-    u32::try_from(place).unwrap_or(u32::MAX).saturating_add(1)
-}
-
 // What is claimed of a node.
 fn claimed_at(cert: &Cert, number: u32) -> Option<&Element> {
     let place = (number as usize).checked_sub(1)?;
     cert.nodes.as_slice().get(place)
+}
+
+// The cells, from 1, of the items that edges which leave a node read. Edges stand in the order of their nodes.
+fn cells_read(alloc: Global, ground: &Ground, number: u32) -> Result<Vec<u32>, AllocError> {
+    let mut read = Vec::new(alloc);
+    let edges = ground.works.graph.edges.get();
+    let first = edges.partition_point(|edge| edge.from < number);
+    for at in first..edges.len() {
+        if edges[at].from != number {
+            return Ok(read);
+        }
+        if let Some(work) = ground.works.at(at) {
+            push_read(
+                &mut read,
+                ground.works.graph.cells.get(),
+                work.parts.as_slice(),
+            )?;
+        }
+    }
+    Ok(read)
+}
+
+// Adds the cells of the items that these parts read.
+fn push_read(read: &mut Vec<u32>, cells: &[Cell], parts: &[EdgePart]) -> Result<(), AllocError> {
+    for part in parts {
+        if let EdgePart::Read(place) = *part {
+            if let Some(cell) = cell_of(cells, place) {
+                read.push(number_of(cell))?;
+            }
+        }
+    }
+    Ok(())
 }
 
 // The parts of the edges that leave a node, by what is claimed of it, and by the same with narrowed ranges. Edges stand in
@@ -205,7 +277,9 @@ fn parts_at(
         return parts_by(alloc, ground, number, place, place, kind);
     }
     let cells = ground.works.graph.cells.get();
-    let closer = narrowed(alloc, cells, ground.cert.packs.as_slice(), place)?;
+    let read = cells_read(alloc, ground, number)?;
+    let packs = ground.cert.packs.as_slice();
+    let closer = narrowed(alloc, cells, packs, read.as_slice(), place)?;
     parts_by(alloc, ground, number, place, &closer, kind)
 }
 
@@ -214,13 +288,13 @@ fn push_node(
     alloc: Global,
     nodes: &mut Vec<NodeTold>,
     number: u32,
-    node: &Node,
+    way: &[u32],
     parts: Vec<PartTold>,
 ) -> Result<(), AllocError> {
     if parts.iter().any(|part| part.open) {
         nodes.push(NodeTold {
             node: number,
-            performs: Vec::from_slice(alloc, node.sites.get())?,
+            performs: Vec::from_slice(alloc, way)?,
             parts,
         })?;
     }
@@ -235,12 +309,9 @@ fn nodes_by(
     narrow: bool,
 ) -> Result<Vec<NodeTold>, AllocError> {
     let mut nodes = Vec::new(alloc);
-    for (place, node) in ground.works.graph.nodes.get().iter().enumerate() {
-        if node.statement == alarm.statement {
-            let number = number_of(place);
-            let parts = parts_at(alloc, ground, number, alarm.kind, narrow)?;
-            push_node(alloc, &mut nodes, number, node, parts)?;
-        }
+    for number in ground.nodes_of(alarm.statement) {
+        let parts = parts_at(alloc, ground, *number, alarm.kind, narrow)?;
+        push_node(alloc, &mut nodes, *number, ground.way_to(*number), parts)?;
     }
     Ok(nodes)
 }
@@ -273,10 +344,9 @@ fn is_claimed(cert: &Cert, number: u32) -> bool {
 // among all of its nodes.
 fn ways_to(alloc: Global, ground: &Ground, statement: u32) -> Result<Vec<Vec<u32>>, AllocError> {
     let mut ways = Vec::new(alloc);
-    for (place, node) in ground.works.graph.nodes.get().iter().enumerate() {
-        let way = node.sites.get();
-        let is_here = node.statement == statement && is_claimed(ground.cert, number_of(place));
-        if is_here && !ends_with(ways.as_slice(), way) {
+    for number in ground.nodes_of(statement) {
+        let way = ground.way_to(*number);
+        if is_claimed(ground.cert, *number) && !ends_with(ways.as_slice(), way) {
             ways.push(Vec::from_slice(alloc, way)?)?;
         }
     }

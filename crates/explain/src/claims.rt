@@ -8,10 +8,6 @@ use dec_num::pow10;
 use diff_bounds::Pack;
 use std::alloc::{AllocError, Global};
 
-// Bounds are gone over again, so that what one of them shows serves those before it. What a matrix shows of its cells by
-// way of others stands among its bounds.
-const ROUNDS: usize = 2;
-
 // The most places behind the point.
 const MOST_PLACES: u32 = 18;
 
@@ -129,19 +125,39 @@ fn narrow(claims: &mut [Claim], row: Side, column: Side, most: i128) -> Option<(
     Some(())
 }
 
-// Narrows claims by a bound, where both of its places have one.
-fn narrow_by(claims: &mut [Claim], cells: &[Cell], packs: &[Pack], bound: Bound) -> Option<()> {
+// Whether a place of a pack is that of a cell which is wanted.
+fn is_wanted(wanted: &[u32], pack: &Pack, place: u32) -> bool {
+    let at = (place as usize).checked_sub(1);
+    match at.and_then(|at| pack.cells.as_slice().get(at)) {
+        None => false,
+        Some(cell) => wanted.iter().any(|other| other == cell),
+    }
+}
+
+// Narrows claims by a bound of a wanted cell, where both of its places have one.
+fn narrow_by(
+    claims: &mut [Claim],
+    cells: &[Cell],
+    packs: &[Pack],
+    wanted: &[u32],
+    bound: Bound,
+) -> Option<()> {
     let pack = packs.get((bound.pack as usize).checked_sub(1)?)?;
+    if !is_wanted(wanted, pack, bound.row) && !is_wanted(wanted, pack, bound.column) {
+        return None;
+    }
     let row = side_of(claims, cells, pack, bound.row)?;
     let column = side_of(claims, cells, pack, bound.column)?;
     narrow(claims, row, column, bound.most)
 }
 
-/// What is claimed of a node, with its bounds taken into the ranges of cells.
+/// What is claimed of a node, with its bounds taken into the ranges of the wanted cells. They are gone over once: what a
+/// matrix shows of its cells by way of others stands among its bounds.
 pub(crate) fn narrowed(
     alloc: Global,
     cells: &[Cell],
     packs: &[Pack],
+    wanted: &[u32],
     place: &Element,
 ) -> Result<Element, AllocError> {
     match place {
@@ -151,10 +167,8 @@ pub(crate) fn narrowed(
             bounds,
         } => {
             let mut claims = Vec::from_slice(alloc, claims.as_slice())?;
-            for _round in 0..ROUNDS {
-                for bound in bounds.as_slice() {
-                    narrow_by(claims.as_mut_slice(), cells, packs, *bound);
-                }
+            for bound in bounds.as_slice() {
+                narrow_by(claims.as_mut_slice(), cells, packs, wanted, *bound);
             }
             Ok(Element::At {
                 cells: claims,
