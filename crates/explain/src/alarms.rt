@@ -238,14 +238,35 @@ fn push_read(read: &mut Vec<u32>, cells: &[Cell], parts: &[EdgePart]) -> Result<
     Ok(())
 }
 
-// The parts of the edges that leave a node, by what is claimed of it, and by the same with narrowed ranges. Edges stand in
-// the order of their nodes.
+// Adds the parts of an edge, by what is claimed of the node that it leaves, and by the same with narrowed ranges, where
+// these are others.
+fn push_edge(
+    alloc: Global,
+    ground: &Ground,
+    at: usize,
+    claimed: (&Element, Option<&Element>),
+    kind: Kind,
+    parts: &mut Vec<PartTold>,
+) -> Result<(), AllocError>
+    requires { at < length ground.now.works.graph.now.edges }
+{
+    let (place, closer) = claimed;
+    let moments = moments_by(alloc, ground, at, place, kind)?;
+    match closer {
+        None => push_parts(parts, moments.as_slice(), moments.as_slice()),
+        Some(closer) => {
+            let narrowed = moments_by(alloc, ground, at, closer, kind)?;
+            push_parts(parts, moments.as_slice(), narrowed.as_slice())
+        }
+    }
+}
+
+// The parts of the edges that leave a node. Edges stand in the order of their nodes.
 fn parts_by(
     alloc: Global,
     ground: &Ground,
     number: u32,
-    place: &Element,
-    closer: &Element,
+    claimed: (&Element, Option<&Element>),
     kind: Kind,
 ) -> Result<Vec<PartTold>, AllocError> {
     let mut parts = Vec::new(alloc);
@@ -255,9 +276,7 @@ fn parts_by(
         if edges[at].from != number {
             return Ok(parts);
         }
-        let moments = moments_by(alloc, ground, at, place, kind)?;
-        let narrowed = moments_by(alloc, ground, at, closer, kind)?;
-        push_parts(&mut parts, moments.as_slice(), narrowed.as_slice())?;
+        push_edge(alloc, ground, at, claimed, kind, &mut parts)?;
     }
     Ok(parts)
 }
@@ -274,13 +293,13 @@ fn parts_at(
         return Ok(Vec::new(alloc));
     };
     if !narrow {
-        return parts_by(alloc, ground, number, place, place, kind);
+        return parts_by(alloc, ground, number, (place, None), kind);
     }
     let cells = ground.works.graph.cells.get();
     let read = cells_read(alloc, ground, number)?;
     let packs = ground.cert.packs.as_slice();
     let closer = narrowed(alloc, cells, packs, read.as_slice(), place)?;
-    parts_by(alloc, ground, number, place, &closer, kind)
+    parts_by(alloc, ground, number, (place, closer.as_ref()), kind)
 }
 
 // Adds a node, where a part of it is open.

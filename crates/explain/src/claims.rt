@@ -151,29 +151,31 @@ fn narrow_by(
     narrow(claims, row, column, bound.most)
 }
 
-/// What is claimed of a node, with its bounds taken into the ranges of the wanted cells. They are gone over once: what a
-/// matrix shows of its cells by way of others stands among its bounds.
+/// What is claimed of a node, with its bounds taken into the ranges of the wanted cells; nothing where that changes none.
+/// They are gone over once: what a matrix shows of its cells by way of others stands among its bounds.
 pub(crate) fn narrowed(
     alloc: Global,
     cells: &[Cell],
     packs: &[Pack],
     wanted: &[u32],
     place: &Element,
-) -> Result<Element, AllocError> {
-    match place {
-        Element::Unreached => Ok(Element::Unreached),
-        Element::At {
-            cells: claims,
-            bounds,
-        } => {
-            let mut claims = Vec::from_slice(alloc, claims.as_slice())?;
-            for bound in bounds.as_slice() {
-                narrow_by(claims.as_mut_slice(), cells, packs, wanted, *bound);
-            }
-            Ok(Element::At {
-                cells: claims,
-                bounds: Vec::new(alloc),
-            })
-        }
+) -> Result<Option<Element>, AllocError> {
+    let Element::At {
+        cells: claimed,
+        bounds,
+    } = place
+    else {
+        return Ok(None);
+    };
+    let mut claims = Vec::from_slice(alloc, claimed.as_slice())?;
+    for bound in bounds.as_slice() {
+        narrow_by(claims.as_mut_slice(), cells, packs, wanted, *bound);
     }
+    if claims.as_slice() == claimed.as_slice() {
+        return Ok(None);
+    }
+    Ok(Some(Element::At {
+        cells: claims,
+        bounds: Vec::new(alloc),
+    }))
 }
