@@ -1,6 +1,6 @@
 -- Which alarms are told.
 use Rattle.std.specs.Prelude.{◌≡◌, List, map}
-use Rattle.commands.specs.declared.alarms.Alarm.{Alarm}
+use Rattle.commands.specs.declared.checking.alarms.Alarm.{Alarm}
 use Rattle.commands.specs.Answer.{Answer, Report}
 use Rattle.explain.specs.declared.alarms.AlarmTold.{AlarmTold}
 

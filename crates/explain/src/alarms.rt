@@ -11,11 +11,11 @@ use crate::range::Range;
 use cell_layer::EdgeWorks;
 use cell_ranges::own_ranges;
 use cert_text::{Cert, Element, set_claimed_row};
-use cob_graph::Graph;
+use cob_graph::{Graph, cell_of};
 use cob_runs::Cell;
 use cob_tree::Kind;
 use commands::{Alarm, Laid};
-use edge_amounts::{EdgePart, cell_of};
+use edge_parts::EdgePart;
 use interval_domain::{Interval, is_reached};
 use serde::{Described, Serialize, Serializer};
 use source_facts::sources_have_source_graphs;
@@ -36,8 +36,9 @@ impl Serialize for KindTold {
 }
 
 /// A part of an edge that leaves a node, by the item that it is of. `range` is that of the item that is read, where it is
-/// known to be numeric, that of what divides, or that of what a receiver is to get; `narrowed` is the same where
-/// differences narrow the ranges of items first. `open` says that the part may meet the fault.
+/// known to be numeric, that of what divides, that of a subscript, or that of what a receiver is to get; `narrowed` is the
+/// same where differences narrow the ranges of items first. `open` says that the part may meet the fault. `times` says how
+/// many occurrences the table of a subscript has.
 #[derive(Clone, Copy, PartialEq, Eq, Serialize)]
 pub struct PartTold {
     pub what: What,
@@ -45,6 +46,7 @@ pub struct PartTold {
     pub open: bool,
     pub range: Option<Range>,
     pub narrowed: Option<Range>,
+    pub times: Option<u32>,
 }
 
 /// A node that leaves a pair open: the statements of the PERFORMs in whose copies it lies, outermost first, and the parts
@@ -162,14 +164,21 @@ fn moments_by(
     }
     match ground.works.at(at) {
         None => Ok(Vec::new(alloc)),
-        Some(work) => moments_of(alloc, ground.works.graph.cells.get(), work, kind, row),
+        Some(work) => moments_of(
+            alloc,
+            ground.works.graph.cells.get(),
+            ground.works.marks.as_slice(),
+            work,
+            kind,
+            row,
+        ),
     }
 }
 
 fn is_told(what: What) -> bool {
     match what {
         What::Other => false,
-        What::Read | What::Divide | What::Store | What::Count => true,
+        What::Read | What::Index | What::Divide | What::Store | What::Count => true,
     }
 }
 
@@ -181,6 +190,7 @@ fn part_told(moment: Moment, narrowed: Option<&Moment>) -> PartTold {
         open: moment.open && narrowed.is_some_and(|narrowed| narrowed.open),
         range: moment.range,
         narrowed: narrowed.and_then(|narrowed| narrowed.range),
+        times: moment.times,
     }
 }
 
@@ -226,10 +236,18 @@ fn cells_read(alloc: Global, ground: &Ground, number: u32) -> Result<Vec<u32>, A
     Ok(read)
 }
 
+// The item that a part reads as a number.
+fn item_read(part: EdgePart) -> Option<u32> {
+    match part {
+        EdgePart::Read(item) | EdgePart::Subscript { item, .. } => Some(item),
+        _ => None,
+    }
+}
+
 // Adds the cells of the items that these parts read.
 fn push_read(read: &mut Vec<u32>, cells: &[Cell], parts: &[EdgePart]) -> Result<(), AllocError> {
     for part in parts {
-        if let EdgePart::Read(place) = *part {
+        if let Some(place) = item_read(*part) {
             if let Some(cell) = cell_of(cells, place) {
                 read.push(number_of(cell))?;
             }

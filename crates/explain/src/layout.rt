@@ -26,7 +26,8 @@ pub struct ConditionTold<'a> {
 }
 
 /// An item, which is named elsewhere by its place in the list of all, from 0. FILLER has no name, a group no picture, and
-/// what is no number neither usage nor digits.
+/// what is no number neither usage nor digits. An item of a table has `times` occurrences, each `stride` bytes behind the
+/// one before; any other has one, and a stride of 0.
 #[derive(Drop, Serialize)]
 pub struct ItemTold<'a> {
     pub name: Option<&'a str>,
@@ -38,6 +39,8 @@ pub struct ItemTold<'a> {
     pub signed: bool,
     pub offset: u32,
     pub length: u32,
+    pub times: u32,
+    pub stride: u32,
     pub parent: Option<u32>,
     pub value: Option<ValueTold>,
     pub conditions: Vec<ConditionTold<'a>>,
@@ -134,6 +137,8 @@ fn item_told<'a>(
         signed: digits.is_some_and(|(_, _, signed)| signed),
         offset: item.offset,
         length: item.length,
+        times: item.times,
+        stride: item.stride,
         parent: item.parent,
         value: value_of(alloc, item)?,
         conditions: conditions_of(alloc, flags, place)?,

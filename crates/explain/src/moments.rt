@@ -2,13 +2,15 @@
 ghost use Rattle.std.specs.Prelude.{◌≡◌, true};
 ghost use Rattle.cob_calc.specs.Contents.{bound_at};
 ghost use Rattle.cob_program.specs.ActView.{plain_act, plain_program};
-ghost use Rattle.cob_program.specs.Bounds.{is_small_atom};
-ghost use Rattle.edge_amounts.specs.PartView.{plain_amount, plain_divisor, plain_part};
+ghost use Rattle.cob_program.specs.Bounds.{is_small, is_small_atom};
+ghost use Rattle.edge_parts.specs.PartView.{plain_divisor, plain_part};
+ghost use Rattle.transfer_ranges.specs.AmountView.{plain_amount};
 ghost use Rattle.interval_domain.specs.Elements.{CellsFit};
 ghost use Rattle.interval_domain.specs.Rows.{cells_of};
 ghost use Rattle.cell_steps.specs.OwnRanges.{owns};
 ghost use Rattle.cell_laws.specs.Sizes.{IsSmallPart, IsSmallStore};
 ghost use Rattle.cell_layer.specs.Edges.{CanWalk};
+ghost use Rattle.cell_layer.specs.Forgetting.{AreMarks};
 ghost use Rattle.cell_layer.specs.Kept.{seen};
 ghost use Rattle.cell_layer.specs.ProgramRows.{IsRowOf};
 ghost use Rattle.cell_layer.specs.Walks.{CanStep};
@@ -19,21 +21,24 @@ use crate::range::Range;
 use cell_layer::{
     Kept, KnownItems, cleared_by_part, item_range, known_of_item, walk_part, with_operands,
 };
+use cob_graph::cell_of;
 use cob_program::{Act, Atom, Factor, Part, Program, Sum};
 use cob_runs::Cell;
 use cob_tree::Kind;
-use edge_amounts::{Amount, Divisor, EdgePart, EdgeWork, amount_from, cell_of, receiver_at};
+use edge_parts::{Divisor, EdgePart, EdgeWork};
 use serde::Serialize;
 use std::alloc::{AllocError, Global};
 use sum_ranges::{atom_range, sum_range};
-use transfer_ranges::AmountRange;
+use transfer_ranges::{Amount, AmountRange, amount_from, receiver_at};
 
 /// What a part of an edge does.
 #[derive(Clone, Copy, PartialEq, Eq, Serialize)]
 #[serde(rename_all = "lowercase")]
 pub enum What {
-    /// An item is read as a number.
+    /// An item is read as a number, also as a subscript.
     Read,
+    /// A subscript's number names an occurrence of a table.
+    Index,
     /// An item or a sum divides.
     Divide,
     /// An item gets a value.
@@ -45,13 +50,15 @@ pub enum What {
 }
 
 /// A part of an edge: the item that it is of, whether it may meet the fault that is asked for, and a range: that of the
-/// item that is read, if it is known to be numeric, that of what divides, or that of what a receiver is to get.
+/// item that is read, if it is known to be numeric, that of what divides, that of a subscript, or that of what a receiver
+/// is to get. Of a subscript `times` says how many occurrences its table has.
 #[derive(Clone, Copy)]
 pub(crate) struct Moment {
     pub what: What,
     pub item: Option<u32>,
     pub open: bool,
     pub range: Option<Range>,
+    pub times: Option<u32>,
 }
 
 // ---- divisors
@@ -98,6 +105,14 @@ fn known_range(program: &Program, cells: &[Cell], row: &[i128], place: u32) -> O
     let known = known_of_item(program, cells, row, place)?;
     let cell = cells.get(cell_of(cells, place)?)?;
     Some(Range::of(known, cell.scale))
+}
+
+// The range of a subscript.
+fn index_range(program: &Program, cells: &[Cell], row: &[i128], place: u32) -> Range
+    requires row { IsRowOf (plain_program program.now) cells.now row.now }
+    requires small { is_small (bound_at program.now.layout place) ≡ true }
+{
+    Range::of_ranged(item_range(program, cells, row, place))
 }
 
 // The range of a divisor; nothing where one in it is 0 alone.
@@ -162,10 +177,15 @@ fn told_of(
     requires can { CanStep (program_of work.now) (plain_act act.now) work.now.action (seen row.now kept.now) }
 {
     match part {
-        EdgePart::Read(place) => (
+        EdgePart::Read(item) | EdgePart::Subscript { item, .. } => (
             What::Read,
-            Some(place),
-            known_range(work.program, cells, row, place),
+            Some(item),
+            known_range(work.program, cells, row, item),
+        ),
+        EdgePart::Index { item, .. } => (
+            What::Index,
+            Some(item),
+            Some(index_range(work.program, cells, row, item)),
         ),
         EdgePart::Divide(divisor) => (
             What::Divide,
@@ -181,6 +201,14 @@ fn told_of(
             (What::Count, None, None)
         }
         _ => (What::Other, None, None),
+    }
+}
+
+// How many occurrences the table of a subscript has.
+fn times_of(part: EdgePart) -> Option<u32> {
+    match part {
+        EdgePart::Index { count, .. } => Some(count),
+        _ => None,
     }
 }
 
@@ -203,6 +231,7 @@ fn moment_of(
         item,
         open,
         range,
+        times: times_of(part),
     }
 }
 
@@ -210,17 +239,19 @@ fn moment_of(
 pub(crate) fn moments_of(
     alloc: Global,
     cells: &[Cell],
+    marks: &[Vec<bool>],
     work: &EdgeWork,
     kind: Kind,
     row: &mut [i128],
 ) -> Result<Vec<Moment>, AllocError>
-    requires { CanWalk (program_of work.now) cells.now (statement_of work.now) work.now.action row.old }
+    requires marks { AreMarks (program_of work.now) cells.now marks.now }
+    requires can { CanWalk (program_of work.now) cells.now (statement_of work.now) work.now.action row.old }
 {
     let mut kept = Kept::new();
     let mut moments = Vec::new(alloc);
     for part in work.parts.as_slice() {
         moments.push(moment_of(cells, work, *part, row, &kept, kind))?;
-        if !walk_part(cells, work, *part, row, &mut kept) {
+        if !walk_part(cells, marks, work, *part, row, &mut kept) {
             return Ok(moments);
         }
     }

@@ -6,12 +6,20 @@ use Rattle.cert_text.specs.Claims.{claimed_row}
 use Rattle.cell_steps.specs.OwnRanges.{owns}
 use Rattle.graph_runs.specs.Places.{no_edge}
 use Rattle.interval_domain.specs.declared.bounds.Interval.{Interval}
-use Rattle.cell_layer.proofs.Leaving.{can_walk}
+use Rattle.cell_layer.proofs.Leaving.{can_walk, marks_of_work}
 use Rattle.explain.proofs.Reached.{claimed_row_fits}
 use Rattle.explain.proofs.alarms.moments_by.Goals as goal
 
-pub moments_of-requires : goal.moments_of-requires
-moments_of-requires c =
+pub moments_of-requires-clause-marks : goal.moments_of-requires-clause-marks
+moments_of-requires-clause-marks c =
+    let works = c.args.ground.now.works in
+    let g = works.graph.now in
+    marks_of_work (plain_program works.program.now) g (slice_index_or g.edges c.args.at no_edge) c.in-Some.work.now
+    c.in-Some.ensures g.cells c.get-cells.result.now works.marks.items c.as_slice-marks.result.now c.get-cells.ensures
+    c.as_slice-marks.ensures.value works.marked
+
+pub moments_of-requires-clause-can : goal.moments_of-requires-clause-can
+moments_of-requires-clause-can c =
     let ground = c.args.ground.now in
     let works = ground.works in
     let p = plain_program works.program.now in

@@ -1,8 +1,8 @@
 use Rattle.std.specs.Prelude.{IfSome}
 use Rattle.std.proofs.Common.{sym, subst}
 use Rattle.cob_program.specs.ActView.{plain_act}
-use Rattle.edge_amounts.specs.PartView.{plain_amount}
-use Rattle.edge_amounts.specs.Working.{CanWork}
+use Rattle.transfer_ranges.specs.AmountView.{plain_amount}
+use Rattle.transfer_ranges.specs.Working.{CanWork}
 use Rattle.sum_ranges.specs.declared.ranged.Ranged.{Ranged}
 use Rattle.cell_layer.specs.Kept.{seen}
 use Rattle.cell_layer.specs.Works.{program_of}

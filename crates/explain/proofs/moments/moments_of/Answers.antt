@@ -1,6 +1,6 @@
 use Rattle.std.proofs.Common.{◌<◌, List, length, get_or, ap, subst, ◌∙◌}
 use Rattle.interval_domain.specs.Rows.{cells_of}
-use Rattle.edge_amounts.specs.declared.part.EdgePart.{EdgePart}
+use Rattle.edge_parts.specs.declared.part.EdgePart.{EdgePart}
 use Rattle.cell_laws.specs.Sizes.{IsSmallPart}
 use Rattle.cell_layer.specs.Kept.{seen}
 use Rattle.cell_layer.specs.Works.{program_of, act_of}
@@ -14,9 +14,9 @@ loop-part-init c =
     let row = c.args.row.now in
     let cells = cells_of row in
     record {
-      row_of = c.requires.row_of;
-      can = can_begin (program_of w) (act_of w) w.action (seen row c.new.result) cells (c.new.ensures.begins row) c.requires.fits;
-      small = small_listed w cells c.requires.small;
+      row_of = c.requires.can.row_of;
+      can = can_begin (program_of w) (act_of w) w.action (seen row c.new.result) cells (c.new.ensures.begins row) c.requires.can.fits;
+      small = small_listed w cells c.requires.can.small;
     }
 
 pub loop-part-preserved : goal.loop-part-preserved
