@@ -283,6 +283,8 @@ PRICE = {
     "signed": False,
     "offset": 4,
     "length": 5,
+    "times": 1,
+    "stride": 0,
     "parent": 0,
     "value": None,
     "conditions": [],

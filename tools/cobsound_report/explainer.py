@@ -33,13 +33,15 @@ class Range:
 
 @dataclass(frozen=True)
 class Part:
-    """What is done with an item at a node: `read`, `divide`, `store` or `count` (a counter of TIMES, which is no item);
-    whether it may meet the fault; and its range, that of a store being the one of what the item is to get."""
+    """What is done with an item at a node: `read`, `index` (a subscript names an occurrence), `divide`, `store` or `count`
+    (a counter of TIMES, which is no item); whether it may meet the fault; and its range, that of a store being the one of
+    what the item is to get. Of a subscript how many occurrences its table has."""
 
     what: str
     item: int | None
     is_open: bool
     range: Range | None
+    times: int | None = None
 
 
 @dataclass(frozen=True)
@@ -179,7 +181,8 @@ def range_of(told: dict | None) -> Range | None:
 
 def part_of(told: dict) -> Part:
     """A part; where differences show more, the range is theirs."""
-    return Part(told["what"], told["item"], told["open"], range_of(told["narrowed"] or told["range"]))
+    found = range_of(told["narrowed"] or told["range"])
+    return Part(told["what"], told["item"], told["open"], found, told["times"])
 
 
 def node_of(told: dict) -> Node:

@@ -102,8 +102,8 @@ class Reasons:
         statements = self.text.statements
         if len(statements) != len(self.layout.statements) or statements[alarm.statement - 1].verb.line != alarm.line:
             return None
-        found = {"CLASS": self.of_class, "ZERO": self.of_zero}.get(alarm.kind, self.of_store)
-        why = found(self.told.of(alarm))
+        own = {"CLASS": self.of_class, "ZERO": self.of_zero, "SUBSCRIPT": self.of_subscript}
+        why = own.get(alarm.kind, self.of_store)(self.told.of(alarm))
         if not why:
             return None
         return Why(why.said, why.place, (*why.notes, *self.led(self.told.of(alarm))), why.advice, why.group)
@@ -214,6 +214,20 @@ class Reasons:
     def zero_said(self, name: str, found: Range | None) -> str:
         told = f": it is {spread(found, found.places)}" if found else ""
         return f"{name} may be 0 here{told}"
+
+    # ---- SUBSCRIPT
+
+    def of_subscript(self, behind: Behind) -> Why | None:
+        subscripts = [part for part in behind.parts("index") if part.is_open and part.item is not None and part.times]
+        if not subscripts:
+            return None
+        alarm, target, times = behind.alarm, subscripts[0].item, subscripts[0].times
+        name, found = self.name(target), hull_of(subscripts, target)
+        told = f"it is {spread(found, 0)}, " if found else ""
+        said = f"{name} may name no occurrence here: {told}the table has {times:,}"
+        tests = [f"{name} > 0"] * (not found or found.low < 1)
+        tests += [f"{name} NOT > {times:,}"] * (not found or found.high > times)
+        return Why(said, self.place(sender, alarm, target), (), f"IF {' AND '.join(tests)}", (alarm,))
 
     # ---- SIZE and TRUNCATION
 

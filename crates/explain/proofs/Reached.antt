@@ -4,9 +4,9 @@ use Rattle.cert_text.specs.View.{Place}
 use Rattle.cert_text.specs.Claims.{claimed_element, claimed_row}
 use Rattle.interval_domain.specs.declared.bounds.Interval.{Interval}
 use Rattle.interval_domain.specs.Elements.{Element, ElementFits, CellsFit}
-use Rattle.interval_domain.specs.Rows.{IsReached, cells_of, is_reached, row_from, row_of, width_of}
+use Rattle.interval_domain.specs.Rows.{IsReached, cells_of, is_reached, row_from, width_of}
 use Rattle.interval_domain.proofs.AllCells.{fits_ordered}
-use Rattle.interval_domain.proofs.Places.{cells_of_words}
+use Rattle.interval_domain.proofs.Places.{cells_of_row, reached_of_row}
 use Rattle.cell_ranges.proofs.Claims.{claims_fit}
 
 -- the row is that of its cells, and each lies in its own range
@@ -18,10 +18,10 @@ of_element : (owns : List Interval) (x : Element) (row : List ℤ) → ElementFi
     → is_reached row ≡ true → IsFitting owns row
 of_element owns None row fits is reached = absurd (cc (subst (λ (r : List ℤ). is_reached r ≡ true) is reached))
 of_element owns (Some cs) row fits is reached =
-    let same = ap cells_of is ∙ cells_of_words cs (fits_ordered owns cs fits) in
+    let ordered = fits_ordered owns cs fits in
     record {
-      reached = is ∙ ap row_of (sym same);
-      fits = subst (CellsFit owns) (sym same) fits;
+      reached = subst IsReached (sym is) (reached_of_row cs ordered);
+      fits = subst (CellsFit owns) (sym (ap cells_of is ∙ cells_of_row cs ordered)) fits;
     }
 
 pub claimed_row_fits : (owns : List Interval) (place : Place) (row : List ℤ) → row ≡ claimed_row owns place

@@ -28,7 +28,7 @@ use cob_tree::Kind;
 use edge_parts::{Divisor, EdgePart, EdgeWork};
 use serde::Serialize;
 use std::alloc::{AllocError, Global};
-use sum_ranges::{atom_range, sum_range};
+use sum_ranges::{Ranged, atom_range, sum_range};
 use transfer_ranges::{Amount, AmountRange, amount_from, receiver_at};
 
 /// What a part of an edge does.
@@ -115,8 +115,13 @@ fn index_range(program: &Program, cells: &[Cell], row: &[i128], place: u32) -> R
     Range::of_ranged(item_range(program, cells, row, place))
 }
 
-// The range of a divisor; nothing where one in it is 0 alone.
-fn divisor_range(program: &Program, cells: &[Cell], row: &[i128], divisor: Divisor) -> Option<Range>
+// The numbers of a divisor; nothing where one in it is 0 alone.
+fn divisor_numbers(
+    program: &Program,
+    cells: &[Cell],
+    row: &[i128],
+    divisor: Divisor,
+) -> Option<Ranged>
     requires row { IsRowOf (plain_program program.now) cells.now row.now }
     requires fits { CellsFit (owns (plain_program program.now)) (cells_of row.now) }
     requires small { is_small_atom (bound_at program.now.layout) (plain_divisor divisor) ≡ true }
@@ -126,11 +131,20 @@ fn divisor_range(program: &Program, cells: &[Cell], row: &[i128], divisor: Divis
         cells,
         row,
     };
-    let range = match divisor {
+    match divisor {
         Divisor::Inner(atom) => atom_range(&items, atom),
         Divisor::Whole(sum) => sum_range(&items, sum),
-    };
-    Some(Range::of_ranged(range?))
+    }
+}
+
+// The range of a divisor.
+fn divisor_range(program: &Program, cells: &[Cell], row: &[i128], divisor: Divisor) -> Option<Range>
+    requires row { IsRowOf (plain_program program.now) cells.now row.now }
+    requires fits { CellsFit (owns (plain_program program.now)) (cells_of row.now) }
+    requires small { is_small_atom (bound_at program.now.layout) (plain_divisor divisor) ≡ true }
+{
+    let numbers = divisor_numbers(program, cells, row, divisor)?;
+    Some(Range::of_ranged(numbers))
 }
 
 // What a receiver is to get.

@@ -15,8 +15,8 @@ moments_of-requires-clause-marks c =
     let works = c.args.ground.now.works in
     let g = works.graph.now in
     marks_of_work (plain_program works.program.now) g (slice_index_or g.edges c.args.at no_edge) c.in-Some.work.now
-    c.in-Some.ensures g.cells c.get-cells.result.now works.marks.items c.as_slice-marks.result.now c.get-cells.ensures
-    c.as_slice-marks.ensures.value works.marked
+    c.in-Some.ensures g.cells c.get.result.now works.marks.items c.as_slice.result.now c.get.ensures c.as_slice.ensures.value
+    works.marked
 
 pub moments_of-requires-clause-can : goal.moments_of-requires-clause-can
 moments_of-requires-clause-can c =
@@ -26,8 +26,8 @@ moments_of-requires-clause-can c =
     let g = works.graph.now in
     let place = place_of c.args.place.now in
     let row = c.set_claimed_row.new.row in
-    let own = c.as_slice.ensures.value ∙ ground.owned in
+    let own = c.as_slice-ranges.ensures.value ∙ ground.owned in
     let is = c.set_claimed_row.ensures ∙ ap (λ (os : List Interval). claimed_row os place) own in
     let fitting = claimed_row_fits (owns p) place row is (sym c.is_reached.ensures ∙ c.if-not-is_reached.false) in
     can_walk p g (slice_index_or g.edges c.args.at no_edge) c.in-Some.work.now c.in-Some.ensures works.source
-    c.get-cells.result.now row c.get-cells.ensures fitting.reached fitting.fits
+    c.get.result.now row c.get.ensures fitting.reached fitting.fits

@@ -19,7 +19,7 @@ pub amount_from-requires : goal.amount_from-requires
 amount_from-requires c =
     let a = c.args in
     let w = a.work.now in
-    let taken = c.with_operands.result in
-    subst (λ (own : Ranged). IfSome taken.common (CanWork (plain_amount a.amount) own)) (sym c.item_range.ensures)
-    (can_work (program_of w) (plain_act a.act.now) w.action (seen a.row.now taken) c.with_operands.ensures.can
-    c.with_operands.ensures.written a.place (plain_amount a.amount) c.requires.small)
+    let taken = c.with_operands-taken in
+    subst (λ (own : Ranged). IfSome taken.result.common (CanWork (plain_amount a.amount) own)) (sym c.item_range-own.ensures)
+    (can_work (program_of w) (plain_act a.act.now) w.action (seen a.row.now taken.result) taken.ensures.can
+    taken.ensures.written a.place (plain_amount a.amount) c.requires.small)

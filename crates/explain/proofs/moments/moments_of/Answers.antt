@@ -15,7 +15,7 @@ loop-part-init c =
     let cells = cells_of row in
     record {
       row_of = c.requires.can.row_of;
-      can = can_begin (program_of w) (act_of w) w.action (seen row c.new.result) cells (c.new.ensures.begins row) c.requires.can.fits;
+      can = can_begin (program_of w) (act_of w) w.action (seen row c.new-kept.result) cells (c.new-kept.ensures.begins row) c.requires.can.fits;
       small = small_listed w cells c.requires.can.small;
     }
 

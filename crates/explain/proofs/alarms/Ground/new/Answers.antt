@@ -14,7 +14,7 @@ new-requires c = laid_source c.args.laid.now c.sources_have_source_graphs.ensure
 pub own_ranges-requires : goal.own_ranges-requires
 own_ranges-requires c =
     let laid = c.args.laid.now in
-    subst (All IsShort) (sym c.get-cells.ensures)
+    subst (All IsShort) (sym c.get.ensures)
     (graph_cells_short (plain_program laid.program) laid.graph (laid_source laid c.sources_have_source_graphs.ensures c.requires))
 
 pub invariant_of-result : goal.invariant_of-result
@@ -22,7 +22,7 @@ invariant_of-result c =
     let laid = c.args.laid.now in
     let p = plain_program laid.program in
     record {
-      owned = c.in_ok-ranges.ensures.value ∙ ap (map own_range) c.get-cells.ensures
+      owned = c.in_ok-ranges.ensures.value ∙ ap (map own_range) c.get.ensures
           ∙ graph_ranges p laid.graph (laid_source laid c.sources_have_source_graphs.ensures c.requires)
           ∙ ap (λ q. owns (plain_program q)) (sym c.in_ok-works.ensures.program);
     }
