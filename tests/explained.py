@@ -10,10 +10,18 @@ import json
 import os
 import pathlib
 import subprocess
+import sys
 import tempfile
+from fractions import Fraction
 
 from tests import built
 from tests.built import ROOT, program_path
+
+sys.path.insert(0, str(ROOT / "tools"))
+from cobsound_report.answers import Alarm  # noqa: E402
+from cobsound_report.explainer import Behind, DataItem, Layout, Node, Part, Range, Told  # noqa: E402
+from cobsound_report.statements import Text  # noqa: E402
+from cobsound_report.why import Reasons  # noqa: E402
 
 TOOL = ROOT / "tools/cobsound-report"
 EXPLAIN = ROOT / "tools/cobsound-explain"
@@ -21,7 +29,7 @@ EXPLAIN = ROOT / "tools/cobsound-explain"
 PROGRAMS = ("explain_top",)
 
 # The order of a statement's alarms.
-KINDS = ("SIZE", "TRUNCATION", "ZERO", "CLASS")
+KINDS = ("SIZE", "TRUNCATION", "ZERO", "CLASS", "SUBSCRIPT")
 
 # Of each program: the line and the kind of an alarm, what is said of it, the word that is pointed at with its line, and
 # the lines of the PERFORMs that are told.
@@ -204,6 +212,21 @@ def of_a_line_without_alarms():
     return None if (status, out) == wanted else f"a line without alarms: {status}, {out!r}"
 
 
+def of_a_subscript():
+    """What would be said of a subscript on a sample's line 27, of 0 to 25 for a table of 20: no source has a table yet."""
+    text = Text((ROOT / "samples/orders.cob").read_bytes().split(b"\n"))
+    lines = tuple(statement.verb.line for statement in text.statements)
+    alarm = Alarm("SUBSCRIPT", lines.index(27) + 1, 27)
+    item = DataItem("ORDER-COUNT", 16, "9999", 4, 0, False, None, True, ())
+    part = Part("index", 0, True, Range(Fraction(0), Fraction(25), 0), 20)
+    behind = Behind(alarm, frozenset(), (Node((), (part,)),))
+    why = Reasons(Told(Layout((item,), (), lines), (behind,)), text).of(alarm)
+    said = "ORDER-COUNT may name no occurrence here: it is 0 to 25, the table has 20"
+    wanted = (said, 27, "IF ORDER-COUNT > 0 AND ORDER-COUNT NOT > 20")
+    seen = why and (why.said, why.place and why.place.line, why.advice)
+    return None if seen == wanted else f"a subscript: {why!r}"
+
+
 def of_sarif():
     """The message has the item and what mends it; what is said beside it stands among related places."""
     _, out, _ = shown(TOOL, "tests/shop/bills.cob", "--format", "sarif")
@@ -294,7 +317,7 @@ PRICE = {
 def checks():
     for name in SHOP:
         yield lambda name=name: of_program(name)
-    yield from (of_both_layers, of_alarms_together, of_a_line, of_a_line_without_alarms)
+    yield from (of_both_layers, of_alarms_together, of_a_line, of_a_line_without_alarms, of_a_subscript)
     yield from (of_sarif, of_pages, of_words, of_layout)
     for words, checked in refusals():
         yield lambda words=words, checked=checked: of_refusal(words, checked)
