@@ -1,9 +1,12 @@
 -- Which alarms are told, where the source was read and where it wasn't.
-use Rattle.std.proofs.Common.{List, ℕ, Result, Ok, Err}
-use Rattle.std.specs.Prelude.{IfOk, IfSome, Option, Some, None}
+use Rattle.std.proofs.Common.{◌≡◌, List, ℕ, Result, Ok, Err, refl}
+use Rattle.std.specs.Prelude.{IfOk, IfSome, Option, Some, None, Vec}
+use Rattle.std.specs.declared.alloc.Global.{Global}
 use Rattle.batch_io.specs.FilesState.{Contents}
 use Rattle.commands.specs.declared.answer.Stop.{Stop}
 use Rattle.commands.specs.declared.answer.Answer as code
+use Rattle.commands.specs.declared.answer.Answer.TheVariants as found
+use Rattle.commands.specs.declared.checking.alarms.Alarm.{Alarm}
 use Rattle.commands.specs.Answer.{Answer, Usage, Absent, Refused, CertificateLong, CertificateBad, CertificateMisfit, NotInductive, Report, AnswersSource}
 use Rattle.commands.specs.View.{plain_answer}
 use Rattle.explain.specs.declared.alarms.AlarmTold.{AlarmTold}
@@ -31,6 +34,18 @@ module _ (told : List AlarmTold) where
       → IfOk result (λ answer. IfSome known (λ contents. Lists (plain_answer answer) told))
   lists_unread source (Err stop) known h = tt
   lists_unread source (Ok answer) known h = unread source known (plain_answer answer) h
+
+  -- what is no report
+  pub other_lists : (answer : code.Answer) → ((alarms : Vec Alarm Global) → answer ≡ found.Report alarms → ⊥) → Lists (plain_answer answer) told
+  other_lists (found.Report alarms) none = absurd (none alarms refl)
+  other_lists (found.Usage word) none = tt
+  other_lists (found.NoPaths word) none = tt
+  other_lists (found.Absent name) none = tt
+  other_lists (found.Refused cause) none = tt
+  other_lists found.CertificateLong none = tt
+  other_lists (found.CertificateBad line) none = tt
+  other_lists (found.CertificateMisfit what number wanted) none = tt
+  other_lists (found.NotInductive layer edge gap) none = tt
 
   known_lists : (known : Option Contents) (answer : Answer) → Lists answer told → IfSome known (λ contents. Lists answer told)
   known_lists None answer h = tt

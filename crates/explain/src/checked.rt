@@ -98,11 +98,11 @@ fn told_of_certificate<'a>(
         (λ stop. stop ≡ Stop.Memory) }
     ensures lists { IfOk result (λ answer. Lists (plain_answer answer) told.new.items) }
 {
-    match check_certificate(alloc, laid, cert) {
-        Ok(Answer::Report(alarms)) => {
+    match check_certificate(alloc, laid, cert)? {
+        Answer::Report(alarms) => {
             *told = explained(alloc, laid, cert, alarms.as_slice())?;
             Ok(Answer::Report(alarms))
         }
-        answer => answer,
+        answer => Ok(answer),
     }
 }

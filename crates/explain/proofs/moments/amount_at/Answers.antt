@@ -9,11 +9,11 @@ use Rattle.cell_layer.specs.Works.{program_of}
 use Rattle.cell_layer.proofs.Stepping.{can_work}
 use Rattle.explain.proofs.moments.amount_at.Goals as goal
 
-pub with_operands-requires-clause-sum : goal.with_operands-requires-clause-sum
-with_operands-requires-clause-sum c = c.requires.small.sum
+pub with_operands-taken-requires-clause-sum : goal.with_operands-taken-requires-clause-sum
+with_operands-taken-requires-clause-sum c = c.requires.small.sum
 
-pub item_range-requires-clause-small : goal.item_range-requires-clause-small
-item_range-requires-clause-small c = c.requires.small.own
+pub item_range-own-requires-clause-small : goal.item_range-own-requires-clause-small
+item_range-own-requires-clause-small c = c.requires.small.own
 
 pub amount_from-requires : goal.amount_from-requires
 amount_from-requires c =
