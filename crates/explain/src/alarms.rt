@@ -185,12 +185,12 @@ fn is_told(what: What) -> bool {
 // A part as it is told, by its moment and the one with narrowed ranges, where a run comes there.
 fn part_told(moment: Moment, narrowed: Option<&Moment>) -> PartTold {
     PartTold {
-        what: moment.what,
-        item: moment.item,
+        what: moment.subject.what,
+        item: moment.subject.item,
         open: moment.open && narrowed.is_some_and(|narrowed| narrowed.open),
-        range: moment.range,
-        narrowed: narrowed.and_then(|narrowed| narrowed.range),
-        times: moment.times,
+        range: moment.subject.range,
+        narrowed: narrowed.and_then(|narrowed| narrowed.subject.range),
+        times: moment.subject.times,
     }
 }
 
@@ -201,7 +201,7 @@ fn push_parts(
     narrowed: &[Moment],
 ) -> Result<(), AllocError> {
     for (k, moment) in moments.iter().enumerate() {
-        if is_told(moment.what) {
+        if is_told(moment.subject.what) {
             parts.push(part_told(*moment, narrowed.get(k)))?;
         }
     }

@@ -49,16 +49,42 @@ pub enum What {
     Other,
 }
 
-/// A part of an edge: the item that it is of, whether it may meet the fault that is asked for, and a range: that of the
-/// item that is read, if it is known to be numeric, that of what divides, that of a subscript, or that of what a receiver
-/// is to get. Of a subscript `times` says how many occurrences its table has.
+/// What a part of an edge is of: an item, if there is one, and a range: that of the item that is read, if it is known to
+/// be numeric, that of what divides, that of a subscript, or that of what a receiver is to get. Of a subscript `times`
+/// says how many occurrences its table has.
 #[derive(Clone, Copy)]
-pub(crate) struct Moment {
+pub(crate) struct Subject {
     pub what: What,
     pub item: Option<u32>,
-    pub open: bool,
     pub range: Option<Range>,
     pub times: Option<u32>,
+}
+
+/// A part of an edge: what it is of, and whether it may meet the fault that is asked for.
+#[derive(Clone, Copy)]
+pub(crate) struct Moment {
+    pub subject: Subject,
+    pub open: bool,
+}
+
+impl Subject {
+    fn of_none(what: What) -> Subject {
+        Subject {
+            what,
+            item: None,
+            range: None,
+            times: None,
+        }
+    }
+
+    fn of(what: What, item: Option<u32>, range: Option<Range>) -> Subject {
+        Subject {
+            what,
+            item,
+            range,
+            times: None,
+        }
+    }
 }
 
 // ---- divisors
@@ -177,31 +203,32 @@ fn range_of(amount: Option<AmountRange>, scale: u32) -> Option<Range> {
 
 // ---- parts
 
-// What a part is of, and its range.
-fn told_of(
+// What a part is of.
+fn subject_of(
     work: &EdgeWork,
     act: &Act,
     cells: &[Cell],
     row: &[i128],
     kept: &Kept,
     part: EdgePart,
-) -> (What, Option<u32>, Option<Range>)
+) -> Subject
     requires row { IsRowOf (program_of work.now) cells.now row.now }
     requires small { IsSmallPart (program_of work.now) (plain_act act.now) work.now.action (plain_part part) }
     requires can { CanStep (program_of work.now) (plain_act act.now) work.now.action (seen row.now kept.now) }
 {
     match part {
-        EdgePart::Read(item) | EdgePart::Subscript { item, .. } => (
+        EdgePart::Read(item) | EdgePart::Subscript { item, .. } => Subject::of(
             What::Read,
             Some(item),
             known_range(work.program, cells, row, item),
         ),
-        EdgePart::Index { item, .. } => (
-            What::Index,
-            Some(item),
-            Some(index_range(work.program, cells, row, item)),
-        ),
-        EdgePart::Divide(divisor) => (
+        EdgePart::Index { item, count, .. } => Subject {
+            what: What::Index,
+            item: Some(item),
+            range: Some(index_range(work.program, cells, row, item)),
+            times: Some(count),
+        },
+        EdgePart::Divide(divisor) => Subject::of(
             What::Divide,
             item_of(divisor),
             divisor_range(work.program, cells, row, divisor),
@@ -209,20 +236,12 @@ fn told_of(
         EdgePart::Store { item, amount, .. } => {
             let amount = amount_at(work, act, cells, row, kept, item, amount);
             let scale = receiver_at(&work.program.layout, item).scale;
-            (What::Store, Some(item), range_of(amount, scale))
+            Subject::of(What::Store, Some(item), range_of(amount, scale))
         }
         EdgePart::ReadCount(_) | EdgePart::SetCount { .. } | EdgePart::CountDown(_) => {
-            (What::Count, None, None)
+            Subject::of_none(What::Count)
         }
-        _ => (What::Other, None, None),
-    }
-}
-
-// How many occurrences the table of a subscript has.
-fn times_of(part: EdgePart) -> Option<u32> {
-    match part {
-        EdgePart::Index { count, .. } => Some(count),
-        _ => None,
+        _ => Subject::of_none(What::Other),
     }
 }
 
@@ -239,14 +258,8 @@ fn moment_of(
     requires can { CanStep (program_of work.now) (act_of work.now) work.now.action (seen row.now kept.now) }
 {
     let open = !cleared_by_part(cells, work, part, row, kept).has(kind);
-    let (what, item, range) = told_of(work, &work.statement.act, cells, row, kept, part);
-    Moment {
-        what,
-        item,
-        open,
-        range,
-        times: times_of(part),
-    }
+    let subject = subject_of(work, &work.statement.act, cells, row, kept, part);
+    Moment { subject, open }
 }
 
 /// What is told of the parts of an edge, in their order, up to one that no run passes. What the row holds is lost.

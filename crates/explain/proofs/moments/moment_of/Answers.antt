@@ -8,12 +8,12 @@ use Rattle.cell_layer.specs.Works.{program_of}
 use Rattle.cell_layer.proofs.Stepping.{act_same}
 use Rattle.explain.proofs.moments.moment_of.Goals as goal
 
-pub told_of-requires-clause-small : goal.told_of-requires-clause-small
-told_of-requires-clause-small c =
+pub subject_of-subject-requires-clause-small : goal.subject_of-subject-requires-clause-small
+subject_of-subject-requires-clause-small c =
     let w = c.args.work.now in
     subst (λ (a : Act). IsSmallPart (program_of w) a w.action (plain_part c.args.part)) (act_same w.statement.now) c.requires.small
 
-pub told_of-requires-clause-can : goal.told_of-requires-clause-can
-told_of-requires-clause-can c =
+pub subject_of-subject-requires-clause-can : goal.subject_of-subject-requires-clause-can
+subject_of-subject-requires-clause-can c =
     let w = c.args.work.now in
     subst (λ (a : Act). CanStep (program_of w) a w.action (seen c.args.row.now c.args.kept.now)) (act_same w.statement.now) c.requires.can
