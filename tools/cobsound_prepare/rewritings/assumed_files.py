@@ -160,7 +160,7 @@ class Files:
             if token.upper in self.files:
                 status = self.files[token.upper].status
                 item = self.items.named(status) if status else None
-                texts += [here.unknown.forget(item) or "" for _ in [0] if item]
+                texts += [here.unknown.forget(item) or ""] if item else []
             elif token.is_word(*MODES):
                 kept = [*(kept[:-1] if kept and kept[-1].upper() in MODES else kept), token.text]
             else:

@@ -41,8 +41,8 @@ def closed(tokens: list[Token], at: int) -> int:
 def forgotten(here: Assumed, made: Statement, targets: list[Token], is_number: bool) -> list[str] | None:
     """Statements behind which each receiver holds anything."""
     texts = []
-    for first, _ in operands([token for token in targets if not token.is_word("ROUNDED")]):
-        kept = [token for token in targets if not token.is_word("ROUNDED")]
+    kept = [token for token in targets if not token.is_word("ROUNDED")]
+    for first, _ in operands(kept):
         item = here.unknown.items.named(reference_at(kept, first)[0])
         text = here.unknown.forget(item, is_number) if item else None
         if text is None:
