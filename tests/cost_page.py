@@ -1,6 +1,7 @@
 """docs/COSTS.md, from what runs of the gate have cost."""
 
 import collections
+import pathlib
 import textwrap
 
 from cost_watch import Kind, read
@@ -74,9 +75,15 @@ def facts_of(run, checks):
     }
 
 
-def facts(runs):
+def facts_told(page):
+    """What an earlier page tells of each of its runs, as `facts_of` gives it: the columns of the page's first table."""
+    _, _, rest = page.read_text().partition("\n|")
+    rows = [[cell.strip() for cell in line.strip("| ").split("|")] for line in rest.partition("\n\n")[0].split("\n")]
+    return [{row[0]: row[run] for row in rows[2:]} for run in range(1, len(rows[2]))]
+
+
+def facts(told):
     """A table with a column for each run."""
-    told = [facts_of(run, checks) for run, checks in runs]
     headings = dict.fromkeys(heading for each in told for heading in each)
     rows = [["", *(f"Run {number}" for number, _ in enumerate(told, 1))]]
     return table([*rows, *([heading, *(each.get(heading, "") for each in told)] for heading in headings)])
@@ -106,14 +113,16 @@ def by_crate(checks):
 
 
 def page(paths):
-    """The page's text, nothing where a file tells of no run that has ended."""
-    runs = [read(path) for path in paths]
-    if not all(run for run, _ in runs):
+    """The page's text, nothing where a file tells of no run that has ended. Runs of earlier pages keep their columns."""
+    earlier = [pathlib.Path(path) for path in paths if path.endswith(".md")]
+    runs = [read(path) for path in paths if not path.endswith(".md")]
+    if not runs or not all(run for run, _ in runs):
         return None
+    told = [*(facts_of(run, checks) for run, checks in runs), *(each for page in earlier for each in facts_told(page))]
     middle = textwrap.dedent("""\
         ## By crate
 
         Processor minutes in run 1, of each crate that takes one or more.
 
         """)
-    return HEAD + "\n".join(facts(runs)) + "\n\n" + READING + middle + "\n".join(by_crate(runs[0][1])) + "\n"
+    return HEAD + "\n".join(facts(told)) + "\n\n" + READING + middle + "\n".join(by_crate(runs[0][1])) + "\n"

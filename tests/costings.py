@@ -74,7 +74,7 @@ def of_a_signal():
 
 
 def of_the_page():
-    """Minutes are added up by crate and kind, the dearest crate first, the cheap ones in one row."""
+    """Minutes are added up by crate and kind, the dearest crate first, the cheap ones in one row; a page keeps earlier runs."""
     checks = [
         check_of("cheap", "proof", 0.5),
         check_of("dear", "proof", 2),
@@ -88,6 +88,9 @@ def of_the_page():
         file = pathlib.Path(folder, "costs.jsonl")
         file.write_text("".join(json.dumps(line) + "\n" for line in (*checks, {"run": RUN})))
         done = subprocess.run([COSTS, "page", file], capture_output=True, text=True)
+        earlier = pathlib.Path(folder, "earlier.md")
+        earlier.write_text(done.stdout.replace("| **10.0** |", "| **20.0** |"))
+        both = subprocess.run([COSTS, "page", file, earlier], capture_output=True, text=True)
     table = done.stdout.split("## By crate")[1].splitlines()
     rows = [
         "| Crate | Proof | Base | Edits | All | Most memory, GB |",
@@ -100,7 +103,8 @@ def of_the_page():
     facts = ["| **Minutes by the clock** | **10.0** |", "| until all was proved | 3.0 |", "| until all edits were tried | 6.0 |"]
     facts += ["| **Processor minutes** | **25** |", "| of proof | 5 |", "| Crates proved | 3 |", "| Edits tried | 1 |"]
     found = [fact for fact in facts if fact in done.stdout.splitlines()]
-    return told("the page", ([line for line in table if line.startswith("|")], found), (rows, facts))
+    beside = "| **Minutes by the clock** | **10.0** | **20.0** |" in both.stdout.splitlines()
+    return told("the page", ([line for line in table if line.startswith("|")], found, beside), (rows, facts, True))
 
 
 def checks():

@@ -21,9 +21,10 @@ def checked(name, source, certificate, status, out):
 
 def certified():
     """Those of checked.jsonl are of the whole language, with and without packs; those of sharper.jsonl have remainders that
-    stay below their divisors, and size errors of one receiver. Those of thin.jsonl and straight.jsonl
-    were worked out for programs without branches, as their certificates were; where the whole language answers
-    otherwise, the reason stands beside the answer. Those of certified_by_rule.jsonl were worked out by hand."""
+    stay below their divisors, size errors of one receiver, and items whose bytes the VALUEs of others fill. Those of
+    thin.jsonl and straight.jsonl were worked out for programs without branches, as their certificates were; where the
+    whole language answers otherwise, the reason stands beside the answer. Those of certified_by_rule.jsonl were worked
+    out by hand."""
     for file in ("checked.jsonl", "sharper.jsonl", "thin.jsonl", "straight.jsonl"):
         for name, case in cases_of(file):
             yield checked(name, case["source"], case["certificate"], case["status"], case["out"])

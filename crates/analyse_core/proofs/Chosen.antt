@@ -11,9 +11,9 @@ use Rattle.cob_graph.specs.Graphs.{cells_of}
 use Rattle.cob_graph.specs.declared.homes.Home.TheVariants.{Item as of_item}
 use Rattle.cob_graph.specs.Homes.{homes_of}
 use Rattle.cob_graph.specs.Limits.{most_cells}
-use Rattle.edge_amounts.specs.Numbers.{item_of, number_of}
-use Rattle.edge_amounts.proofs.NumberLemmas.{number_within}
-use Rattle.edge_amounts.proofs.Parallel.{cells_same}
+use Rattle.cob_graph.specs.Numbers.{item_of, number_of}
+use Rattle.cob_graph.proofs.NumberLemmas.{number_within}
+use Rattle.cob_graph.proofs.Parallel.{cells_same}
 use Rattle.analyse_core.specs.declared.mention.Mention.{Mention}
 use Rattle.analyse_core.specs.Mentions.{texts_of}
 use Rattle.analyse_core.specs.Firsts.{noted}

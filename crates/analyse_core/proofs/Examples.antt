@@ -88,7 +88,7 @@ first_eight = refl
 -- ---- thresholds: of a cell of whole numbers, and one of hundredths
 
 abbrev of_scale : ℕ → Cell
-of_scale scale = record { item = None; digits = 5; scale = scale; signed = false }
+of_scale scale = record { item = None; digits = 5; scale = scale; signed = false; times = 1 }
 
 in_hundredths :
     thresholds_of_pack (of_scale 0 ∷ of_scale 2 ∷ []) ((pos 0 ∷ pos 5 ∷ []) ∷ (neg_ℤ (pos 3) ∷ pos 7 ∷ []) ∷ []) (1 ∷ 2 ∷ [])

@@ -32,9 +32,9 @@ use Rattle.diff_bounds.proofs.PackRows.{packs_are_a_lattice}
 use Rattle.diff_layer.proofs.Rows as rows_of_layer
 use Rattle.pack_laws.specs.Layer.{AreFacts, ArePacks, packs_post, sizes_of}
 use Rattle.pack_laws.specs.Packs.{pack_in}
-use Rattle.pack_laws.proofs.Distinct.{homes_of_sources_are_distinct}
+use Rattle.pack_laws.proofs.Distinct.{homes_of_sources_are_distinct, sources_have_no_tables}
 use Rattle.pack_laws.proofs.Flow.{packs_flow}
-use Rattle.pack_laws.proofs.Packed.{HasDistinctHomes}
+use Rattle.pack_laws.proofs.Packed.{HasDistinctHomes, HasPlainItems}
 use Rattle.analyse_core.specs.Choice.{packs_of}
 use Rattle.analyse_core.specs.PackThresholds.{thresholds_of_pack}
 use Rattle.cert_text.proofs.Meaning.{bounds_mean}
@@ -56,6 +56,9 @@ module _ (p : Program) (g : Graph) (source : ∥ IsSourceGraph p g ∥₁) (read
   distinct : HasDistinctHomes p
   distinct j k h e f = ∥∥₁_elim source (hlevel props) (λ s. homes_of_sources_are_distinct p g s j k h e f)
 
+  plain : HasPlainItems p.layout
+  plain place = ∥∥₁_elim source (hlevel props) (λ s. sources_have_no_tables p g s place)
+
   pub lists_are : length (pack_lists p) ≡ length (packs_of p)
   lists_are = length-map (packs_of p) (thresholds_of_pack (cells_of p) (thresholds_of p))
 
@@ -64,8 +67,8 @@ module _ (p : Program) (g : Graph) (source : ∥ IsSourceGraph p g ∥₁) (read
 
   pub are_packs : ArePacks p (packs_for p) (pack_lists p)
   are_packs = record {
-    cells = packs_are_of p (length (cells_of p)) (sym (homes_many p)) distinct (packs_of p) ready.fit;
-    few = packs_are_few p (length (cells_of p)) (sym (homes_many p)) distinct (packs_of p) ready.fit;
+    cells = packs_are_of p (length (cells_of p)) (sym (homes_many p)) distinct plain (packs_of p) ready.fit;
+    few = packs_are_few p (length (cells_of p)) (sym (homes_many p)) distinct plain (packs_of p) ready.fit;
     listed = listed;
   }
 

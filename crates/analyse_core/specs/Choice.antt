@@ -9,7 +9,7 @@ use Rattle.cob_program.specs.Statements.{para_statements}
 use Rattle.cob_runs.specs.Contents.{form_at}
 use Rattle.cob_graph.specs.Graphs.{cells_of}
 use Rattle.cob_graph.specs.declared.homes.Home.TheVariants.{Item as of_item}
-use Rattle.edge_amounts.specs.Numbers.{number_of}
+use Rattle.cob_graph.specs.Numbers.{number_of}
 use Rattle.diff_bounds.specs.declared.Pack as declared
 use Rattle.analyse_core.specs.declared.mention.Mention.{Mention}
 use Rattle.analyse_core.specs.declared.mention.Mention.TheVariants as mention

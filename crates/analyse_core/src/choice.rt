@@ -8,7 +8,7 @@ ghost use Rattle.cob_program.specs.Statements.{plain_references};
 ghost use Rattle.cob_graph.specs.Graphs.{cells_of};
 ghost use Rattle.cob_graph.specs.declared.homes.Home.TheVariants.{Item as of_item};
 ghost use Rattle.cob_graph.specs.Limits.{most_cells};
-ghost use Rattle.edge_amounts.specs.Numbers.{number_of};
+ghost use Rattle.cob_graph.specs.Numbers.{number_of};
 ghost use Rattle.graph_runs.specs.Sources.{IsSourceGraph};
 ghost use Rattle.cert_text.specs.Allowed.{packs_fit};
 ghost use Rattle.analyse_core.specs.Mentions.{lists_of};
@@ -35,12 +35,11 @@ use crate::firsts::{holds, note};
 use crate::mention::Mention;
 use crate::mentioned_statements::{mentions_of, texts_of};
 use crate::reaching::whole_mentions;
-use cob_graph::Graph;
+use cob_graph::{Graph, cell_of};
 use cob_program::{Act, Para, Program, Stmt, Turns};
 use cob_runs::Cell;
 use cob_tree::Form;
 use diff_bounds::Pack;
-use edge_amounts::cell_of;
 use std::alloc::{AllocError, Global};
 
 /// A pack has at most so many cells.

@@ -18,7 +18,7 @@ use Rattle.cert_text.specs.Text.{spelling}
 use Rattle.cert_text.specs.View.{Certificate}
 use Rattle.cob_front.specs.Laws.{OneAnswer}
 use Rattle.cob_interp.proofs.SeenFiles.{insert_agrees, insert_gets}
-use Rattle.commands.specs.declared.alarms.Alarm.{Alarm}
+use Rattle.commands.specs.declared.checking.alarms.Alarm.{Alarm}
 use Rattle.commands.specs.Alarms.{alarms_of}
 use Rattle.command_words.specs.Commands.{Command, IsCommand, OneReading, analyse, trial}
 use Rattle.commands.specs.Text.{memory_line, write_fault_line}

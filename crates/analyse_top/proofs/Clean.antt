@@ -12,7 +12,7 @@ use Rattle.cert_text.specs.Allowed.{IsAllowed}
 use Rattle.commands.specs.Checker.OpenPairs.{open_at}
 use Rattle.commands.specs.Checker.Checking.{Accepts, AcceptedClaimsCoverRuns, CoversRuns}
 use Rattle.source_facts.specs.Sources.{SourcesHaveSourceGraphs}
-use Rattle.commands.specs.declared.alarms.Alarm.{Alarm}
+use Rattle.commands.specs.declared.checking.alarms.Alarm.{Alarm}
 use Rattle.commands.specs.Alarms.{alarm_in, alarms_of}
 use Rattle.commands.specs.ReportText.{report_text}
 use Rattle.cob_program.specs.Statements.{program_statements}

@@ -15,7 +15,7 @@ use Rattle.cob_interp.specs.declared.ends.RunEnd.{RunEnd}
 use Rattle.cob_interp.specs.declared.ends.RunEnd.TheVariants as end
 use Rattle.cob_interp.specs.Ends.{told_files, IsEnd}
 use Rattle.cob_interp.specs.Runs.{outside}
-use Rattle.commands.specs.declared.alarms.Alarm.{Alarm}
+use Rattle.commands.specs.declared.checking.alarms.Alarm.{Alarm}
 use Rattle.command_words.specs.Commands.{Command, Run, OneReading}
 use Rattle.command_words.specs.Commands as command
 use Rattle.commands.specs.Answer.{Answer, Report}

@@ -18,7 +18,7 @@ use Rattle.cob_interp.specs.declared.ends.RunEnd.{RunEnd}
 use Rattle.cob_interp.specs.declared.ends.RunEnd.TheVariants as end
 use Rattle.cob_interp.specs.Ends.{told_files, IsEnd}
 use Rattle.cob_interp.specs.Runs.{outside}
-use Rattle.commands.specs.declared.alarms.Alarm.{Alarm}
+use Rattle.commands.specs.declared.checking.alarms.Alarm.{Alarm}
 use Rattle.commands.specs.Alarms.{alarms_of}
 use Rattle.commands.specs.ReportText.{report_text}
 use Rattle.cert_text.specs.View.{Certificate}

@@ -76,7 +76,7 @@ fn push_number(alloc: Global, text: &mut String, number: &Num) -> Result<(), All
 
 fn push_tok(alloc: Global, text: &mut String, tok: &Tok) -> Result<(), AllocError> {
     match tok {
-        Tok::Word(name) => push_named(text, "word", name.get()),
+        Tok::Word(word) => push_named(text, "word", word.get()),
         Tok::Number(number) => push_number(alloc, text, number),
         Tok::Text(bytes) => push_named(text, "text", bytes.get()),
         Tok::Mark(mark) => push_named(text, "mark", &[*mark]),

@@ -32,11 +32,12 @@ use Rattle.transfer_ranges.specs.Stores.{sender_range, operands}
 use Rattle.interval_domain.specs.Known.{Known}
 use Rattle.cell_steps.specs.Storages.{storage, StandsIn}
 use Rattle.cell_steps.specs.Premises.{HasSoundItems}
-use Rattle.cell_steps.specs.Operands.{edge_amount, edge_operands, settled, amount_of}
+use Rattle.transfer_ranges.specs.EdgeOperands.{edge_amount, edge_operands, settled, amount_of}
 use Rattle.cell_steps.specs.Stores.{range_at}
 use Rattle.cell_steps.specs.Agreeing.{OperandsHold, of_operands}
 use Rattle.cell_laws.proofs.AmountLaws.{Given}
-use Rattle.cell_laws.proofs.Agreement.{numeric_agree, same_result, same_remainder}
+use Rattle.transfer_ranges.proofs.Agreement.{numeric_agree}
+use Rattle.cell_laws.proofs.Agreement.{same_result, same_remainder}
 use Rattle.cell_laws.proofs.Roots.{settled_is}
 use Rattle.cell_laws.proofs.HomesHold.{number_holds, range_is_ordered}
 

@@ -124,7 +124,7 @@ read_below own (g ∷ hs) (c ∷ cs) h = go (is_home g h) (known_of hs cs h) (re
 
 -- ---- joins
 
-known_joined_below : (a b c d : Known) → KnownBelow a c → KnownBelow b d → KnownBelow (joined_known a b) (joined_known c d)
+pub known_joined_below : (a b c d : Known) → KnownBelow a c → KnownBelow b d → KnownBelow (joined_known a b) (joined_known c d)
 known_joined_below a b c d h k =
     known_join_least a b (joined_known c d) (known_transitive a c (joined_known c d) h (known_join_left c d)) (known_transitive b d (joined_known c d) k (known_join_right c d))
 

@@ -12,7 +12,7 @@ use Rattle.cob_graph.specs.Homes.{cell, counter, homes_of}
 use Rattle.cob_graph.specs.declared.homes.Home.TheVariants.{Item as of_item, Count as of_count}
 
 abbrev item_of : Option (List ℕ) → ℕ → ℕ → Form → Item
-item_of name offset length f = record { name = name; offset = offset; length = length; form = f; parent = Some 0; line = 5; value = None }
+item_of name offset length f = record { name = name; offset = offset; length = length; times = 1; stride = 0; form = f; parent = Some 0; line = 5; value = None }
 
 -- 01 G. 05 A PIC 9(3). 05 FILLER PIC 9. 05 T PIC X(20). 05 B PIC S9V9.
 -- 1: CONTINUE. 2: PERFORM 2 TIMES 3: CONTINUE END-PERFORM.
@@ -42,5 +42,5 @@ small = record {
 homes : homes_of small ≡ of_item 1 ∷ of_item 4 ∷ of_count 2 ∷ []
 homes = refl
 
-cells : cells_of small ≡ cell (Some 1) 3 0 false ∷ cell (Some 4) 2 1 true ∷ counter ∷ []
+cells : cells_of small ≡ cell (Some 1) 3 0 false 1 ∷ cell (Some 4) 2 1 true 1 ∷ counter ∷ []
 cells = refl

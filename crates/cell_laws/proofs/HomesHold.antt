@@ -2,14 +2,16 @@
 use Rattle.std.proofs.Common.{◌≡◌, ◌<◌, ℕ, suc, Bool, true, false, if◌then◌else◌, List, [], ◌∷◌, Option, Some, None, is_some, ℤ, pos, ◌≤ℤ◌, refl, sym, subst, arith}
 use Rattle.std.specs.Prelude.{neg_ℤ, ◌-◌, ◌^◌, unsigned_abs}
 use Rattle.std.specs.List.{Contains}
-use Rattle.std.specs.Option.{option_map}
+use Rattle.std.specs.Option.{option_map, option_map_or}
 use Rattle.std.proofs.lemmas.Int.{ints}
 use Rattle.dec_num.specs.declared.types.Scaled.{Scaled}
 use Rattle.interval_domain.specs.declared.bounds.Interval.{Interval}
 use Rattle.interval_domain.specs.Bounds.{Holds}
+use Rattle.cob_data.specs.declared.layout.Item.{Item}
+use Rattle.cob_data.specs.declared.layout.Layout.{Layout}
 use Rattle.cob_program.specs.Act.{Program}
 use Rattle.num_bytes.specs.Reading.{contents_value}
-use Rattle.cob_runs.specs.Contents.{form_at, bytes_at, scale_of, scaled_by, number_at}
+use Rattle.cob_runs.specs.Contents.{item_at, form_at, times_at, occurrence_bytes, occurrence_number, scale_of, scaled_by, number_at}
 use Rattle.cob_edge_parts.specs.Meaning.{count_in}
 use Rattle.sum_ranges.specs.Ranged.{IsIn, IsOrdered}
 use Rattle.dom_laws.specs.Meaning.{Storage}
@@ -20,9 +22,9 @@ use Rattle.cob_graph.specs.declared.homes.Home.{Home}
 use Rattle.cob_graph.specs.declared.homes.Home.TheVariants.{Item as of_item, Count as of_count}
 use Rattle.cob_graph.specs.Homes.{is_home, homes_of}
 use Rattle.cell_steps.specs.OwnRanges.{home_range, picture_range}
-use Rattle.cell_steps.specs.Storages.{known_of, value_at, KnownStands, StandsIn}
+use Rattle.cell_steps.specs.Storages.{known_of, value_at, KnownStands, HomeStands, StandsIn}
 use Rattle.cell_steps.specs.Premises.{HasSoundItems}
-use Rattle.cell_steps.specs.Cells.{known_or, units_of, is_numeric, with_known}
+use Rattle.cell_steps.specs.Cells.{is_table, known_or, units_of, is_numeric, with_known}
 use Rattle.cell_steps.specs.Stores.{range_at}
 use Rattle.cell_steps.specs.Agreeing.{IsTimesAt}
 use Rattle.cell_laws.proofs.ItemRanges.{home_ordered}
@@ -49,13 +51,13 @@ if_home P none (k ∷ hs) (d ∷ cs) h there = go (is_home k h) refl there (λ t
 
 -- one home is known otherwise, and others are true of the storage
 pub home_set : (p : Program) (cells : List Known) (s : Storage) (h : Home) (c : Known)
-    → (Contains (homes_of p) h → KnownStands c (value_at p.layout s h))
-    → ((g : Home) → Contains (homes_of p) g → ¬ g ≡ h → KnownStands (known_of (homes_of p) cells g) (value_at p.layout s g))
-    → (g : Home) → KnownStands (known_of (homes_of p) (with_known h c (homes_of p) cells) g) (value_at p.layout s g)
+    → (Contains (homes_of p) h → HomeStands p.layout s c h)
+    → ((g : Home) → Contains (homes_of p) g → ¬ g ≡ h → HomeStands p.layout s (known_of (homes_of p) cells g) g)
+    → (g : Home) → HomeStands p.layout s (known_of (homes_of p) (with_known h c (homes_of p) cells) g) g
 home_set p cells s h c new old g =
-    if_home (λ k. KnownStands k (value_at p.layout s g)) tt (homes_of p) (with_known h c (homes_of p) cells) g
-    (λ there. known_after (λ k. KnownStands k (value_at p.layout s g)) tt (homes_of p) cells h g c
-    (λ e. subst (λ (k : Home). KnownStands c (value_at p.layout s k)) (sym e) (new (subst (λ (k : Home). Contains (homes_of p) k) e there)))
+    if_home (λ k. HomeStands p.layout s k g) (λ n less. tt) (homes_of p) (with_known h c (homes_of p) cells) g
+    (λ there. known_after (λ k. HomeStands p.layout s k g) (λ n less. tt) (homes_of p) cells h g c
+    (λ e. subst (λ (k : Home). HomeStands p.layout s c k) (sym e) (new (subst (λ (k : Home). Contains (homes_of p) k) e there)))
     (λ n. old g there n))
 
 -- ---- values
@@ -80,33 +82,59 @@ count_in_picture v h = go (10 ^ 18) h
     go : (n : ℕ) → unsigned_abs v < n → (neg_ℤ (pos (n - 1)) ≤ℤ v) × (v ≤ℤ pos (n - 1))
     go n k = (omega (arith, ints, k), omega (arith, ints, k))
 
-module _ (p : Program) (sound : HasSoundItems p.layout) (cells : List Known) (s : Storage) (stands : StandsIn p cells s) where
-  pub units_hold : (place : ℕ) (z : ℤ) → contents_value (form_at p.layout place) (bytes_at p.layout s.bytes place) ≡ Some z → Holds (units_of p.layout (homes_of p) cells (of_item place)) z
-  units_hold place z e =
-      known_holds (home_range p.layout (of_item place)) (known_of (homes_of p) cells (of_item place)) (value_at p.layout s (of_item place)) z e (stands.known (of_item place))
-      (sound.own place s.bytes z stands.whole e)
+-- ---- occurrences
 
-  -- an item's number lies in its range
-  pub number_holds : (place : ℕ) (v : Scaled) → number_at p.layout s.bytes place ≡ Some v → IsIn v (range_at p cells place)
-  number_holds place v e = go (contents_value (form_at p.layout place) (bytes_at p.layout s.bytes place)) refl e
+-- each item has some
+pub some_times : (l : Layout) → HasSoundItems l → (place : ℕ) → 0 < times_at l place
+some_times l sound place = go (item_at l place) refl
+  where
+    go : (o : Option Item) → item_at l place ≡ o → 0 < option_map_or (λ i. i.times) o 1
+    go None e = omega arith
+    go (Some i) e = (sound.extent place i e).some
+
+-- What is no table's has one: what holds of the first holds of each.
+pub each_of_one : (l : Layout) → HasSoundItems l → (place : ℕ) → is_table l place ≡ false → (P : ℕ → Type 0) → P 0 → (n : ℕ) → n < times_at l place → P n
+each_of_one l sound place plain P first n less =
+    let one = sound.one place plain in
+    let same : 0 ≡ n = omega (arith, less, one) in
+    subst P same first
+
+module _ (p : Program) (sound : HasSoundItems p.layout) (cells : List Known) (s : Storage) (stands : StandsIn p cells s) where
+  pub units_hold : (place n : ℕ) (z : ℤ) → n < times_at p.layout place → contents_value (form_at p.layout place) (occurrence_bytes p.layout s.bytes place n) ≡ Some z
+      → Holds (units_of p.layout (homes_of p) cells (of_item place)) z
+  units_hold place n z less e =
+      known_holds (home_range p.layout (of_item place)) (known_of (homes_of p) cells (of_item place)) (value_at p.layout s (of_item place) n) z e (stands.known (of_item place) n less)
+      (sound.own place n s.bytes z stands.whole less e)
+
+  -- the number of an item's occurrence lies in the item's range
+  pub occurrence_holds : (place n : ℕ) (v : Scaled) → n < times_at p.layout place → occurrence_number p.layout s.bytes place n ≡ Some v → IsIn v (range_at p cells place)
+  occurrence_holds place n v less e = go (contents_value (form_at p.layout place) (occurrence_bytes p.layout s.bytes place n)) refl e
     where
-      go : (o : Option ℤ) → contents_value (form_at p.layout place) (bytes_at p.layout s.bytes place) ≡ o → option_map (scaled_by (scale_of (form_at p.layout place))) o ≡ Some v → IsIn v (range_at p cells place)
+      go : (o : Option ℤ) → contents_value (form_at p.layout place) (occurrence_bytes p.layout s.bytes place n) ≡ o → option_map (scaled_by (scale_of (form_at p.layout place))) o ≡ Some v → IsIn v (range_at p cells place)
       go None f g = absurd cc
       go (Some z) f g =
           let same : scaled_by (scale_of (form_at p.layout place)) z ≡ v = cc in
-          subst (λ (w : Scaled). IsIn w (range_at p cells place)) same (record { held = units_hold place z f; scale = refl })
+          subst (λ (w : Scaled). IsIn w (range_at p cells place)) same (record { held = units_hold place n z less f; scale = refl })
+
+  pub number_holds : (place : ℕ) (v : Scaled) → number_at p.layout s.bytes place ≡ Some v → IsIn v (range_at p cells place)
+  number_holds place v e = occurrence_holds place 0 v (some_times p.layout sound place) e
 
   pub range_is_ordered : (place : ℕ) → IsOrdered (range_at p cells place)
   range_is_ordered place =
-      known_ordered (home_range p.layout (of_item place)) (known_of (homes_of p) cells (of_item place)) (value_at p.layout s (of_item place)) (home_ordered p.layout (of_item place)) (stands.known (of_item place))
+      known_ordered (home_range p.layout (of_item place)) (known_of (homes_of p) cells (of_item place)) (value_at p.layout s (of_item place) 0) (home_ordered p.layout (of_item place))
+      (stands.known (of_item place) 0 (some_times p.layout sound place))
 
-  pub numeric_there : (place : ℕ) → is_numeric p.layout (homes_of p) cells place ≡ true → is_some (number_at p.layout s.bytes place) ≡ true
-  numeric_there place e =
-      mapped (contents_value (form_at p.layout place) (bytes_at p.layout s.bytes place)) (known_there (known_of (homes_of p) cells (of_item place)) (value_at p.layout s (of_item place)) (stands.known (of_item place)) e)
+  -- each occurrence of what is known to be numeric has a number
+  pub occurrence_there : (place n : ℕ) → n < times_at p.layout place → is_numeric p.layout (homes_of p) cells place ≡ true → is_some (occurrence_number p.layout s.bytes place n) ≡ true
+  occurrence_there place n less e =
+      mapped (contents_value (form_at p.layout place) (occurrence_bytes p.layout s.bytes place n)) (known_there (known_of (homes_of p) cells (of_item place)) (value_at p.layout s (of_item place) n) (stands.known (of_item place) n less) e)
     where
       mapped : (o : Option ℤ) → is_some o ≡ true → is_some (option_map (scaled_by (scale_of (form_at p.layout place))) o) ≡ true
       mapped None f = f
       mapped (Some z) f = refl
+
+  pub numeric_there : (place : ℕ) → is_numeric p.layout (homes_of p) cells place ≡ true → is_some (number_at p.layout s.bytes place) ≡ true
+  numeric_there place e = occurrence_there place 0 (some_times p.layout sound place) e
 
   pub items_hold : ItemsHold p.layout (range_at p cells) (is_numeric p.layout (homes_of p) cells) s.bytes
   items_hold = record { ordered = range_is_ordered; numbers = number_holds; numeric = numeric_there }
@@ -114,7 +142,7 @@ module _ (p : Program) (sound : HasSoundItems p.layout) (cells : List Known) (s 
   -- a counter's number lies in its range
   pub count_holds : (n : ℕ) (v : ℤ) → count_in s.counters n ≡ Some v → IsCount v → Holds (units_of p.layout (homes_of p) cells (of_count n)) v
   count_holds n v e small =
-      known_holds (home_range p.layout (of_count n)) (known_of (homes_of p) cells (of_count n)) (value_at p.layout s (of_count n)) v e (stands.known (of_count n)) (count_in_picture v small)
+      known_holds (home_range p.layout (of_count n)) (known_of (homes_of p) cells (of_count n)) (value_at p.layout s (of_count n) 0) v e (stands.known (of_count n) 0 (omega arith)) (count_in_picture v small)
 
   -- the counter of a TIMES holds a number that fits
   pub times_count : (n : ℕ) → IsTimesAt p n → HoldsCount s.counters n

@@ -7,7 +7,9 @@ use Rattle.interval_domain.specs.Elements.{CellsBelow}
 use Rattle.cob_graph.specs.declared.homes.Home.{Home}
 use Rattle.cob_graph.specs.declared.homes.Home.TheVariants.{Item as of_item, Count as of_count}
 use Rattle.cob_graph.specs.Homes.{is_home}
-use Rattle.cell_steps.specs.Storages.{known_of, KnownStands}
+use Rattle.dom_laws.specs.Meaning.{Storage}
+use Rattle.cob_data.specs.declared.layout.Layout.{Layout}
+use Rattle.cell_steps.specs.Storages.{known_of, value_at, KnownStands, HomeStands}
 use Rattle.cell_steps.specs.Cells.{with_known, forgotten}
 use Rattle.cell_laws.proofs.CellLists.{home_is, known_below}
 
@@ -64,3 +66,6 @@ stands_above (Some i) (Some j) (Some v) (low, high) (a, b) = (omega (arith, ints
 
 pub all_stand_above : (hs : List Home) (cs ds : List Known) (h : Home) (v : Option ℤ) → CellsBelow cs ds → KnownStands (known_of hs cs h) v → KnownStands (known_of hs ds h) v
 all_stand_above hs cs ds h v below s = stands_above (known_of hs cs h) (known_of hs ds h) v (known_below hs cs ds h below) s
+
+pub homes_stand_above : (l : Layout) (s : Storage) (hs : List Home) (cs ds : List Known) (h : Home) → CellsBelow cs ds → HomeStands l s (known_of hs cs h) h → HomeStands l s (known_of hs ds h) h
+homes_stand_above l s hs cs ds h below stands n less = all_stand_above hs cs ds h (value_at l s h n) below (stands n less)

@@ -1,4 +1,6 @@
 pub mod Entry
+pub mod FirstBytes
+pub mod EntryExamples
 pub mod Flow
 pub mod Clears
 pub mod Meaning
@@ -27,6 +29,7 @@ pub mod ResultLaws
 pub mod ItemRanges
 pub mod OperandsRise
 pub mod ResultsFit
+pub mod Meetings
 pub mod PartsRise
 pub mod ClearsFall
 pub mod ResultLawsHold
@@ -41,6 +44,7 @@ pub mod AmountsHold
 pub mod WalkLaws
 pub mod PartsDone
 pub mod QuietParts
+pub mod Subscripts
 pub mod StoresKeep
 pub mod StoreOutcomes
 pub mod PartsKeep

@@ -16,12 +16,12 @@ use Rattle.graph_runs.specs.Places.{edge_at, IsOf, DoesAt}
 use Rattle.graph_runs.specs.Doing.{Begins, Acts, MeetsAt}
 use Rattle.cob_graph.specs.Homes.{homes_of}
 use Rattle.cell_steps.specs.OwnRanges.{owns}
-use Rattle.cell_steps.specs.Storages.{storage, value_at, StandsIn, ElementStands}
+use Rattle.cell_steps.specs.Storages.{storage, StandsIn, ElementStands}
 use Rattle.cell_steps.specs.Edges.{post_cells, clears_edge}
 use Rattle.cell_laws.specs.Entry.{entry_cells}
 use Rattle.cell_laws.specs.Layer.{statement_at, row_for, left, edge_cells, post_at, edge_clears, clears_at, cell_flow, cell_meaning}
 use Rattle.cell_laws.proofs.Entry.{entry_fits, entry_stands}
-use Rattle.cell_laws.proofs.HomesStand.{all_stand_above}
+use Rattle.cell_laws.proofs.HomesStand.{homes_stand_above}
 use Rattle.cell_laws.proofs.EachEdge.{all_posts_stand, none_cleared_is_met}
 use Rattle.cell_laws.proofs.Edges.{edges_are_sound_of_sources}
 use Rattle.cell_laws.proofs.Flow.{lattice, post_fits}
@@ -35,7 +35,7 @@ element_above p (Some cs) None s below stands = absurd below
 element_above p (Some cs) (Some ds) s below stands = record {
   whole = stands.whole;
   counted = stands.counted;
-  known = λ h. all_stand_above (homes_of p) cs ds h (value_at p.layout s h) below (stands.known h);
+  known = λ h. homes_stand_above p.layout s (homes_of p) cs ds h below (stands.known h);
 }
 
 -- ---- the statement at a node

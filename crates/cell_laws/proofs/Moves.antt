@@ -17,7 +17,7 @@ use Rattle.cob_program.specs.Logic.{Test, numbers, texts, member, numeric, alway
 use Rattle.cob_runs.specs.Contents.{item_at, form_at, number_in}
 use Rattle.cob_runs.specs.Computing.{items_in}
 use Rattle.cob_runs.specs.Acts.{decl_at}
-use Rattle.cob_edge_parts.specs.Parts.{moved, Part, read, unread, divide, store, bytes_in, guard, read_count, set_count, count_down, guard_count, item_reads, divides, divisors_in, number_reads, compare_parts, gets_value, is_read_for, is_number_item, item_bytes, receiver_parts, receivers_parts, move_parts, text_reads, end_reads, test_reads, test_parts, status_parts, file_parts, file_call_parts, into_parts}
+use Rattle.cob_edge_parts.specs.Parts.{moved, Part, read, unread, subscript, index, divide, store, bytes_in, guard, read_count, set_count, count_down, guard_count, item_reads, divides, divisors_in, number_reads, compare_parts, gets_value, is_read_for, is_number_item, item_bytes, receiver_parts, receivers_parts, move_parts, text_reads, end_reads, test_reads, test_parts, status_parts, file_parts, file_call_parts, into_parts}
 use Rattle.cell_laws.specs.Places.{IsBehindSender, IsDivided}
 use Rattle.cell_laws.proofs.Splits.{Stands, stands, not_empty, only, in_reads, InDivides, in_divides, reads_append}
 use Rattle.cell_laws.proofs.Divisors.{order_append, sum_order, some_behind}
@@ -100,6 +100,8 @@ module _ (l : Layout) where
   read_moved : (x : Sender) (done : List Part) (y : Part) → IsRead y → IsMoved x done y
   read_moved x done (read place) h = tt
   read_moved x done unread h = tt
+  read_moved x done (subscript last k) h = absurd h
+  read_moved x done (index last k count) h = absurd h
   read_moved x done (divide d) h = absurd h
   read_moved x done (store place mode z) h = absurd h
   read_moved x done (bytes_in offset count) h = absurd h
@@ -113,6 +115,8 @@ module _ (l : Layout) where
   bytes_moved x done (bytes_in offset count) h = tt
   bytes_moved x done (read place) h = absurd h
   bytes_moved x done unread h = absurd h
+  bytes_moved x done (subscript last k) h = absurd h
+  bytes_moved x done (index last k count) h = absurd h
   bytes_moved x done (divide d) h = absurd h
   bytes_moved x done (store place mode z) h = absurd h
   bytes_moved x done (guard t wanted) h = absurd h
@@ -190,6 +194,8 @@ module _ (l : Layout) where
   read_tested : (done : List Part) (y : Part) → IsRead y → IsTested done y
   read_tested done (read place) h = tt
   read_tested done unread h = tt
+  read_tested done (subscript last k) h = absurd h
+  read_tested done (index last k count) h = absurd h
   read_tested done (divide d) h = absurd h
   read_tested done (store place mode z) h = absurd h
   read_tested done (bytes_in offset count) h = absurd h

@@ -13,13 +13,14 @@ use Rattle.cob_program.specs.Act.{Act, move, arith as arithmetic, if_, evaluate,
 use Rattle.cob_runs.specs.declared.action.Action.{Action}
 use Rattle.cob_runs.specs.declared.action.Action.TheVariants as action
 use Rattle.cob_runs.specs.Computing.{items_in, worth}
-use Rattle.cob_edge_parts.specs.Parts.{Amount, moved, computed, remaining, augmented, Part, read, unread, divide, store, bytes_in, guard, read_count, set_count, count_down, guard_count, item_reads, divides, divisors_of, own_reads, arith_parts, compute_parts, parts_of, is_handled}
-use Rattle.cob_edge_parts.specs.Meaning.{Moment, divided_by_zero, divides_by, is_left_alone, stored_bytes, stored_or_kept, Divides, Passes}
+use Rattle.cob_edge_parts.specs.Parts.{Amount, moved, computed, remaining, augmented, Part, read, unread, subscript, index, divide, store, bytes_in, guard, read_count, set_count, count_down, guard_count, item_reads, divides, divisors_of, own_reads, arith_parts, compute_parts, parts_of, is_handled}
+use Rattle.cob_edge_parts.specs.Meaning.{Moment, divided_by_zero, divides_by, is_left_alone, skipped, stored_bytes, stored_or_kept, Divides, Passes}
 use Rattle.cob_edge_parts.specs.Edges.{fault_edge}
 use Rattle.cob_edge_parts.specs.Counters.{PassesParts, MeetsAmong}
 use Rattle.dom_laws.specs.Walking.{PassesAll, Meets}
 use Rattle.cell_steps.specs.Stores.{has_one_receiver, handled, keeps_receiver}
 use Rattle.cell_steps.specs.Agreeing.{is_store, FailsAt, walking}
+use Rattle.cob_edge_parts.proofs.Subscripts.{subscript_leaves, index_leaves}
 use Rattle.cell_laws.proofs.PartsDone.{both_true}
 use Rattle.cell_laws.proofs.QuietParts.{read_moment}
 
@@ -121,6 +122,8 @@ module _ (l : Layout) where
       let same = read_moment l m.by_zero place m n h in
       same_zero m n same.failed same.zero z
   zero_stays unread m n e h z = absurd h
+  zero_stays (subscript last k) m n e h z = moment_zero m n (subscript_leaves l (skipped last m) k m n h) z
+  zero_stays (index last k count) m n e h z = moment_zero m n (index_leaves l (skipped last m) k count m n h) z
   zero_stays (divide d) m n e h z = divide_zero d m n h z
   zero_stays (store place mode y) m n e h z = absurd cc
   zero_stays (bytes_in offset count) m n e h z = same_zero m n (ap (λ (k : Moment). k.failed) h.1) (ap (λ (k : Moment). k.by_zero) h.1) z

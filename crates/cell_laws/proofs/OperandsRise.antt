@@ -23,7 +23,7 @@ use Rattle.transfer_ranges.specs.declared.amounts.AmountRange.TheVariants as ran
 use Rattle.transfer_ranges.specs.Amounts.{taken, IsNarrowerIfAny, IsNarrowerTaken, IsNarrowerTakenIfAny, IsNarrowerAmount}
 use Rattle.transfer_ranges.specs.Operands.{alone, taken_from, taken_sum}
 use Rattle.transfer_ranges.specs.Stores.{operands, amount_range}
-use Rattle.cell_steps.specs.Operands.{edge_amount, edge_operands, operands_vanish, settled_by, settled, stays_exact, taken_for, amount_of, is_divided, may_divide_by_zero}
+use Rattle.transfer_ranges.specs.EdgeOperands.{edge_amount, edge_operands, operands_vanish, settled_by, settled, stays_exact, taken_for, amount_of, is_divided, may_divide_by_zero}
 use Rattle.cell_laws.proofs.ResultLaws.{Given}
 
 -- ---- tests

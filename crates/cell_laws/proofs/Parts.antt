@@ -12,7 +12,7 @@ use Rattle.cob_runs.specs.declared.action.Action.{Action}
 use Rattle.cob_runs.specs.declared.action.Action.TheVariants as action
 use Rattle.cob_runs.specs.Acts.{decl_at, file_from}
 use Rattle.cob_runs.specs.Effects.{tests_in_act, is_times}
-use Rattle.cob_edge_parts.specs.Parts.{moved, computed, remaining, augmented, Part, read, unread, divide, store, bytes_in, guard, read_count, set_count, count_down, guard_count, number_reads, augment_parts, test_parts, assign_parts, compute_parts, condition_parts, count_parts, call_parts, read_parts, bad_parts}
+use Rattle.cob_edge_parts.specs.Parts.{moved, computed, remaining, augmented, Part, read, unread, subscript, index, divide, store, bytes_in, guard, read_count, set_count, count_down, guard_count, number_reads, augment_parts, test_parts, assign_parts, compute_parts, condition_parts, count_parts, call_parts, read_parts, bad_parts}
 use Rattle.cell_laws.specs.Places.{IsBehindSender, Moves, IsInPlace, PartsAreInPlace, is_worked, ArithmeticIsDone}
 use Rattle.cell_laws.proofs.Splits.{Stands, stands, not_empty, only}
 use Rattle.cell_laws.proofs.Arithmetic.{arith_in_place}
@@ -26,6 +26,8 @@ module _ (p : Program) (statement : ℕ) where
   read_in_place : (a : Act) (x : Action) (done : List Part) (y : Part) → IsRead y → IsInPlace statement a x done y
   read_in_place a x done (read place) h = tt
   read_in_place a x done unread h = tt
+  read_in_place a x done (subscript last k) h = absurd h
+  read_in_place a x done (index last k count) h = absurd h
   read_in_place a x done (divide d) h = absurd h
   read_in_place a x done (store place mode z) h = absurd h
   read_in_place a x done (bytes_in offset count) h = absurd h
@@ -39,6 +41,8 @@ module _ (p : Program) (statement : ℕ) where
   bytes_in_place a x done (bytes_in offset count) none h = none
   bytes_in_place a x done (read place) none h = absurd h
   bytes_in_place a x done unread none h = absurd h
+  bytes_in_place a x done (subscript last k) none h = absurd h
+  bytes_in_place a x done (index last k count) none h = absurd h
   bytes_in_place a x done (divide d) none h = absurd h
   bytes_in_place a x done (store place mode z) none h = absurd h
   bytes_in_place a x done (guard t wanted) none h = absurd h
@@ -53,6 +57,8 @@ module _ (p : Program) (statement : ℕ) where
   tested_in_place a x done (divide d) h = h
   tested_in_place a x done (guard t wanted) h = tt
   tested_in_place a x done (store place mode z) h = absurd h
+  tested_in_place a x done (subscript last k) h = absurd h
+  tested_in_place a x done (index last k count) h = absurd h
   tested_in_place a x done (bytes_in offset count) h = absurd h
   tested_in_place a x done (read_count n) h = absurd h
   tested_in_place a x done (set_count n z) h = absurd h
@@ -67,6 +73,8 @@ module _ (p : Program) (statement : ℕ) where
   moved_in_place a x z done (store place mode (computed s h)) none m k = absurd k
   moved_in_place a x z done (store place mode (remaining s scale)) none m k = absurd k
   moved_in_place a x z done (store place mode (augmented w)) none m k = absurd k
+  moved_in_place a x z done (subscript last k) none m h = absurd h
+  moved_in_place a x z done (index last k count) none m h = absurd h
   moved_in_place a x z done (divide d) none m h = absurd h
   moved_in_place a x z done (guard t wanted) none m h = absurd h
   moved_in_place a x z done (read_count n) none m h = absurd h

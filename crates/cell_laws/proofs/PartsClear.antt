@@ -20,7 +20,7 @@ use Rattle.cob_runs.specs.declared.action.Action.{Action}
 use Rattle.cob_runs.specs.declared.action.Action.TheVariants as action
 use Rattle.cob_runs.specs.Contents.{form_at, number_at, stored as stored_units}
 use Rattle.cob_runs.specs.Computing.{worth}
-use Rattle.cob_edge_parts.specs.Parts.{Amount, moved, computed, remaining, augmented, Part, read, unread, divide, store, bytes_in, guard, read_count, set_count, count_down, guard_count, divides, parts_of, has_phrase}
+use Rattle.cob_edge_parts.specs.Parts.{Amount, moved, computed, remaining, augmented, Part, read, unread, subscript, index, divide, store, bytes_in, guard, read_count, set_count, count_down, guard_count, divides, parts_of, has_phrase}
 use Rattle.cob_edge_parts.specs.Meaning as run
 use Rattle.cob_edge_parts.specs.Meaning.{Moment, divides_by, misfit_of, stored_bytes, amount, Faults}
 use Rattle.cob_edge_parts.specs.Edges.{fault_edge}
@@ -41,7 +41,7 @@ use Rattle.cob_graph.specs.Homes.{homes_of}
 use Rattle.cell_steps.specs.OwnRanges.{picture_range}
 use Rattle.cell_steps.specs.Storages.{storage}
 use Rattle.cell_steps.specs.Cells.{known_or, units_of, is_numeric}
-use Rattle.cell_steps.specs.Operands.{amount_of}
+use Rattle.transfer_ranges.specs.EdgeOperands.{amount_of}
 use Rattle.cell_steps.specs.Seen.{Seen}
 use Rattle.cell_steps.specs.Stores.{range_at, handled, with_taken}
 use Rattle.cell_steps.specs.Clearing.{is_misfit, has_quotient, all_fit_of, all_fit, all_count, clears_part}
@@ -51,6 +51,7 @@ use Rattle.cell_laws.proofs.WalkLaws.{Given}
 use Rattle.cell_laws.proofs.HomesHold.{if_home, numeric_there, count_holds}
 use Rattle.cell_laws.proofs.PartsDone.{both_true, and_true, read_first, divisors_count}
 use Rattle.cell_laws.proofs.QuietParts.{times_small}
+use Rattle.cell_laws.proofs.Subscripts.{fault_is, index_cleared}
 use Rattle.cell_laws.proofs.StoresKeep.{is_there, TakenAt, taken_at, HasRoot, amount_there, counts_amount, amount_meant}
 use Rattle.cell_laws.proofs.PartsKeep.{numeric, amount_or_other, all_in, same_value, sent_holds, counted_down, lower_holds, off_zero}
 use Rattle.cell_laws.proofs.PartsRise.{test_le}
@@ -224,6 +225,11 @@ module _ (given : Given) (p : Program) (statement : ℕ) (a : Act) (x : Action) 
   cleared done rest (read place) s m fault e g clear (its, inr (is, f)) = f
   cleared done rest unread s m fault e g clear (its, inl is) = let f = subst (λ (k : Kind). clears_part p a x unread s k ≡ true) is clear in cc
   cleared done rest unread s m fault e g clear (its, inr (is, f)) = f
+  cleared done rest (subscript last k) s m fault e g clear (its, inl (comes, none, is)) = read_cleared done k s m g (subst (λ (w : Kind). clears_part p a x (subscript last k) s w ≡ true) is clear) none
+  cleared done rest (subscript last k) s m fault e g clear (its, inr (is, f)) = f
+  cleared done rest (index last k count) s m fault e g clear (its, inl (comes, v, has, none)) =
+      index_cleared p statement a x done k count s m v fault g (subst (λ (w : Kind). clears_part p a x (index last k count) s w ≡ true) (fault_is count v.units fault none) clear) has none
+  cleared done rest (index last k count) s m fault e g clear (its, inr (is, f)) = f
   cleared done rest (divide d) s m fault e g clear (its, inl f) = divide_part done rest d s m fault e g clear its (handled p a x) refl f
   cleared done rest (divide d) s m fault e g clear (its, inr (is, f)) = f
   cleared done rest (store place mode y) s m fault e g clear (its, inl f) = store_part done rest place mode y s m fault e g clear its (handled p a x) refl f

@@ -7,9 +7,10 @@ use Rattle.cob_data.specs.declared.layout.Layout.{Layout}
 use Rattle.cob_program.specs.Sum.{Atom}
 use Rattle.cob_runs.specs.Contents.{number_at}
 use Rattle.cob_runs.specs.Computing.{are_numeric, worth}
-use Rattle.cob_edge_parts.specs.Parts.{Amount, Part, read, unread, divide, store, bytes_in, guard, read_count, set_count, count_down, guard_count, item_reads, divides}
-use Rattle.cob_edge_parts.specs.Meaning.{Moment, with_own, divided_by_zero, divides_by, is_left_alone, stored_bytes, stored_or_kept, ReadsAt, Divides, Stores, Passes}
+use Rattle.cob_edge_parts.specs.Parts.{Amount, Part, read, unread, subscript, index, divide, store, bytes_in, guard, read_count, set_count, count_down, guard_count, item_reads, divides}
+use Rattle.cob_edge_parts.specs.Meaning.{Moment, with_own, divided_by_zero, divides_by, is_left_alone, skipped, stored_bytes, stored_or_kept, ReadsAt, Divides, Stores, Passes}
 use Rattle.cob_edge_parts.specs.Counters.{PassesPart, PassesParts}
+use Rattle.cob_edge_parts.proofs.Subscripts.{subscript_leaves, index_leaves}
 use Rattle.cell_steps.specs.Agreeing.{writes, is_store}
 
 -- ---- tests
@@ -87,6 +88,8 @@ module _ (l : Layout) (handled : Bool) where
   pub zero_before : (y : Part) (m n : Moment) → Passes l handled y m n → n.by_zero ≡ false → m.by_zero ≡ false
   zero_before (read place) m n h f = same_before m n (read_zero m.by_zero place m n h) f
   zero_before unread m n h f = absurd h
+  zero_before (subscript last k) m n h f = same_before m n (ap (λ (j : Moment). j.by_zero) (subscript_leaves l (skipped last m) k m n h)) f
+  zero_before (index last k count) m n h f = same_before m n (ap (λ (j : Moment). j.by_zero) (index_leaves l (skipped last m) k count m n h)) f
   zero_before (divide d) m n h f = divide_zero handled d m n h f
   zero_before (store place mode y) m n h f = same_before m n (store_zero handled place mode y m n h) f
   zero_before (bytes_in offset count) m n h f = same_before m n (ap (λ (k : Moment). k.by_zero) h.1) f

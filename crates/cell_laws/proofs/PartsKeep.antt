@@ -20,10 +20,10 @@ use Rattle.cob_runs.specs.declared.action.Action.{Action}
 use Rattle.cob_runs.specs.Contents.{form_at, bytes_of, number_at, filled_at}
 use Rattle.cob_runs.specs.Moves.{takes_number, number_of}
 use Rattle.cob_runs.specs.Computing.{items_in_atom, are_numeric, worth}
-use Rattle.cob_edge_parts.specs.Parts.{Amount, moved, Part, read, unread, divide, store, bytes_in, guard, read_count, set_count, count_down, guard_count, divides, parts_of}
+use Rattle.cob_edge_parts.specs.Parts.{Amount, moved, Part, read, unread, subscript, index, divide, store, bytes_in, guard, read_count, set_count, count_down, guard_count, divides, parts_of}
 use Rattle.cob_runs.specs.Effects.{is_times}
 use Rattle.cob_edge_parts.specs.Meaning as run
-use Rattle.cob_edge_parts.specs.Meaning.{Moment, with_storage, with_count, with_failure, divided_by_zero, count_in, divides_by, changed_in, Divides}
+use Rattle.cob_edge_parts.specs.Meaning.{Moment, with_storage, with_count, with_failure, divided_by_zero, count_in, divides_by, skipped, changed_in, Divides}
 use Rattle.cob_edge_parts.specs.Ranges.{ChangesWithin}
 use Rattle.dom_laws.specs.Walking.{IsSeen}
 use Rattle.sum_ranges.specs.declared.ranged.Ranged.{Ranged}
@@ -41,14 +41,14 @@ use Rattle.transfer_ranges.specs.ResultRanges.{fitted, result_range, count_range
 use Rattle.cob_edge_parts.specs.Counters.{IsCount, PassesPart, PassesParts}
 use Rattle.cell_laws.specs.Places.{IsDivided, Counts, IsStored}
 use Rattle.interval_domain.specs.Known.{Known, KnownFits}
-use Rattle.interval_domain.specs.Elements.{joined}
+use Rattle.interval_domain.specs.Elements.{CellsBelow, joined}
 use Rattle.cob_graph.specs.declared.homes.Home.{Home}
 use Rattle.cob_graph.specs.declared.homes.Home.TheVariants.{Item as of_item, Count as of_count}
 use Rattle.cob_graph.specs.Homes.{homes_of}
 use Rattle.cell_steps.specs.OwnRanges.{picture_range, form_range}
-use Rattle.cell_steps.specs.Storages.{storage, known_of, value_at, KnownStands, StandsIn}
-use Rattle.cell_steps.specs.Cells.{known_or, units_of, forgotten, is_in_bytes, is_beside}
-use Rattle.cell_steps.specs.Operands.{edge_amount, amount_of}
+use Rattle.cell_steps.specs.Storages.{storage, known_of, value_at, KnownStands, HomeStands, StandsIn}
+use Rattle.cell_steps.specs.Cells.{known_or, units_of, forgotten, is_in_extent, bytes_from, is_beside}
+use Rattle.transfer_ranges.specs.EdgeOperands.{edge_amount, amount_of}
 use Rattle.cell_steps.specs.Seen.{Seen, with_cells, with_zero}
 use Rattle.cell_steps.specs.Stores.{stored_cells, stored_element, behind_store, range_at, handled, keeps_receiver, with_taken, amount_at, result_at, may_fail, stored}
 use Rattle.cell_steps.specs.Steps.{is_zero_alone, can_divide, known_as, with_cells_if, after_bytes, after_count, after_down, after_divide, step}
@@ -57,11 +57,13 @@ use Rattle.cell_laws.proofs.CellLists.{with_known_length, forgotten_length, join
 use Rattle.cell_laws.proofs.OperandsRise.{or_left, or_right}
 use Rattle.cell_laws.proofs.ResultsFit.{result_fits}
 use Rattle.cell_laws.proofs.WalkLaws.{Given}
-use Rattle.cell_laws.proofs.HomesStand.{known_left, all_stand_above}
+use Rattle.cell_laws.proofs.HomesStand.{known_left, homes_stand_above}
 use Rattle.cell_laws.proofs.Frames.{value_stays, range_changes}
 use Rattle.cell_laws.proofs.Counters.{count_set, count_elsewhere, differs, counted_set}
-use Rattle.cell_laws.proofs.HomesHold.{if_home, home_set, number_holds, range_is_ordered, count_holds}
+use Rattle.cell_laws.proofs.HomesHold.{if_home, home_set, some_times, number_holds, range_is_ordered, count_holds}
 use Rattle.cell_laws.proofs.PartsDone.{any_last, none_written, read_first, read_zero, store_zero, all_contained, contained_all}
+use Rattle.cob_edge_parts.proofs.Subscripts.{subscript_leaves, index_leaves}
+use Rattle.cell_laws.proofs.Subscripts.{subscript_keeps, index_keeps}
 use Rattle.cell_laws.proofs.QuietParts.{same_moment, SeenOn, quiet, quiet_at, read_keeps, guard_keeps, read_count_keeps, guard_count_keeps, times_small}
 use Rattle.cell_laws.proofs.StoreOutcomes.{result_meant, each_outcome}
 use Rattle.cell_laws.proofs.StoresKeep.{then_holds, TakenAt, taken_at, written_agrees, counts_amount, stored_stands}
@@ -236,8 +238,8 @@ module _ (given : Given) (p : Program) (statement : ℕ) (a : Act) (x : Action) 
       (record {
         whole = changes.same_length ∙ g.stands.whole;
         counted = g.stands.counted;
-        known = λ h. known_left (λ k. KnownStands k (value_at p.layout (storage (changed_in change offset count m.storage) m.counts) h)) tt (is_in_bytes p.layout offset count) (homes_of p) t.cells h
-            (λ apart. subst (λ (v : Option ℤ). KnownStands (known_of (homes_of p) t.cells h) v) (sym (value_stays p.layout offset count m.storage (changed_in change offset count m.storage) m.counts changes h apart)) (g.stands.known h));
+        known = λ h k less. known_left (λ c. KnownStands c (value_at p.layout (storage (changed_in change offset count m.storage) m.counts) h k)) tt (is_in_extent p.layout (bytes_from offset count)) (homes_of p) t.cells h
+            (λ apart. subst (λ (v : Option ℤ). KnownStands (known_of (homes_of p) t.cells h) v) (sym (value_stays p.layout offset count m.storage (changed_in change offset count m.storage) m.counts changes h apart k less)) (g.stands.known h k less));
       })
       g.written refl (λ f. f) g.fails
       (λ f k. elim (any_last is_store done (bytes_in offset count) k) [
@@ -256,7 +258,7 @@ module _ (given : Given) (p : Program) (statement : ℕ) (a : Act) (x : Action) 
   counted_stands cells m k v i sound first small stands holds = record {
     whole = stands.whole;
     counted = counted_set p m.counts k v small stands.counted;
-    known = home_set p cells (storage m.storage (slice_set m.counts (k - 1) (Some v))) (of_count k) (Some i) new others;
+    known = home_set p cells (storage m.storage (slice_set m.counts (k - 1) (Some v))) (of_count k) (Some i) (λ there j less. new there) others;
   }
     where
       new : Contains (homes_of p) (of_count k) → KnownStands (Some i) (count_in (slice_set m.counts (k - 1) (Some v)) k)
@@ -265,10 +267,10 @@ module _ (given : Given) (p : Program) (statement : ℕ) (a : Act) (x : Action) 
           let held = stands.counted k is.act is.at is.times in
           subst (λ (w : Option ℤ). KnownStands (Some i) w) (sym (count_set m.counts k v held.count held.held)) (holds there)
 
-      others : (h : Home) → Contains (homes_of p) h → ¬ h ≡ of_count k → KnownStands (known_of (homes_of p) cells h) (value_at p.layout (storage m.storage (slice_set m.counts (k - 1) (Some v))) h)
+      others : (h : Home) → Contains (homes_of p) h → ¬ h ≡ of_count k → HomeStands p.layout (storage m.storage (slice_set m.counts (k - 1) (Some v))) (known_of (homes_of p) cells h) h
       others (of_item place) there d = stands.known (of_item place)
-      others (of_count j) there d =
-          subst (λ (w : Option ℤ). KnownStands (known_of (homes_of p) cells (of_count j)) w) (sym (count_elsewhere m.counts j k v (differs j k (sound.counts j there).first first (λ e. d (ap of_count e))))) (stands.known (of_count j))
+      others (of_count j) there d = λ n less.
+          subst (λ (w : Option ℤ). KnownStands (known_of (homes_of p) cells (of_count j)) w) (sym (count_elsewhere m.counts j k v (differs j k (sound.counts j there).first first (λ e. d (ap of_count e))))) (stands.known (of_count j) n less)
 
   -- what a counter holds lies in what is fitted
   count_fitted : (i : Interval) (v : ℤ) → Holds i v → IsCount v → IsSomeAnd (count_range i) (λ j. Holds j v)
@@ -362,9 +364,13 @@ module _ (given : Given) (p : Program) (statement : ℕ) (a : Act) (x : Action) 
     same_length : (i : Interval) → length t.cells ≡ length (stored_cells p place t.cells i)
     same_length i = sym (with_known_length (homes_of p) (forgotten (is_beside p.layout place) (homes_of p) t.cells) (of_item place) _ ∙ forgotten_length (is_beside p.layout place) (homes_of p) t.cells)
 
-    stands_in_joined : (cells known : List Known) (bytes : List ℕ) → StandsIn p cells (storage bytes m.counts) → ((h : Home) → KnownStands (known_of (homes_of p) cells h) (value_at p.layout (storage bytes m.counts) h) → KnownStands (known_of (homes_of p) known h) (value_at p.layout (storage bytes m.counts) h))
-        → StandsIn p known (storage bytes m.counts)
-    stands_in_joined cells known bytes s above = record { whole = s.whole; counted = s.counted; known = λ h. above h (s.known h) }
+    -- less is known of the same storage
+    stands_in_more : (cells known : List Known) (bytes : List ℕ) (counts : List (Option ℤ)) → CellsBelow cells known → StandsIn p cells (storage bytes counts) → StandsIn p known (storage bytes counts)
+    stands_in_more cells known bytes counts below s = record {
+      whole = s.whole;
+      counted = s.counted;
+      known = λ h. homes_stand_above p.layout (storage bytes counts) (homes_of p) cells known h below (s.known h);
+    }
 
     behind_agrees : (f : Bool) (known : List Known) (n : Moment) → PassesPart p.layout (handled p a x) (store place mode y) m n → n.first ≡ m.first → n.by_zero ≡ m.by_zero → StandsIn p known (storage n.storage n.counts)
         → (n.failed ≡ true → n.by_zero ≡ false → (t.any_fail || f) ≡ true) → (n.by_zero ≡ true → (t.any_fail || f) ≡ true)
@@ -381,15 +387,15 @@ module _ (given : Given) (p : Program) (statement : ℕ) (a : Act) (x : Action) 
     fit_keeps f (Some i) held unzero fits (z, holds, is) passes = go f
       where
         stands : StandsIn p (stored_cells p place t.cells i) (storage (filled_at p.layout m.storage place held) m.counts)
-        stands = stored_stands p statement a x g.sound place t.cells m i z held takes fits holds is g.stands
+        stands = stored_stands p g.sound.items place 0 (some_times p.layout g.sound.items place) takes t.cells m.storage m.counts i z held fits holds is g.stands
 
         not_zero : {B : Type 0} → m.by_zero ≡ true → B
         not_zero e = absurd cc
 
         go : (f : Bool) → SeenNow (done ++ store place mode y ∷ []) (behind_store t f (kept_or_stored f (Some i))) (with_storage m (filled_at p.layout m.storage place held))
         go true = behind_agrees true (joined t.cells (stored_cells p place t.cells i)) (with_storage m (filled_at p.layout m.storage place held)) passes refl refl
-            (stands_in_joined (stored_cells p place t.cells i) (joined t.cells (stored_cells p place t.cells i)) (filled_at p.layout m.storage place held) stands
-            (λ h k. all_stand_above (homes_of p) (stored_cells p place t.cells i) (joined t.cells (stored_cells p place t.cells i)) h (value_at p.layout (storage (filled_at p.layout m.storage place held) m.counts) h) (joined_right t.cells (stored_cells p place t.cells i) (same_length i)) k))
+            (stands_in_more (stored_cells p place t.cells i) (joined t.cells (stored_cells p place t.cells i)) (filled_at p.layout m.storage place held) m.counts
+            (joined_right t.cells (stored_cells p place t.cells i) (same_length i)) stands)
             (λ e k. or_right t.any_fail true refl) (λ e. or_right t.any_fail true refl)
         go false = behind_agrees false (stored_cells p place t.cells i) (with_storage m (filled_at p.layout m.storage place held)) passes refl refl stands
             (λ e k. or_left t.any_fail false (g.fails e k)) (λ e. not_zero e)
@@ -401,11 +407,7 @@ module _ (given : Given) (p : Program) (statement : ℕ) (a : Act) (x : Action) 
     kept_keeps true None n e passes first z stands = behind_agrees true t.cells n passes first z stands (λ e k. or_right t.any_fail true refl) (λ e. or_right t.any_fail true refl)
     kept_keeps true (Some i) n e passes first z stands =
         behind_agrees true (joined t.cells (stored_cells p place t.cells i)) n passes first z
-        (record {
-          whole = stands.whole;
-          counted = stands.counted;
-          known = λ h. all_stand_above (homes_of p) t.cells (joined t.cells (stored_cells p place t.cells i)) h (value_at p.layout (storage n.storage n.counts) h) (joined_left t.cells (stored_cells p place t.cells i) (same_length i)) (stands.known h);
-        })
+        (stands_in_more t.cells (joined t.cells (stored_cells p place t.cells i)) n.storage n.counts (joined_left t.cells (stored_cells p place t.cells i) (same_length i)) stands)
         (λ e k. or_right t.any_fail true refl) (λ e. or_right t.any_fail true refl)
 
     amounts_fit : (o : Option AmountRange) → IfSome (o >>= result_range mode (receiver_of (form_at p.layout place))) (λ i. KnownFits (form_range (form_at p.layout place)) (Some i))
@@ -431,6 +433,8 @@ module _ (given : Given) (p : Program) (statement : ℕ) (a : Act) (x : Action) 
   same_zero : (y : Part) (m n : Moment) → handled p a x ≡ false → PassesPart p.layout (handled p a x) y m n → n.by_zero ≡ m.by_zero
   same_zero (read place) m n off (h, fits) = read_zero p.layout (handled p a x) m.by_zero place m n h
   same_zero unread m n off (h, fits) = absurd h
+  same_zero (subscript last k) m n off (h, fits) = ap (λ (j : Moment). j.by_zero) (subscript_leaves p.layout (skipped last m) k m n h)
+  same_zero (index last k count) m n off (h, fits) = ap (λ (j : Moment). j.by_zero) (index_leaves p.layout (skipped last m) k count m n h)
   same_zero (divide d) m n off (h, fits) = let w = subst (λ (b : Bool). Divides p.layout b d m n) off h in ap (λ (k : Moment). k.by_zero) w.1
   same_zero (store place mode y) m n off (h, fits) = store_zero p.layout (handled p a x) (handled p a x) place mode y m n h
   same_zero (bytes_in offset count) m n off (h, fits) = ap (λ (k : Moment). k.by_zero) h.1
@@ -455,6 +459,8 @@ module _ (given : Given) (p : Program) (statement : ℕ) (a : Act) (x : Action) 
   pub keeps : (done rest : List Part) (y : Part) (s : Seen) (m n : Moment) → done ++ y ∷ rest ≡ parts_of p statement a x → Now done s m → PassesPart p.layout (handled p a x) y m n → (keeps_receiver a x ≡ true → FailsAt p.layout y m) → SeenNow (done ++ y ∷ []) (step p a x y s) n
   keeps done rest (read place) s m n e g h fails = read_keeps p statement a x done place s m n g h
   keeps done rest unread s m n e g h fails = absurd h.0
+  keeps done rest (subscript last k) s m n e g h fails = subscript_keeps p statement a x done last k s m n g h
+  keeps done rest (index last k count) s m n e g h fails = index_keeps p statement a x done last k count s m n g h
   keeps done rest (divide d) s m n e g h fails = divide_keeps done d s m (given.places_ p statement a x done rest (divide d) e) g n h
   keeps done rest (store place mode y) s m n e g h fails =
       store_keeps done place mode y (with_taken p a x s) m (taken_at p statement a x given done (store place mode y) s m refl (given.places_ p statement a x done rest (store place mode y) e) g)

@@ -13,7 +13,7 @@ use Rattle.cob_program.specs.Logic.{Test}
 use Rattle.cob_program.specs.Act.{Act, Program}
 use Rattle.cob_runs.specs.declared.action.Action.{Action}
 use Rattle.cob_runs.specs.Contents.{form_at}
-use Rattle.cob_edge_parts.specs.Parts.{Amount, Part, read, unread, divide, store, bytes_in, guard, read_count, set_count, count_down, guard_count}
+use Rattle.cob_edge_parts.specs.Parts.{Amount, Part, read, unread, subscript, index, divide, store, bytes_in, guard, read_count, set_count, count_down, guard_count}
 use Rattle.sum_ranges.specs.declared.ranged.Ranged.{Ranged}
 use Rattle.sum_ranges.specs.Ranged.{IsNarrower, IsBelow}
 use Rattle.sum_ranges.specs.SumRanges.{atom_range}
@@ -31,6 +31,8 @@ use Rattle.transfer_ranges.specs.declared.cuts.Cut.{Cut}
 use Rattle.transfer_ranges.specs.declared.cuts.Cuts.{Cuts}
 use Rattle.transfer_ranges.specs.Guards.{guarded}
 use Rattle.transfer_ranges.specs.Counts.{count_kept}
+use Rattle.transfer_ranges.specs.Kept.{met}
+use Rattle.cell_laws.proofs.Meetings.{table_cut, cut_rises}
 use Rattle.transfer_ranges.specs.Meaning.{CutFits, CutsFit, SideBelow, CutsBelow}
 use Rattle.interval_domain.specs.Known.{Known, KnownFits, KnownBelow}
 use Rattle.interval_domain.specs.Elements.{Element, CellsFit, ElementFits, CellsBelow, ElementBelow}
@@ -38,14 +40,17 @@ use Rattle.cob_graph.specs.declared.homes.Home.{Home}
 use Rattle.cob_graph.specs.declared.homes.Home.TheVariants.{Item as of_item, Count as of_count}
 use Rattle.cob_graph.specs.Homes.{homes_of}
 use Rattle.cell_steps.specs.OwnRanges.{home_range, form_range, picture_range, owns}
-use Rattle.cell_steps.specs.Cells.{units_of, is_numeric, with_known, forgotten, is_in_bytes, is_beside}
-use Rattle.cell_steps.specs.Operands.{operands_vanish, amount_of, may_divide_by_zero, is_remainder}
+use Rattle.cell_steps.specs.Storages.{known_of}
+use Rattle.cell_steps.specs.Cells.{is_table, units_of, is_numeric, with_known, forgotten, is_in_extent, bytes_from, is_beside}
+use Rattle.transfer_ranges.specs.EdgeOperands.{operands_vanish, amount_of, may_divide_by_zero, is_remainder}
 use Rattle.cell_steps.specs.Seen.{Seen, with_cells, with_zero}
-use Rattle.cell_steps.specs.Stores.{handled, keeps_receiver, range_at, taking, with_taken, amount_at, result_at, may_exceed, may_vanish, may_fail, may_fit, stored_known, stored_cells, stored_element, behind_store, stored}
-use Rattle.cell_steps.specs.Steps.{is_zero_alone, can_divide, known_as, read_cells, cut_cells, all_cut, guarded_cells, counted_cells, with_cells_if, after_read, after_divide, after_count, after_down, step}
+use Rattle.cell_steps.specs.Stores.{handled, keeps_receiver, range_at, taking, with_taken, amount_at, result_at, may_exceed, may_fail, may_fit, stored_known, receiver_known, stored_cells, stored_element, behind_store, stored}
+use Rattle.transfer_ranges.specs.Working.{may_vanish}
+use Rattle.cell_steps.specs.Steps.{is_zero_alone, can_divide, table, known_as, read_cells, cut_cells, all_cut, guarded_cells, counted_cells, indexed_cells, with_cells_if, may_not_come, shows_nothing, after_read, after_subscript, after_index, after_divide, after_count, after_down, step}
 use Rattle.cell_steps.specs.Order.{SeenBelow}
 use Rattle.cell_laws.proofs.ResultLaws.{Given}
-use Rattle.cell_laws.proofs.CellLists.{cells_transitive, with_known_fits, forgotten_fits, with_known_below, forgotten_below, with_known_length, forgotten_length, read_below, HasLength, stored_below, stored_fits}
+use Rattle.interval_domain.proofs.OneKnown.{known_join_fits}
+use Rattle.cell_laws.proofs.CellLists.{both_chosen, known_fits, known_below, known_joined_below, cells_transitive, with_known_fits, forgotten_fits, with_known_below, forgotten_below, with_known_length, forgotten_length, read_below, HasLength, stored_below, stored_fits}
 use Rattle.cell_laws.proofs.ItemRanges.{units_fit, units_below, range_ordered, range_below, knows_more}
 use Rattle.cell_laws.proofs.OperandsRise.{or_left, or_right, or_either, or_rises, and_rises, untaken_operands, operands_vanish_rises, edge_operands_below, AmountBelowIf, amount_below, divisor_zero_rises}
 use Rattle.cell_laws.proofs.ResultsFit.{result_fits, count_fits}
@@ -59,19 +64,26 @@ BelowIf p a x (Some s) (Some t) = SeenBelow p a x s t
 
 -- ---- stored numbers
 
-pub stored_known_fits : (f : Form) (own i : Interval) → KnownFits own (Some i) → KnownFits own (stored_known f i)
-stored_known_fits form.Group own i k = tt
-stored_known_fits (form.Text n) own i k = tt
-stored_known_fits (form.Number digits scale signed kept) own i k = k
-stored_known_fits (form.Edited picture digits scale) own i k = tt
+pub stored_known_fits : (table : Bool) (f : Form) (own : Interval) (old : Known) (i : Interval) → KnownFits own old → KnownFits own (Some i) → KnownFits own (stored_known table f old i)
+stored_known_fits table form.Group own old i k n = tt
+stored_known_fits table (form.Text m) own old i k n = tt
+stored_known_fits false (form.Number digits scale signed kept) own old i k n = n
+stored_known_fits true (form.Number digits scale signed kept) own old i k n = known_join_fits own old (Some i) k n
+stored_known_fits table (form.Edited picture digits scale) own old i k n = tt
 
-stored_known_below : (f : Form) (i j : Interval) → IsInside i j → KnownBelow (stored_known f i) (stored_known f j)
-stored_known_below form.Group i j n = tt
-stored_known_below (form.Text m) i j n = tt
-stored_known_below (form.Number digits scale signed kept) i j n = n
-stored_known_below (form.Edited picture digits scale) i j n = tt
+stored_known_below : (table : Bool) (f : Form) (c d : Known) (i j : Interval) → KnownBelow c d → IsInside i j → KnownBelow (stored_known table f c i) (stored_known table f d j)
+stored_known_below table form.Group c d i j k n = tt
+stored_known_below table (form.Text m) c d i j k n = tt
+stored_known_below false (form.Number digits scale signed kept) c d i j k n = n
+stored_known_below true (form.Number digits scale signed kept) c d i j k n = known_joined_below c (Some i) d (Some j) k n
+stored_known_below table (form.Edited picture digits scale) c d i j k n = tt
 
 -- ---- one home
+
+cut_part : (own i j : Interval) → KnownFits own (Some i) → IsInside j i → j.low ≤ℤ j.high → KnownFits own (Some j)
+cut_part own i j k inside ordered =
+    let l = k.0 in let m = k.2 in let n = inside.0 in let q = inside.1 in
+    (omega (arith, ints, l, n), ordered, omega (arith, ints, m, q))
 
 module _ (p : Program) where
   -- some cells, all of their own ranges, below others
@@ -105,6 +117,19 @@ module _ (p : Program) where
       known_as_below h as_ bs (units_of p.layout (homes_of p) as_ h) (units_of p.layout (homes_of p) bs h) f
       (units_fit p.layout (homes_of p) as_ h f.fits) (w.low, w.high)
 
+  -- a home is cut below, and not above
+  pub cut_alone_below : (h : Home) (as_ bs : List Known) (i : Interval) → FitBelow as_ bs → IsInside i (units_of p.layout (homes_of p) as_ h) → i.low ≤ℤ i.high → FitBelow (known_as p h as_ i) bs
+  cut_alone_below h as_ bs i f inside ordered =
+      let w = units_below p.layout (homes_of p) as_ bs h f.fits f.below in
+      let fits = cut_part (home_range p.layout h) (units_of p.layout (homes_of p) as_ h) i (units_fit p.layout (homes_of p) as_ h f.fits) inside ordered in
+      let low = inside.0 in
+      let high = inside.1 in
+      let cut = known_as_below h as_ bs i (units_of p.layout (homes_of p) bs h) f fits (let l = w.low in omega (arith, ints, l, low), let m = w.high in omega (arith, ints, m, high)) in
+      record {
+        fits = cut.fits;
+        below = cells_transitive (known_as p h as_ i) (read_cells p h bs) bs cut.below (read_below (home_range p.layout h) (homes_of p) bs h);
+      }
+
   -- what is read below, and not above
   pub read_alone_below : (h : Home) (as_ bs : List Known) → FitBelow as_ bs → FitBelow (read_cells p h as_) bs
   read_alone_below h as_ bs f = record {
@@ -118,6 +143,16 @@ module _ (p : Program) where
     below = forgotten_below gone (homes_of p) as_ bs f.below;
   }
 
+  -- behind a store into one of an item's occurrences
+  pub stored_cells_below : (place : ℕ) (as_ bs : List Known) (i j : Interval) → FitBelow as_ bs → KnownFits (form_range (form_at p.layout place)) (Some i) → IsInside i j → FitBelow (stored_cells p place as_ i) (stored_cells p place bs j)
+  stored_cells_below place as_ bs i j f k n =
+      let gone = is_beside p.layout place in
+      let table = is_table p.layout place in
+      let form = form_at p.layout place in
+      set_below (of_item place) (forgotten gone (homes_of p) as_) (forgotten gone (homes_of p) bs) (receiver_known p place as_ i) (receiver_known p place bs j) (forgotten_fit_below gone as_ bs f)
+      (stored_known_fits table form (form_range form) (known_of (homes_of p) as_ (of_item place)) i (known_fits p.layout (homes_of p) as_ (of_item place) f.fits) k)
+      (stored_known_below table form (known_of (homes_of p) as_ (of_item place)) (known_of (homes_of p) bs (of_item place)) i j (known_below (homes_of p) as_ bs (of_item place) f.below) n)
+
   -- ---- tests
 
   cut_fits : (cs : List Known) (range : ℕ → Ranged) (c : Cut) → (k : KnownFits (home_range p.layout (of_item c.item)) (Some (range c.item).units)) → CutFits range c → KnownFits (home_range p.layout (of_item c.item)) (Some c.units)
@@ -130,8 +165,9 @@ module _ (p : Program) where
   cut_below as_ bs range None (Some d) k f c n = absurd n
   cut_below as_ bs range (Some e) None k f c n = absurd n
   cut_below as_ bs range (Some e) (Some d) k f c n =
-      subst (λ (place : ℕ). FitBelow (known_as p (of_item e.item) as_ e.units) (known_as p (of_item place) bs d.units)) n.same
-      (known_as_below (of_item e.item) as_ bs e.units d.units f (cut_fits as_ range e (k e.item) c) (n.low, n.high))
+      subst (λ (place : ℕ). FitBelow (cut_cells p as_ (Some e)) (if is_table p.layout place then bs else known_as p (of_item place) bs d.units)) n.same
+      (both_chosen (λ cs ds. FitBelow cs ds) (is_table p.layout e.item) as_ (known_as p (of_item e.item) as_ e.units) bs (known_as p (of_item e.item) bs d.units)
+      f (known_as_below (of_item e.item) as_ bs e.units d.units f (cut_fits as_ range e (k e.item) c) (n.low, n.high)))
 
   all_cut_below : (as_ bs : List Known) (range : ℕ → Ranged) (o q : Option Cuts) → ((place : ℕ) → KnownFits (home_range p.layout (of_item place)) (Some (range place).units)) → FitBelow as_ bs → IfSome o (CutsFit range) → CutsBelow o q
       → FitBelowIf (option_map (all_cut p as_) o) (option_map (all_cut p bs) q)
@@ -152,9 +188,7 @@ module _ (p : Program) where
 
   count_part : (own i : Interval) (o : Option Interval) → KnownFits own (Some i) → IfSome o (λ j. IsInside j i × (j.low ≤ℤ j.high)) → IfSome o (λ j. KnownFits own (Some j))
   count_part own i None k h = tt
-  count_part own i (Some j) k h =
-      let l = k.0 in let m = k.2 in let n = h.0.0 in let q = h.0.1 in
-      (omega (arith, ints, l, n), h.1, omega (arith, ints, m, q))
+  count_part own i (Some j) k h = cut_part own i j k h.0 h.1
 
   pub counted_below : Given → (n : ℕ) (wanted : Bool) (as_ bs : List Known) → FitBelow as_ bs → FitBelowIf (counted_cells p n wanted as_) (counted_cells p n wanted bs)
   counted_below given n wanted as_ bs f =
@@ -164,6 +198,15 @@ module _ (p : Program) where
       known_if_below (of_count n) as_ bs (count_kept wanted i) (count_kept wanted j) f
       (count_part (home_range p.layout (of_count n)) i (count_kept wanted i) (units_fit p.layout (homes_of p) as_ (of_count n) f.fits) (given.counts_fit_ wanted i))
       (given.counts_ wanted i j (w.low, w.high))
+
+  pub indexed_below : (k count : ℕ) (as_ bs : List Known) → FitBelow as_ bs → FitBelowIf (indexed_cells p k count as_) (indexed_cells p k count bs)
+  indexed_below k count as_ bs f =
+      let i = units_of p.layout (homes_of p) as_ (of_item k) in
+      let j = units_of p.layout (homes_of p) bs (of_item k) in
+      let w = units_below p.layout (homes_of p) as_ bs (of_item k) f.fits f.below in
+      known_if_below (of_item k) as_ bs (met i (table count)) (met j (table count)) f
+      (count_part (home_range p.layout (of_item k)) i (met i (table count)) (units_fit p.layout (homes_of p) as_ (of_item k) f.fits) (table_cut i (table count)))
+      (cut_rises i j (table count) (w.low, w.high))
 
 -- ---- divisors
 
@@ -216,14 +259,48 @@ module _ (given : Given) (p : Program) (a : Act) (x : Action) where
   cells_if_below s t (Some as_) None h f = f
   cells_if_below s t (Some as_) (Some bs) h f = cells_below s t as_ bs h f
 
-  read_rises : (place : ℕ) (s t : Seen) → Below s t → Below (after_read p place s) (after_read p place t)
-  read_rises place s t h = go s.may_zero t.may_zero h.zero
+  -- It is read where its turn surely comes.
+  read_if_rises : (u v : Bool) → (u ≡ true → v ≡ true) → (place : ℕ) (s t : Seen) → Below s t
+      → Below (if u then s else with_cells s (read_cells p (of_item place) s.cells)) (if v then t else with_cells t (read_cells p (of_item place) t.cells))
+  read_if_rises u v uv place s t h = go u v uv
     where
       go : (u v : Bool) → (u ≡ true → v ≡ true) → Below (if u then s else with_cells s (read_cells p (of_item place) s.cells)) (if v then t else with_cells t (read_cells p (of_item place) t.cells))
       go true true uv = h
       go true false uv = absurd (grind (arith, uv refl))
       go false true uv = cells_below s t (read_cells p (of_item place) s.cells) t.cells h (read_alone_below p (of_item place) s.cells t.cells (fit_below s t h))
       go false false uv = cells_below s t (read_cells p (of_item place) s.cells) (read_cells p (of_item place) t.cells) h (read_cells_below p (of_item place) s.cells t.cells (fit_below s t h))
+
+  read_rises : (place : ℕ) (s t : Seen) → Below s t → Below (after_read p place s) (after_read p place t)
+  read_rises place s t h =
+      read_if_rises (s.may_zero || is_table p.layout place) (t.may_zero || is_table p.layout place)
+      (or_rises s.may_zero (is_table p.layout place) t.may_zero (is_table p.layout place) h.zero (λ e. e)) place s t h
+
+  -- ---- subscripts
+
+  -- where less has happened a turn shows more
+  shows_falls : (last : Bool) (k : ℕ) (s t : Seen) → Below s t → shows_nothing p last k s ≡ true → shows_nothing p last k t ≡ true
+  shows_falls last k s t h =
+      or_rises (may_not_come last s) (is_table p.layout k) (may_not_come last t) (is_table p.layout k)
+      (or_rises s.may_zero (last && s.any_fail) t.may_zero (last && t.any_fail) h.zero (and_rises last s.any_fail t.any_fail (λ e. h.fails))) (λ e. e)
+
+  subscript_rises : (last : Bool) (k : ℕ) (s t : Seen) → Below s t → Below (after_subscript p last k s) (after_subscript p last k t)
+  subscript_rises last k s t h = read_if_rises (shows_nothing p last k s) (shows_nothing p last k t) (shows_falls last k s t h) k s t h
+
+  index_rises : (last : Bool) (k count : ℕ) (s t : Seen) → Below s t → BelowIf p a x (after_index p last k count s) (after_index p last k count t)
+  index_rises last k count s t h = go (shows_nothing p last k s) (shows_nothing p last k t) (shows_falls last k s t h)
+    where
+      here : Interval
+      here = units_of p.layout (homes_of p) s.cells (of_item k)
+
+      alone : (o : Option Interval) → IfSome o (λ i. IsInside i here × (i.low ≤ℤ i.high)) → BelowIf p a x (with_cells_if s (option_map (known_as p (of_item k) s.cells) o)) (Some t)
+      alone None f = tt
+      alone (Some i) f = cells_below s t (known_as p (of_item k) s.cells i) t.cells h (cut_alone_below p (of_item k) s.cells t.cells i (fit_below s t h) f.0 f.1)
+
+      go : (u v : Bool) → (u ≡ true → v ≡ true) → BelowIf p a x (if u then Some s else with_cells_if s (indexed_cells p k count s.cells)) (if v then Some t else with_cells_if t (indexed_cells p k count t.cells))
+      go true true uv = h
+      go true false uv = absurd (grind (arith, uv refl))
+      go false true uv = alone (met here (table count)) (table_cut here (table count))
+      go false false uv = cells_if_below s t (indexed_cells p k count s.cells) (indexed_cells p k count t.cells) h (indexed_below p k count s.cells t.cells (fit_below s t h))
 
   ranges : (s t : Seen) → Below s t → (place : ℕ) → IsNarrower (range_at p s.cells place) (range_at p t.cells place)
   ranges s t h = range_below p.layout (homes_of p) s.cells t.cells h.fits h.cells
@@ -320,8 +397,7 @@ module _ (given : Given) (p : Program) (a : Act) (x : Action) where
 
     stored_fit_below : (i j : Interval) → KnownFits (form_range its_form) (Some i) → IsInside i j → FitBelow p (stored_cells p place s.cells i) (stored_cells p place t.cells j)
     stored_fit_below i j k n =
-        set_below p (of_item place) (forgotten (is_beside p.layout place) (homes_of p) s.cells) (forgotten (is_beside p.layout place) (homes_of p) t.cells) (stored_known its_form i) (stored_known its_form j)
-        (forgotten_fit_below p (is_beside p.layout place) s.cells t.cells (fit_below s t h.below)) (stored_known_fits its_form (form_range its_form) i k) (stored_known_below its_form i j n)
+        stored_cells_below p place s.cells t.cells i j (fit_below s t h.below) k n
 
     stored_if : (o q : Option Interval) → IfSome o (λ i. KnownFits (form_range its_form) (Some i)) → IsInsideIfAny o q
         → FitBelowIf p (option_map (stored_cells p place s.cells) o) (option_map (stored_cells p place t.cells) q)
@@ -349,7 +425,7 @@ module _ (given : Given) (p : Program) (a : Act) (x : Action) where
 
     lengths : (q : Option Interval) → HasLength (length t.cells) (option_map (stored_cells p place t.cells) q)
     lengths None = tt
-    lengths (Some j) = sym (with_known_length (homes_of p) (forgotten (is_beside p.layout place) (homes_of p) t.cells) (of_item place) (stored_known its_form j) ∙ forgotten_length (is_beside p.layout place) (homes_of p) t.cells)
+    lengths (Some j) = sym (with_known_length (homes_of p) (forgotten (is_beside p.layout place) (homes_of p) t.cells) (of_item place) (receiver_known p place t.cells j) ∙ forgotten_length (is_beside p.layout place) (homes_of p) t.cells)
 
     -- ---- whether it may fail
 
@@ -490,12 +566,14 @@ module _ (given : Given) (p : Program) (a : Act) (x : Action) where
   pub rises : (y : Part) (s t : Seen) → SeenBelow p a x s t → BelowIf p a x (step p a x y s) (step p a x y t)
   rises (read place) s t h = read_rises place s t h
   rises unread s t h = tt
+  rises (subscript last k) s t h = subscript_rises last k s t h
+  rises (index last k count) s t h = index_rises last k count s t h
   rises (divide d) s t h = divide_rises d s t h
   rises (store place mode y) s t h = store_rises (with_taken p a x s) (with_taken p a x t) (taken_rises s t h) place mode y
   rises (bytes_in offset count) s t h =
       let k = (taken_rises s t h).below in
-      cells_below (with_taken p a x s) (with_taken p a x t) (forgotten (is_in_bytes p.layout offset count) (homes_of p) (with_taken p a x s).cells) (forgotten (is_in_bytes p.layout offset count) (homes_of p) (with_taken p a x t).cells) k
-      (forgotten_fit_below p (is_in_bytes p.layout offset count) (with_taken p a x s).cells (with_taken p a x t).cells (fit_below (with_taken p a x s) (with_taken p a x t) k))
+      cells_below (with_taken p a x s) (with_taken p a x t) (forgotten (is_in_extent p.layout (bytes_from offset count)) (homes_of p) (with_taken p a x s).cells) (forgotten (is_in_extent p.layout (bytes_from offset count)) (homes_of p) (with_taken p a x t).cells) k
+      (forgotten_fit_below p (is_in_extent p.layout (bytes_from offset count)) (with_taken p a x s).cells (with_taken p a x t).cells (fit_below (with_taken p a x s) (with_taken p a x t) k))
   rises (guard v wanted) s t h = cells_if_below s t (guarded_cells p v wanted s.cells) (guarded_cells p v wanted t.cells) h (guarded_below p given v wanted s.cells t.cells (fit_below s t h))
   rises (read_count n) s t h = cells_below s t (read_cells p (of_count n) s.cells) (read_cells p (of_count n) t.cells) h (read_cells_below p (of_count n) s.cells t.cells (fit_below s t h))
   rises (set_count n y) s t h = set_count_rises n (with_taken p a x s) (with_taken p a x t) (taken_rises s t h)

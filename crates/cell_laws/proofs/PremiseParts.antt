@@ -22,7 +22,7 @@ use Rattle.cob_program.specs.declared.act.How.TheVariants as how
 use Rattle.cob_program.specs.declared.act.Target.{Target}
 use Rattle.cob_program.specs.Sum.{Sum, Atom}
 use Rattle.cob_program.specs.Values.{root_of}
-use Rattle.cob_program.specs.Bounds.{is_small_sum, is_small_atom, is_small_stored}
+use Rattle.cob_program.specs.Bounds.{is_small, is_small_sum, is_small_atom, is_small_stored}
 use Rattle.cob_program.specs.Logic.{Logic, Test, numbers, texts, member, numeric, always}
 use Rattle.cob_program.specs.Act.{once, times, until, varying, Act, move, arith as arith_, perform, Body, open_files, close_files, read as read_, write, Program}
 use Rattle.cob_runs.specs.declared.action.Action.{Action}
@@ -33,14 +33,15 @@ use Rattle.cob_runs.specs.Computing.{items_in}
 use Rattle.cob_runs.specs.Acts.{decl_at, file_from}
 use Rattle.cob_runs.specs.Effects.{tests_in_act}
 use Rattle.cob_store.specs.WellFormed.{IsWellFormedFile, HasWellFormedItems}
+use Rattle.cob_store.proofs.Parts.{first_within}
 use Rattle.data_laws.proofs.Items.{item_sound}
 use Rattle.cob_calc.specs.Contents.{bound_at}
 use Rattle.cob_calc.specs.Arithmetic.{is_small_result, are_small_results, is_small_rest, are_small_rests, take_numbers, is_sound_remainder, CanCompute}
 use Rattle.cob_calc.specs.Comparing.{CanTest}
 use Rattle.cob_world.specs.Needs.{IsNumber}
 use Rattle.cob_world.specs.Doing.{CanMoveTo, CanDoAct}
-use Rattle.cob_edge_parts.specs.Parts.{Amount, moved, computed, remaining, augmented, Part, read, unread, divide, store, bytes_in, guard, set_count, divisors_in, divisors_of, item_reads, number_reads, own_reads, divides, target_parts, targets_parts, augment_parts, compare_parts, remainder_parts, arith_parts, is_number_item, text_reads, gets_value, is_read_for, item_bytes, receiver_parts, receivers_parts, move_parts, end_reads, member_reads, test_reads, test_parts, status_parts, file_parts, file_call_parts, into_parts, assign_parts, compute_parts, condition_parts, count_parts, call_parts, read_parts, bad_parts, parts_of}
-use Rattle.cell_steps.specs.Operands.{edge_amount}
+use Rattle.cob_edge_parts.specs.Parts.{Amount, moved, computed, remaining, augmented, Part, read, unread, index, divide, store, bytes_in, guard, set_count, divisors_in, divisors_of, item_reads, number_reads, own_reads, divides, target_parts, targets_parts, augment_parts, compare_parts, remainder_parts, arith_parts, is_number_item, text_reads, gets_value, is_read_for, item_bytes, receiver_parts, receivers_parts, move_parts, end_reads, member_reads, test_reads, test_parts, status_parts, file_parts, file_call_parts, into_parts, assign_parts, compute_parts, condition_parts, count_parts, call_parts, read_parts, bad_parts, parts_of}
+use Rattle.transfer_ranges.specs.EdgeOperands.{edge_amount}
 use Rattle.cell_laws.proofs.PremiseDivisors.{AreSmall, together, in_sum, of_targets}
 use Rattle.cell_laws.proofs.PremiseTests.{tests_can}
 
@@ -70,6 +71,7 @@ module _ (l : Layout) where
   IsSourcePart a x (divide d) = is_small_atom (bound_at l) d ≡ true
   IsSourcePart a x (store place mode y) = (takes_number (form_at l place) ≡ true) × IsSourceAmount a x place y
   IsSourcePart a x (bytes_in offset count) = (offset + count ≤ l.storage) × (is_arithmetic a ≡ false)
+  IsSourcePart a x (index last k count) = is_small (bound_at l k) ≡ true
   IsSourcePart a x (guard t wanted) = CanTest l t
   IsSourcePart a x (set_count n y) = (edge_amount a x ≡ Some (moved y)) × IsNumber l y
   IsSourcePart a x _ = Unit {0}
@@ -230,7 +232,7 @@ module _ (l : Layout) (a : Act) (x : Action) where
 
     found_bytes : (place : ℕ) (o : Option Item) → item_at l place ≡ o → AreKept (option_map_or (λ i. bytes_in i.offset i.length ∷ []) o [])
     found_bytes place None at = tt
-    found_bytes place (Some i) at = (((item_sound l items place i at).within, plain), tt)
+    found_bytes place (Some i) at = ((first_within l i (item_sound l items place i at), plain), tt)
 
     bytes_put : (place : ℕ) → AreKept (item_bytes l place)
     bytes_put place = found_bytes place (item_at l place) refl
@@ -264,7 +266,7 @@ module _ (l : Layout) (a : Act) (x : Action) where
         AreKept (option_map_or (λ i. bytes_in i.offset 2 ∷ []) o [])
     two_bytes place None at two = tt
     two_bytes place (Some i) at two =
-        let whole = (item_sound l items place i at).within in
+        let whole = first_within l i (item_sound l items place i at) in
         let long : length_at l place ≡ i.length = ap (λ o. option_map_or (λ (j : Item). j.length) o 0) at in
         ((omega (arith, whole, long, two), plain), tt)
 

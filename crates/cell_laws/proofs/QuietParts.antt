@@ -1,5 +1,5 @@
 -- Parts that write nothing: what is seen stays true.
-use Rattle.std.proofs.Common.{◌≡◌, ℕ, Bool, true, false, inl, inr, List, [], ◌∷◌, ◌++◌, Option, Some, None, ℤ, refl, sym, ap, subst, ◌∙◌}
+use Rattle.std.proofs.Common.{◌≡◌, ℕ, Bool, true, false, ◌||◌, inl, inr, List, [], ◌∷◌, ◌++◌, Option, Some, None, ℤ, refl, sym, ap, subst, ◌∙◌}
 use Rattle.std.specs.Prelude.{IfSome, IsSomeAnd}
 use Rattle.std.specs.List.{Contains}
 use Rattle.std.specs.Option.{option_map}
@@ -29,15 +29,16 @@ use Rattle.interval_domain.specs.Known.{Known}
 use Rattle.cob_graph.specs.declared.homes.Home.{Home}
 use Rattle.cob_graph.specs.declared.homes.Home.TheVariants.{Item as of_item, Count as of_count}
 use Rattle.cob_graph.specs.Homes.{homes_of}
-use Rattle.cell_steps.specs.Storages.{storage, known_of, value_at, KnownStands, StandsIn}
-use Rattle.cell_steps.specs.Cells.{units_of, is_numeric}
+use Rattle.cell_steps.specs.Premises.{HasSoundItems}
+use Rattle.cell_steps.specs.Storages.{storage, known_of, value_at, KnownStands, HomeStands, StandsIn}
+use Rattle.cell_steps.specs.Cells.{is_table, units_of, is_numeric}
 use Rattle.cell_steps.specs.Seen.{Seen, with_cells}
 use Rattle.cell_steps.specs.Stores.{handled, range_at}
 use Rattle.cell_steps.specs.Steps.{known_as, read_cells, cut_cells, all_cut, guarded_cells, counted_cells, with_cells_if, after_read}
 use Rattle.cell_steps.specs.Agreeing.{IsTimesAt, OperandsHold, writes, is_store, Agrees, walking}
 use Rattle.cell_laws.proofs.CellLists.{chosen}
 use Rattle.cell_laws.proofs.WalkLaws.{Given}
-use Rattle.cell_laws.proofs.HomesHold.{home_set, units_hold, items_hold, count_holds}
+use Rattle.cell_laws.proofs.HomesHold.{home_set, some_times, each_of_one, units_hold, items_hold, count_holds}
 use Rattle.cell_laws.proofs.PartsDone.{any_front, any_last, passes_snoc}
 
 -- ---- moments
@@ -98,7 +99,7 @@ cells_on s cells = record { written = refl; common = refl; zero = λ e. e; fails
 module _ (p : Program) (statement : ℕ) (a : Act) (x : Action) where
   -- what is known of homes is true of a moment
   abbrev pub AllKnown : List Known → Moment → Type 0
-  AllKnown cells m = (h : Home) → KnownStands (known_of (homes_of p) cells h) (value_at p.layout (storage m.storage m.counts) h)
+  AllKnown cells m = (h : Home) → HomeStands p.layout (storage m.storage m.counts) (known_of (homes_of p) cells h) h
 
   same_stands : (cells : List Known) (m n : Moment) → SameMoment m n → StandsIn p cells (storage m.storage m.counts) → StandsIn p cells (storage n.storage n.counts)
   same_stands cells m n same h =
@@ -137,39 +138,48 @@ module _ (p : Program) (statement : ℕ) (a : Act) (x : Action) where
   -- ---- reads
 
   -- what is read is known
-  pub item_known : (cells : List Known) (m : Moment) (place : ℕ) (v : Scaled) (i : Interval) → AllKnown cells m → number_at p.layout m.storage place ≡ Some v → Holds i v.units → AllKnown (known_as p (of_item place) cells i) m
-  item_known cells m place v i known e h =
+  pub item_known : HasSoundItems p.layout → (cells : List Known) (m : Moment) (place : ℕ) (v : Scaled) (i : Interval) → is_table p.layout place ≡ false → AllKnown cells m
+      → number_at p.layout m.storage place ≡ Some v → Holds i v.units → AllKnown (known_as p (of_item place) cells i) m
+  item_known sound cells m place v i plain known e h =
       home_set p cells (storage m.storage m.counts) (of_item place) (Some i)
-      (λ there. subst (λ (w : Option ℤ). KnownStands (Some i) w)
-      (sym (value_of_number (scale_of (form_at p.layout place)) (contents_value (form_at p.layout place) (bytes_at p.layout m.storage place)) v e)) h)
+      (λ there. each_of_one p.layout sound place plain (λ n. KnownStands (Some i) (value_at p.layout (storage m.storage m.counts) (of_item place) n))
+      (subst (λ (w : Option ℤ). KnownStands (Some i) w)
+      (sym (value_of_number (scale_of (form_at p.layout place)) (contents_value (form_at p.layout place) (bytes_at p.layout m.storage place)) v e)) h))
       (λ g there d. known g)
 
-  read_known : (done : List Part) (place : ℕ) (s : Seen) (m n : Moment) → Agrees p statement a x done s m → ReadsAt p.layout false place m n → AllKnown (read_cells p (of_item place) s.cells) m
-  read_known done place s m n g (v, e, same) =
-      item_known s.cells m place v (units_of p.layout (homes_of p) s.cells (of_item place)) g.stands.known e
-      (units_hold p g.sound.items s.cells (storage m.storage m.counts) g.stands place v.units
+  read_known : (done : List Part) (place : ℕ) (s : Seen) (m n : Moment) → Agrees p statement a x done s m → is_table p.layout place ≡ false → ReadsAt p.layout false place m n → AllKnown (read_cells p (of_item place) s.cells) m
+  read_known done place s m n g plain (v, e, same) =
+      item_known g.sound.items s.cells m place v (units_of p.layout (homes_of p) s.cells (of_item place)) plain g.stands.known e
+      (units_hold p g.sound.items s.cells (storage m.storage m.counts) g.stands place 0 v.units (some_times p.layout g.sound.items place)
       (value_of_number (scale_of (form_at p.layout place)) (contents_value (form_at p.layout place) (bytes_at p.layout m.storage place)) v e))
 
   pub read_keeps : (done : List Part) (place : ℕ) (s : Seen) (m n : Moment) → Agrees p statement a x done s m → PassesPart p.layout (handled p a x) (read place) m n
       → Agrees p statement a x (done ++ read place ∷ []) (after_read p place s) n
   read_keeps done place s m n g h =
       let same = read_moment p.layout m.by_zero place m n h.0 in
-      chosen (λ (t : Seen). Agrees p statement a x (done ++ read place ∷ []) t n) s.may_zero s (with_cells s (read_cells p (of_item place) s.cells))
+      chosen (λ (t : Seen). Agrees p statement a x (done ++ read place ∷ []) t n) (s.may_zero || is_table p.layout place) s (with_cells s (read_cells p (of_item place) s.cells))
       (λ e. quiet done (read place) s s m n g h refl refl same (seen_on s) g.stands.known)
       (λ e. quiet done (read place) s (with_cells s (read_cells p (of_item place) s.cells)) m n g h refl refl same (cells_on s (read_cells p (of_item place) s.cells))
-      (read_known done place s m n g (subst (λ (b : Bool). ReadsAt p.layout b place m n) (not_zero e m.by_zero refl) h.0)))
+      (let neither = or_false s.may_zero (is_table p.layout place) e in
+      read_known done place s m n g neither.1 (subst (λ (b : Bool). ReadsAt p.layout b place m n) (not_zero neither.0 m.by_zero refl) h.0)))
     where
+      or_false : (b c : Bool) → (b || c) ≡ false → (b ≡ false) × (c ≡ false)
+      or_false true c f = absurd cc
+      or_false false c f = (refl, f)
+
       not_zero : s.may_zero ≡ false → (b : Bool) → m.by_zero ≡ b → m.by_zero ≡ false
       not_zero e true f = absurd (let one = g.zero f in cc)
       not_zero e false f = f
 
   -- ---- tests
 
-  cut_known : (cells : List Known) (m : Moment) (range : ℕ → Ranged) (o : Option Cut) → AllKnown cells m → IfSome o (CutHolds p.layout range m.storage) → AllKnown (cut_cells p cells o) m
-  cut_known cells m range None known h = known
-  cut_known cells m range (Some c) known h = item_known cells m c.item h.0 c.units known h.1 h.2.held
+  cut_known : HasSoundItems p.layout → (cells : List Known) (m : Moment) (range : ℕ → Ranged) (o : Option Cut) → AllKnown cells m → IfSome o (CutHolds p.layout range m.storage) → AllKnown (cut_cells p cells o) m
+  cut_known sound cells m range None known h = known
+  cut_known sound cells m range (Some c) known h =
+      chosen (λ (cs : List Known). AllKnown cs m) (is_table p.layout c.item) cells (known_as p (of_item c.item) cells c.units)
+      (λ e. known) (λ e. item_known sound cells m c.item h.0 c.units e known h.1 h.2.held)
 
-  seen_cells : (done : List Part) (y : Part) (s : Seen) (m n : Moment) (o : Option (List Known)) → Agrees p statement a x done s m → PassesPart p.layout (handled p a x) y m n
+  pub seen_cells : (done : List Part) (y : Part) (s : Seen) (m n : Moment) (o : Option (List Known)) → Agrees p statement a x done s m → PassesPart p.layout (handled p a x) y m n
       → writes y ≡ false → is_store y ≡ false → SameMoment m n → IsSomeAnd o (λ cells. AllKnown cells m)
       → IsSeen (walking p statement a x) (with_cells_if s o) (λ t. Agrees p statement a x (done ++ y ∷ []) t n)
   seen_cells done y s m n None g h q r same known = absurd known
@@ -184,7 +194,7 @@ module _ (p : Program) (statement : ℕ) (a : Act) (x : Action) where
     where
       cuts : (o : Option Cuts) → IsSomeAnd o (CutsHold p.layout (range_at p s.cells) m.storage) → IsSomeAnd (option_map (all_cut p s.cells) o) (λ cells. AllKnown cells m)
       cuts None k = absurd k
-      cuts (Some c) k = cut_known (cut_cells p s.cells c.left) m (range_at p s.cells) c.right (cut_known s.cells m (range_at p s.cells) c.left g.stands.known k.0) k.1
+      cuts (Some c) k = cut_known g.sound.items (cut_cells p s.cells c.left) m (range_at p s.cells) c.right (cut_known g.sound.items s.cells m (range_at p s.cells) c.left g.stands.known k.0) k.1
 
   -- ---- counters
 
@@ -199,7 +209,7 @@ module _ (p : Program) (statement : ℕ) (a : Act) (x : Action) where
   pub count_known : (cells : List Known) (m : Moment) (n : ℕ) (v : ℤ) (i : Interval) → AllKnown cells m → count_in m.counts n ≡ Some v → (Contains (homes_of p) (of_count n) → Holds i v) → AllKnown (known_as p (of_count n) cells i) m
   count_known cells m n v i known e h =
       home_set p cells (storage m.storage m.counts) (of_count n) (Some i)
-      (λ there. subst (λ (w : Option ℤ). KnownStands (Some i) w) (sym e) (h there))
+      (λ there k less. subst (λ (w : Option ℤ). KnownStands (Some i) w) (sym e) (h there))
       (λ g there d. known g)
 
   pub read_count_keeps : (done : List Part) (k : ℕ) (s : Seen) (m n : Moment) → Agrees p statement a x done s m → PassesPart p.layout (handled p a x) (read_count k) m n

@@ -11,7 +11,7 @@ use Rattle.sum_ranges.specs.Ranged.{ranged, point}
 use Rattle.sum_ranges.specs.SumRanges.{turned, plus_range, quotient_range, factor_range, sum_range, product_range_from, atom_range}
 use Rattle.transfer_ranges.specs.Amounts.{taken}
 use Rattle.transfer_ranges.specs.Operands.{alone, taken_from, taken_sum}
-use Rattle.cell_steps.specs.Operands.{settled}
+use Rattle.transfer_ranges.specs.EdgeOperands.{settled}
 
 -- ---- 0 and a range
 

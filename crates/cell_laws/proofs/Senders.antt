@@ -29,8 +29,8 @@ use Rattle.transfer_ranges.specs.Stores.{sender_range}
 use Rattle.transfer_ranges.specs.Sizes.{IsSmallAmount}
 use Rattle.transfer_ranges.proofs.Bounding.{small_sum}
 use Rattle.transfer_ranges.specs.Small.{is_short}
-use Rattle.edge_amounts.specs.Small.{is_small_sender}
-use Rattle.edge_amounts.specs.Working.{CanWork, amount_from}
+use Rattle.transfer_ranges.specs.SmallAmounts.{is_small_sender}
+use Rattle.transfer_ranges.specs.Working.{CanWork, amount_from}
 use Rattle.cell_laws.proofs.Short.{digits_are_short, short_is_small, short_sum, end_short}
 
 module _ (bound : ℕ → Bound) (items : ℕ → Ranged) (bounded : AreBounded items bound) where

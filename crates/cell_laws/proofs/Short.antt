@@ -25,7 +25,7 @@ use Rattle.data_laws.proofs.Items.{item_sound}
 use Rattle.transfer_ranges.specs.Receivers.{receiver_of}
 use Rattle.transfer_ranges.specs.Sizes.{IsReceiver}
 use Rattle.transfer_ranges.specs.Small.{is_short, end_bound}
-use Rattle.edge_amounts.specs.Small.{is_small_sender}
+use Rattle.transfer_ranges.specs.SmallAmounts.{is_small_sender}
 
 -- ---- bounds of 18 digits
 

@@ -13,13 +13,13 @@ use Rattle.cob_runs.specs.Moves.{takes_number}
 use Rattle.cob_store.specs.WellFormed.{HasWellFormedItems}
 use Rattle.cob_calc.specs.Contents.{bound_at}
 use Rattle.cob_calc.proofs.Bounded.{receiver_is_small}
-use Rattle.cob_edge_parts.specs.Parts.{Amount, moved, computed, remaining, augmented, Part, divide, store, bytes_in, guard, set_count, parts_of}
+use Rattle.cob_edge_parts.specs.Parts.{Amount, moved, computed, remaining, augmented, Part, index, divide, store, bytes_in, guard, set_count, parts_of}
 use Rattle.sum_ranges.specs.declared.ranged.Ranged.{Ranged}
 use Rattle.transfer_ranges.specs.Stores.{operands, sender_range}
 use Rattle.transfer_ranges.specs.Sizes.{IsSmallAmount}
-use Rattle.cell_steps.specs.Operands.{edge_amount}
-use Rattle.edge_amounts.specs.Small.{has_small_sum}
-use Rattle.edge_amounts.specs.Working.{CanWork, amount_from}
+use Rattle.transfer_ranges.specs.EdgeOperands.{edge_amount}
+use Rattle.transfer_ranges.specs.SmallAmounts.{has_small_sum}
+use Rattle.transfer_ranges.specs.Working.{CanWork, amount_from}
 use Rattle.cell_laws.proofs.Doing.{can_do_at}
 use Rattle.cell_laws.proofs.PremiseDivisors.{result_is_stored}
 use Rattle.cell_laws.proofs.PremiseParts.{is_arithmetic, IsSourceAmount, IsSourcePart, every, parts_are_kept}
@@ -121,6 +121,7 @@ module _ (p : Program) (sound : HasWellFormedItems p.layout) (a : Act) (x : Acti
   part_small (store place mode y) kept = store_small place kept.0 y kept.1
   part_small (bytes_in offset count) kept = plain_sum a kept.1
   part_small (set_count n y) kept = (moved_sum a y kept.0, sent (moved y) kept.0 (number_small p.layout sound y kept.1))
+  part_small (index last k count) kept = kept
   part_small (guard t wanted) kept = test_small p.layout sound t kept
   part_small y kept = tt
 

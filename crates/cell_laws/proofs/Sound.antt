@@ -1,7 +1,7 @@
 -- What an analysis of cells needs of a layout.
-use Rattle.std.proofs.Common.{◌≡◌, ℕ, ◌+◌, ◌^◌, ◌<◌, Bool, true, false, if◌then◌else◌, Option, Some, None, ℤ, pos, negsuc, unsigned_abs, refl, ap, ◌∙◌, subst, arith}
+use Rattle.std.proofs.Common.{◌≡◌, ◌==◌, not, ℕ, ◌+◌, ◌^◌, ◌<◌, Bool, true, false, if◌then◌else◌, Option, Some, None, ℤ, pos, negsuc, unsigned_abs, refl, ap, ◌∙◌, subst, arith}
 use Rattle.std.specs.Option.{option_map_or}
-use Rattle.std.proofs.lemmas.Bool.{ltb-true}
+use Rattle.std.proofs.lemmas.Bool.{eqb-true, ltb-true}
 use Rattle.std.proofs.lemmas.Int.{ints}
 use Rattle.cob_tree.specs.declared.form.Form.{Form}
 use Rattle.cob_tree.specs.declared.form.Form.TheVariants.{Group, Text, Number, Edited}
@@ -33,6 +33,17 @@ in_form (Text n) z own = in_picture n false z own
 in_form (Number digits scale signed usage) z own = in_picture digits signed z own
 in_form (Edited picture digits scale) z own = absurd own
 
+-- ---- occurrences
+
+one_at : (l : Layout) → HasWellFormedItems l → (place : ℕ) (o : Option Item) → item_at l place ≡ o →
+    option_map_or (λ i. not (i.stride == 0)) o false ≡ false → option_map_or (λ i. i.times) o 1 ≡ 1
+one_at l sound place None at plain = refl
+one_at l sound place (Some i) at plain = (item_sound l sound place i at).one (go (i.stride == 0) refl plain)
+  where
+    go : (b : Bool) → (i.stride == 0) ≡ b → not b ≡ false → i.stride ≡ 0
+    go true e f = eqb-true i.stride 0 e
+    go false e f = absurd (cc)
+
 -- ---- numbers that are stored
 
 back_at : (l : Layout) → HasWellFormedItems l → (place digits scale : ℕ) (signed : Bool) (usage : Usage) (z : ℤ) (o : Option Item) → item_at l place ≡ o →
@@ -47,7 +58,9 @@ back_at l sound place digits scale signed usage z (Some i) at is small =
 pub items_are_sound : ItemsAreSound
 items_are_sound l sound signs = record {
   within = λ place i at. (item_sound l sound place i at).within;
-  own = λ place bytes z whole is. in_form (form_at l place) z (own_at l sound signs bytes whole place z is);
+  extent = λ place i at. (item_sound l sound place i at).extent;
+  one = λ place plain. one_at l sound place (item_at l place) refl plain;
+  own = λ place n bytes z whole less is. in_form (form_at l place) z (own_at l sound signs bytes whole place n z less is);
   whole = λ place i z at takes small. length-bytes_of i.form i.length z (item_sound l sound place i at).form takes;
   back = λ place digits scale signed usage z is small. back_at l sound place digits scale signed usage z (item_at l place) refl is small;
 }

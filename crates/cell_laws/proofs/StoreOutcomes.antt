@@ -23,9 +23,10 @@ use Rattle.transfer_ranges.specs.Stores.{operands}
 use Rattle.transfer_ranges.specs.ResultRanges as result
 use Rattle.transfer_ranges.specs.ResultRanges.{result_range}
 use Rattle.cell_laws.specs.Places.{IsStored}
-use Rattle.cell_steps.specs.Operands.{amount_of, is_remainder}
+use Rattle.transfer_ranges.specs.EdgeOperands.{amount_of, is_remainder}
 use Rattle.cell_steps.specs.Seen.{Seen}
-use Rattle.cell_steps.specs.Stores.{has_one_receiver, may_vanish, range_at, handled, keeps_receiver, amount_at, result_at, may_exceed, may_fail}
+use Rattle.cell_steps.specs.Stores.{has_one_receiver, range_at, handled, keeps_receiver, amount_at, result_at, may_exceed, may_fail}
+use Rattle.transfer_ranges.specs.Working.{may_vanish}
 use Rattle.cell_steps.specs.Agreeing.{of_operands, FailsAt}
 use Rattle.cell_laws.proofs.OperandsRise.{or_left, or_right}
 use Rattle.cell_laws.proofs.WalkLaws.{Given}

@@ -3,6 +3,7 @@ use Rattle.std.proofs.Common.{◌≡◌, ◌<◌, ◌≤◌, ℕ, ◌+◌, Bool,
 use Rattle.std.specs.Prelude.{IsSomeAnd, neg_ℤ, ◌-◌, ◌^◌, unsigned_abs}
 use Rattle.std.specs.List.{list_all, list_any}
 use Rattle.std.specs.Option.{option_map, option_map_or}
+use Rattle.std.proofs.lemmas.Bool.{cases_eq}
 use Rattle.std.proofs.lemmas.Int.{ints}
 use Rattle.dec_num.specs.Exact.{Fraction}
 use Rattle.dec_num.specs.Scaled.{value_of}
@@ -14,6 +15,8 @@ use Rattle.cob_data.specs.declared.layout.Layout.{Layout}
 use Rattle.cob_data.specs.declared.layout.Item.{Item}
 use Rattle.cob_data.specs.declared.layout.Sender.{Sender}
 use Rattle.cob_data.specs.declared.layout.Sender.TheVariants as sender
+use Rattle.cob_data.specs.Extents.{IsExtent, LiesWithin}
+use Rattle.cob_data.specs.Occurrences.{extent_of}
 use Rattle.interval_domain.specs.declared.bounds.Interval.{Interval}
 use Rattle.interval_domain.specs.Bounds.{Holds}
 use Rattle.num_bytes.specs.Reading.{contents_value}
@@ -25,10 +28,10 @@ use Rattle.cob_program.specs.Values.{root_of, ◌>>=◌}
 use Rattle.cob_program.specs.Act.{once, times, until, varying, Stmts, Phrase, Act, move, arith as arithmetic, if_, evaluate, perform, go as go_to, nothing, stop, open_files, close_files, read as reading, write, show, Program}
 use Rattle.cob_runs.specs.declared.action.Action.{Action}
 use Rattle.cob_runs.specs.declared.action.Action.TheVariants as action
-use Rattle.cob_runs.specs.Contents.{form_at, item_at, bytes_of, digits_of, number_in, number_at, filled_at}
+use Rattle.cob_runs.specs.Contents.{form_at, item_at, times_at, bytes_of, digits_of, number_in, number_at, occurrence_filled}
 use Rattle.cob_runs.specs.Moves.{takes_number, number_of}
 use Rattle.cob_runs.specs.Computing.{items_in, are_numeric, worth}
-use Rattle.cob_edge_parts.specs.Parts.{Amount, moved, computed, remaining, augmented, Part, read, unread, divide, store, bytes_in, guard, read_count, set_count, count_down, guard_count, divides, number_reads, divisors_of}
+use Rattle.cob_edge_parts.specs.Parts.{Amount, moved, computed, remaining, augmented, Part, read, unread, subscript, index, divide, store, bytes_in, guard, read_count, set_count, count_down, guard_count, divides, number_reads, divisors_of}
 use Rattle.cob_edge_parts.specs.Meaning as run
 use Rattle.cob_edge_parts.specs.Meaning.{Moment, with_own, divides_by, amount, ReadsAt}
 use Rattle.sum_ranges.specs.Ranged.{decimal, IsIn}
@@ -36,22 +39,24 @@ use Rattle.transfer_ranges.specs.declared.amounts.Taken.{Taken}
 use Rattle.transfer_ranges.specs.Amounts.{IsAmount}
 use Rattle.cob_edge_parts.specs.Counters.{PassesPart, PassesParts}
 use Rattle.cell_laws.specs.Places.{IsBehindOperands, EndsWithRead, IsComputed, IsBehindSender, Moves, Augments, Counts, IsStored, IsInPlace}
-use Rattle.interval_domain.specs.Known.{Known, KnownFits}
+use Rattle.dom_laws.specs.Meaning.{Storage}
+use Rattle.interval_domain.specs.Known.{Known, KnownFits, joined_known}
+use Rattle.interval_domain.proofs.OneKnown.{known_join_left, known_join_right}
 use Rattle.cob_graph.specs.declared.homes.Home.{Home}
 use Rattle.cob_graph.specs.declared.homes.Home.TheVariants.{Item as of_item}
 use Rattle.cob_graph.specs.Homes.{homes_of}
 use Rattle.cell_steps.specs.OwnRanges.{picture_range, form_range}
 use Rattle.cell_steps.specs.Premises.{HasSoundItems}
-use Rattle.cell_steps.specs.Storages.{storage, known_of, value_at, KnownStands, StandsIn}
-use Rattle.cell_steps.specs.Cells.{forgotten, is_beside}
-use Rattle.cell_steps.specs.Operands.{edge_amount, edge_operands, amount_of, operands_vanish}
+use Rattle.cell_steps.specs.Storages.{storage, known_of, occurrences_of, value_at, KnownStands, HomeStands, StandsIn}
+use Rattle.cell_steps.specs.Cells.{is_table, forgotten, is_beside}
+use Rattle.transfer_ranges.specs.EdgeOperands.{edge_amount, edge_operands, amount_of, operands_vanish}
 use Rattle.cell_steps.specs.Seen.{Seen}
-use Rattle.cell_steps.specs.Stores.{stored_known, stored_cells, range_at, handled, taking, with_taken, amount_at}
+use Rattle.cell_steps.specs.Stores.{stored_known, receiver_known, stored_cells, range_at, handled, taking, with_taken, amount_at}
 use Rattle.cell_steps.specs.Agreeing.{IsSoundEdge, OperandsHold, of_operands, writes, is_store, Agrees}
 use Rattle.cell_laws.proofs.OperandsRise.{or_left}
 use Rattle.cell_laws.proofs.WalkLaws.{Given}
-use Rattle.cell_laws.proofs.HomesStand.{known_left}
-use Rattle.cell_laws.proofs.Frames.{filled_length, others_stay, held_value}
+use Rattle.cell_laws.proofs.HomesStand.{known_left, stands_above}
+use Rattle.cell_laws.proofs.Frames.{filled_length, others_stay, siblings_stay, held_value}
 use Rattle.cell_laws.proofs.HomesHold.{home_set, number_holds, range_is_ordered}
 use Rattle.cell_laws.proofs.PartsDone.{passes_snoc, read_first, divisors_count}
 
@@ -110,6 +115,8 @@ module _ (p : Program) (statement : ℕ) (a : Act) (x : Action) where
   numeric_operands done first counts m (set_count n y) w q passed s ts r size fine e = absurd (subst (λ (b : Act). Counts b x y) e q.1)
   numeric_operands done first counts m (read place) w q passed s ts r size fine e = absurd cc
   numeric_operands done first counts m unread w q passed s ts r size fine e = absurd cc
+  numeric_operands done first counts m (subscript last k) w q passed s ts r size fine e = absurd cc
+  numeric_operands done first counts m (index last k count) w q passed s ts r size fine e = absurd cc
   numeric_operands done first counts m (divide d) w q passed s ts r size fine e = absurd cc
   numeric_operands done first counts m (guard v wanted) w q passed s ts r size fine e = absurd cc
   numeric_operands done first counts m (read_count n) w q passed s ts r size fine e = absurd cc
@@ -361,28 +368,33 @@ back_holds : (digits : ℕ) (signed : Bool) (i : Interval) (z : ℤ) → KnownFi
 back_holds digits true i z k h = h
 back_holds digits false i z (l, o, m) (b, c) = let same : pos (unsigned_abs z) ≡ z = omega (arith, ints, l, b) in subst (λ (w : ℤ). Holds i w) (sym same) (b, c)
 
--- the item holds the number, as it is read back, and items that have none of its bytes keep theirs
-pub record IsItemFilled (l : Layout) (place : ℕ) (z : ℤ) (before held : List ℕ) (counts : List (Option ℤ)) : Type 0 where
-  pub same_length : length (filled_at l before place held) ≡ length before
-  pub others : (h : Home) → is_beside l place h ≡ false → value_at l (storage (filled_at l before place held) counts) h ≡ value_at l (storage before counts) h
+-- An item's occurrence holds the number, as it is read back. Its other occurrences keep theirs, and so do items that have
+-- none of its bytes.
+pub record IsItemFilled (l : Layout) (place n : ℕ) (z : ℤ) (before held : List ℕ) (counts : List (Option ℤ)) : Type 0 where
+  pub same_length : length (occurrence_filled l before place n held) ≡ length before
+  pub others : (h : Home) → is_beside l place h ≡ false → (m : ℕ) → m < occurrences_of l h
+      → value_at l (storage (occurrence_filled l before place n held) counts) h m ≡ value_at l (storage before counts) h m
+  pub siblings : (m : ℕ) → m < times_at l place → ¬ m ≡ n
+      → value_at l (storage (occurrence_filled l before place n held) counts) (of_item place) m ≡ value_at l (storage before counts) (of_item place) m
   pub new : (digits scale : ℕ) (signed : Bool) (usage : Usage) → form_at l place ≡ form.Number digits scale signed usage
-      → value_at l (storage (filled_at l before place held) counts) (of_item place) ≡ Some (if signed then z else pos (unsigned_abs z))
+      → value_at l (storage (occurrence_filled l before place n held) counts) (of_item place) n ≡ Some (if signed then z else pos (unsigned_abs z))
 
-pub item_is_filled : (l : Layout) (place : ℕ) (z : ℤ) (before held : List ℕ) (counts : List (Option ℤ)) → HasSoundItems l → takes_number (form_at l place) ≡ true → unsigned_abs z < 10 ^ digits_of (form_at l place)
-    → held ≡ bytes_of (form_at l place) z → length before ≡ l.storage → IsItemFilled l place z before held counts
-item_is_filled l place z before held counts items takes room is whole = by_item (item_at l place) refl
+pub item_is_filled : (l : Layout) (place n : ℕ) (z : ℤ) (before held : List ℕ) (counts : List (Option ℤ)) → HasSoundItems l → n < times_at l place → takes_number (form_at l place) ≡ true
+    → unsigned_abs z < 10 ^ digits_of (form_at l place) → held ≡ bytes_of (form_at l place) z → length before ≡ l.storage → IsItemFilled l place n z before held counts
+item_is_filled l place n z before held counts items less takes room is whole = by_item (item_at l place) refl
   where
     no_item : item_at l place ≡ None → ⊥
     no_item e = let none : form_at l place ≡ form.Group = ap (λ (o : Option Item). option_map_or (λ j. j.form) o form.Group) e in
         let f : takes_number form.Group ≡ true = subst (λ (k : Form). takes_number k ≡ true) none takes in cc
 
-    by_item : (o : Option Item) → item_at l place ≡ o → IsItemFilled l place z before held counts
+    by_item : (o : Option Item) → item_at l place ≡ o → IsItemFilled l place n z before held counts
     by_item None e = absurd (no_item e)
     by_item (Some j) e = record {
-      same_length = filled_length l place j e before held counts long within;
-      others = λ h apart. others_stay l place j e before held counts long within h apart;
+      same_length = filled_length l place j e extent n there before held counts long within;
+      others = λ h apart. others_stay l place j e extent n there before held counts long within h apart;
+      siblings = λ m below. siblings_stay l place j e extent n there before held counts long within m (subst (λ (k : ℕ). m < k) its_times below);
       new = λ digits scale signed usage k.
-          held_value l place j e before held counts long within
+          held_value l place j e extent n there before held counts long within
           ∙ ap (contents_value (form_at l place)) is ∙ items.back place digits scale signed usage z k (subst (λ (f : Form). unsigned_abs z < 10 ^ digits_of f) k room);
     }
       where
@@ -392,30 +404,71 @@ item_is_filled l place z before held counts items takes room is whole = by_item 
         long : length held ≡ j.length
         long = ap length (is ∙ ap (λ (f : Form). bytes_of f z) its_form) ∙ items.whole place j z e (subst (λ (f : Form). takes_number f ≡ true) its_form takes) (subst (λ (f : Form). unsigned_abs z < 10 ^ digits_of f) its_form room)
 
-        within : j.offset + j.length ≤ length before
-        within = subst (λ (n : ℕ). j.offset + j.length ≤ n) (sym whole) (items.within place j e)
+        its_times : times_at l place ≡ j.times
+        its_times = ap (λ (o : Option Item). option_map_or (λ k. k.times) o 1) e
 
-module _ (p : Program) (statement : ℕ) (a : Act) (x : Action) (sound : IsSoundEdge p statement a x) where
-  -- storage behind a store of a number in the interval
-  pub stored_stands : (place : ℕ) (cells : List Known) (m : Moment) (i : Interval) (z : ℤ) (held : List ℕ) → takes_number (form_at p.layout place) ≡ true
-      → KnownFits (form_range (form_at p.layout place)) (Some i) → Holds i z → held ≡ bytes_of (form_at p.layout place) z → StandsIn p cells (storage m.storage m.counts)
-      → StandsIn p (stored_cells p place cells i) (storage (filled_at p.layout m.storage place held) m.counts)
-  stored_stands place cells m i z held takes fits holds is stands = record {
-    whole = fill.same_length ∙ stands.whole;
-    counted = stands.counted;
-    known = home_set p (forgotten (is_beside p.layout place) (homes_of p) cells) (storage (filled_at p.layout m.storage place held) m.counts) (of_item place) (stored_known (form_at p.layout place) i)
-        (λ there. new (form_at p.layout place) refl)
-        (λ h there d. known_left (λ k. KnownStands k (value_at p.layout (storage (filled_at p.layout m.storage place held) m.counts) h)) tt (is_beside p.layout place) (homes_of p) cells h
-        (λ apart. subst (λ (v : Option ℤ). KnownStands (known_of (homes_of p) cells h) v) (sym (fill.others h apart)) (stands.known h)));
-  }
-    where
-      fill : IsItemFilled p.layout place z m.storage held m.counts
-      fill = item_is_filled p.layout place z m.storage held m.counts sound.items takes (has_room (form_at p.layout place) i z takes fits holds) is stands.whole
+        extent : IsExtent (extent_of j)
+        extent = items.extent place j e
 
-      new : (f : Form) → form_at p.layout place ≡ f → KnownStands (stored_known f i) (value_at p.layout (storage (filled_at p.layout m.storage place held) m.counts) (of_item place))
-      new form.Group k = tt
-      new (form.Text n) k = tt
-      new (form.Edited picture digits scale) k = tt
-      new (form.Number digits scale signed kept) k =
-          subst (λ (v : Option ℤ). KnownStands (Some i) v) (sym (fill.new digits scale signed kept k))
-          (back_holds digits signed i z (subst (λ (f : Form). KnownFits (form_range f) (Some i)) k fits) holds)
+        there : n < j.times
+        there = subst (λ (k : ℕ). n < k) its_times less
+
+        within : LiesWithin (extent_of j) (length before)
+        within = subst (LiesWithin (extent_of j)) (sym whole) (items.within place j e)
+
+-- ---- a store
+
+-- what is known of a table's item behind a store into one occurrence stands for those that stay, and for the new one
+wider_stands : (old : Known) (i : Interval) (v : Option ℤ) → KnownStands old v → KnownStands (joined_known old (Some i)) v
+wider_stands old i v h = stands_above old (joined_known old (Some i)) v (known_join_left old (Some i)) h
+
+taken_stands : (old : Known) (i : Interval) (v : Option ℤ) → KnownStands (Some i) v → KnownStands (joined_known old (Some i)) v
+taken_stands old i v h = stands_above (Some i) (joined_known old (Some i)) v (known_join_right old (Some i)) h
+
+module _ (p : Program) (items : HasSoundItems p.layout) (place n : ℕ) (less : n < times_at p.layout place) (takes : takes_number (form_at p.layout place) ≡ true)
+    (cells : List Known) (before : List ℕ) (counts : List (Option ℤ)) (i : Interval) (z : ℤ) (held : List ℕ) where
+  abbrev behind : Storage
+  behind = storage (occurrence_filled p.layout before place n held) counts
+
+  abbrev old_known : Known
+  old_known = known_of (homes_of p) cells (of_item place)
+
+  module _ (fits : KnownFits (form_range (form_at p.layout place)) (Some i)) (holds : Holds i z) (is : held ≡ bytes_of (form_at p.layout place) z) (stands : StandsIn p cells (storage before counts)) where
+    fill : IsItemFilled p.layout place n z before held counts
+    fill = item_is_filled p.layout place n z before held counts items less takes (has_room (form_at p.layout place) i z takes fits holds) is stands.whole
+
+    -- the occurrence that is new, and the others
+    by_number : (c : Known) → KnownStands c (value_at p.layout behind (of_item place) n)
+        → ((m : ℕ) → m < times_at p.layout place → ¬ m ≡ n → KnownStands c (value_at p.layout (storage before counts) (of_item place) m)) → HomeStands p.layout behind c (of_item place)
+    by_number c own other m below = by (cases_eq m n)
+      where
+        by : (m ≡ n) ⊎ (m ≡ n → ⊥) → KnownStands c (value_at p.layout behind (of_item place) m)
+        by (inl same) = subst (λ (k : ℕ). KnownStands c (value_at p.layout behind (of_item place) k)) (sym same) own
+        by (inr differ) = subst (λ (v : Option ℤ). KnownStands c v) (sym (fill.siblings m below differ)) (other m below differ)
+
+    number_known : (table : Bool) → is_table p.layout place ≡ table → KnownStands (Some i) (value_at p.layout behind (of_item place) n)
+        → HomeStands p.layout behind (if table then joined_known old_known (Some i) else Some i) (of_item place)
+    number_known true t own =
+        by_number (joined_known old_known (Some i)) (taken_stands old_known i (value_at p.layout behind (of_item place) n) own)
+        (λ m below differ. wider_stands old_known i (value_at p.layout (storage before counts) (of_item place) m) (stands.known (of_item place) m below))
+    number_known false t own = by_number (Some i) own (λ m below differ. absurd (differ (let one = items.one place t in omega (arith, below, less, one))))
+
+    new : (f : Form) → form_at p.layout place ≡ f → HomeStands p.layout behind (stored_known (is_table p.layout place) f old_known i) (of_item place)
+    new form.Group k = λ m below. tt
+    new (form.Text w) k = λ m below. tt
+    new (form.Edited picture digits scale) k = λ m below. tt
+    new (form.Number digits scale signed kept) k =
+        number_known (is_table p.layout place) refl
+        (subst (λ (v : Option ℤ). KnownStands (Some i) v) (sym (fill.new digits scale signed kept k))
+        (back_holds digits signed i z (subst (λ (f : Form). KnownFits (form_range f) (Some i)) k fits) holds))
+
+    -- storage behind a store of a number in the interval
+    pub stored_stands : StandsIn p (stored_cells p place cells i) (storage (occurrence_filled p.layout before place n held) counts)
+    stored_stands = record {
+      whole = fill.same_length ∙ stands.whole;
+      counted = stands.counted;
+      known = home_set p (forgotten (is_beside p.layout place) (homes_of p) cells) behind (of_item place) (receiver_known p place cells i)
+          (λ there. new (form_at p.layout place) refl)
+          (λ h there d m below. known_left (λ k. KnownStands k (value_at p.layout behind h m)) tt (is_beside p.layout place) (homes_of p) cells h
+          (λ apart. subst (λ (v : Option ℤ). KnownStands (known_of (homes_of p) cells h) v) (sym (fill.others h apart m below)) (stands.known h m below)));
+    }

@@ -17,14 +17,15 @@ use Rattle.sum_ranges.specs.SumRanges.{turned, sum_range, product_range_from, at
 use Rattle.sum_ranges.specs.Sizes.{IsRangeWithin, IsSmallRange}
 use Rattle.sum_ranges.specs.Working.{AreBounded}
 use Rattle.sum_ranges.proofs.Bounded.{point_within, turned_within, small_range_of, sum_range_within, product_range_within, atom_range_within}
-use Rattle.sum_ranges.proofs.Rooms.{small_part_most, small_atom_most, can_divide}
+use Rattle.cob_program.proofs.SmallSums.{small_part_most, small_atom_most}
+use Rattle.sum_ranges.proofs.Rooms.{can_divide}
 use Rattle.transfer_ranges.specs.declared.amounts.Taken.{Taken}
 use Rattle.transfer_ranges.specs.Amounts.{taken as taken_of}
 use Rattle.transfer_ranges.specs.Operands.{alone, is_whole, taken_from, taken_sum, computed_range}
 use Rattle.transfer_ranges.specs.Sizes.{CanCompute, IsSmallAmount}
 use Rattle.transfer_ranges.proofs.Bounding.{small_sum, small_product, small_remainder}
-use Rattle.cell_steps.specs.Operands.{settled, amount_of}
-use Rattle.edge_amounts.specs.Working.{CanSettle, CanWork, amount_from}
+use Rattle.transfer_ranges.specs.EdgeOperands.{settled, amount_of}
+use Rattle.transfer_ranges.specs.Working.{CanSettle, CanWork, amount_from}
 use Rattle.cell_laws.proofs.Roots.{settled_is}
 use Rattle.cell_laws.proofs.PremiseDivisors.{sum_root}
 

@@ -32,7 +32,7 @@ use Rattle.cell_laws.specs.Places.{PartsAreInPlace, ArithmeticIsDone}
 use Rattle.interval_domain.specs.Known.{Known}
 use Rattle.cell_steps.specs.Storages.{storage, StandsIn}
 use Rattle.cell_steps.specs.Premises.{HasSoundItems}
-use Rattle.cell_steps.specs.Operands.{edge_operands}
+use Rattle.transfer_ranges.specs.EdgeOperands.{edge_operands}
 use Rattle.cell_steps.specs.Stores.{range_at}
 use Rattle.cell_steps.specs.Agreeing.{OperandsHold}
 

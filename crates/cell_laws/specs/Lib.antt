@@ -1,4 +1,5 @@
 pub mod Entry
+pub mod Storing
 pub mod Layer
 pub mod Laws
 pub mod Sizes

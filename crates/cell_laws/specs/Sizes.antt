@@ -7,7 +7,7 @@ use Rattle.cob_runs.specs.declared.action.Action.{Action}
 use Rattle.cob_runs.specs.Contents.{form_at}
 use Rattle.cob_runs.specs.Effects.{act_at}
 use Rattle.cob_calc.specs.Contents.{bound_at}
-use Rattle.cob_edge_parts.specs.Parts.{Amount, moved, augmented, Part, divide, store, bytes_in, guard, set_count, parts_of}
+use Rattle.cob_edge_parts.specs.Parts.{Amount, moved, augmented, Part, index, divide, store, bytes_in, guard, set_count, parts_of}
 use Rattle.cob_graph.specs.declared.graph.Graph.{Graph}
 use Rattle.graph_runs.specs.Sources.{IsSourceGraph}
 use Rattle.sum_ranges.specs.declared.ranged.Ranged.{Ranged}
@@ -15,9 +15,9 @@ use Rattle.sum_ranges.specs.Working.{AreBounded}
 use Rattle.transfer_ranges.specs.Receivers.{receiver_of}
 use Rattle.transfer_ranges.specs.Sizes.{IsReceiver, IsSmallAmount}
 use Rattle.transfer_ranges.specs.Small.{is_small_test}
-use Rattle.cell_steps.specs.Operands.{edge_amount, edge_operands}
-use Rattle.edge_amounts.specs.Small.{is_small_sender, has_small_sum}
-use Rattle.edge_amounts.specs.Working.{CanWork, amount_from}
+use Rattle.transfer_ranges.specs.EdgeOperands.{edge_amount, edge_operands}
+use Rattle.transfer_ranges.specs.SmallAmounts.{is_small_sender, has_small_sum}
+use Rattle.transfer_ranges.specs.Working.{CanWork, amount_from}
 
 -- the number that is sent is small; what is no sender's is asked elsewhere
 abbrev pub is_small_sent : (ℕ → Bound) → Option Amount → Bool
@@ -47,6 +47,8 @@ IsSmallPart p a x (divide d) = is_small_atom (bound_at p.layout) d ≡ true
 IsSmallPart p a x (store place mode y) = IsSmallStore p a x place y
 IsSmallPart p a x (bytes_in offset count) = has_small_sum (bound_at p.layout) a ≡ true
 IsSmallPart p a x (set_count n y) = (has_small_sum (bound_at p.layout) a ≡ true) × (sends_small p a x ≡ true)
+-- the numbers of a subscript's item are compared with the table's
+IsSmallPart p a x (index last k count) = is_small (bound_at p.layout k) ≡ true
 IsSmallPart p a x (guard t wanted) = is_small_test (bound_at p.layout) p.layout t ≡ true
 IsSmallPart p a x _ = Unit {0}
 

@@ -1,4 +1,5 @@
 //! Laws of edges.
+ghost use Rattle.cell_laws.specs.Storing.{StoresStand, StoresRise};
 ghost use Rattle.cell_laws.specs.EdgeLaws.{EdgesAreWalked, PostsFit, PostsRise, ClearsStay, FlagsRise, PostsStand, ClearedIsntMet};
 
 /// A law: each edge's parts, walked in turn, rise with what is seen before them and keep it true; what is cleared below
@@ -13,6 +14,13 @@ pub fn edges_are_sound()
 /// A law: a store that may keep its receiver's value, or may change it, may do so where more is seen before it.
 pub fn flags_rise()
     ensures { FlagsRise }
+{}
+
+/// A law: what is known behind a store into one occurrence of an item stands for all of them, however many there are, and
+/// for all other items, and rises with what is known before it.
+pub fn stores_stand()
+    ensures stand { StoresStand }
+    ensures rise { StoresRise }
 {}
 
 /// A law: what is known behind an edge is true of the storage to which its parts lead.

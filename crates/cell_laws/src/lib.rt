@@ -13,9 +13,11 @@ mod edge_sizes;
 mod laws;
 mod layers;
 
-pub use cell_facts::{cells_are_of_homes, items_are_sound};
+pub use cell_facts::{cells_are_of_homes, filled_bytes_stand, items_are_sound};
 pub use edge_places::parts_are_in_place;
 pub use edge_premises::edges_are_sound_of_sources;
 pub use edge_sizes::edges_are_small_of_sources;
-pub use laws::{cleared_faults_are_not_met, edges_are_sound, flags_rise, posts_stand};
+pub use laws::{
+    cleared_faults_are_not_met, edges_are_sound, flags_rise, posts_stand, stores_stand,
+};
 pub use layers::{cells_flow, cells_mean};

@@ -12,13 +12,13 @@ use Rattle.cob_store.specs.WellFormed.{IsShort, IsCountable, IsConstant, IsWellF
 use Rattle.cob_program.specs.declared.act.How.TheVariants as how
 use Rattle.cob_program.specs.Act.{Act, Program}
 use Rattle.cob_runs.specs.declared.action.Action.{Action}
-use Rattle.cob_edge_parts.specs.Parts.{Amount, moved, computed, remaining, augmented, Part, read, unread, divide, store, bytes_in, guard, read_count, set_count, count_down, guard_count}
+use Rattle.cob_edge_parts.specs.Parts.{Amount, moved, computed, remaining, augmented, Part, read, unread, subscript, index, divide, store, bytes_in, guard, read_count, set_count, count_down, guard_count}
 use Rattle.sum_ranges.specs.declared.ranged.Ranged.{Ranged}
 use Rattle.transfer_ranges.specs.declared.amounts.AmountRange.{AmountRange}
 use Rattle.transfer_ranges.specs.declared.amounts.AmountRange.TheVariants as range
 use Rattle.transfer_ranges.specs.declared.amounts.Taken.{Taken}
 use Rattle.transfer_ranges.specs.Sizes.{IsSmallAmount}
-use Rattle.edge_amounts.specs.Working.{CanGive, CanWork}
+use Rattle.transfer_ranges.specs.Working.{CanGive, CanWork}
 use Rattle.cell_laws.specs.Sizes.{IsSmallStore, IsSmallPart}
 
 -- ---- items
@@ -79,6 +79,8 @@ module _ (p : Program) (a : Act) (x : Action) where
   part_prop : (y : Part) → IsProp (IsSmallPart p a x y)
   part_prop (read place) = Unit-prop
   part_prop unread = Unit-prop
+  part_prop (subscript last k) = Unit-prop
+  part_prop (index last k count) = hlevel props
   part_prop (divide d) = hlevel props
   part_prop (store place mode y) = store_prop place y
   part_prop (bytes_in offset count) = hlevel props

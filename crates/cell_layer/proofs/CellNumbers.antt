@@ -9,8 +9,8 @@ use Rattle.cell_steps.specs.Storages.{known_of}
 use Rattle.interval_domain.specs.Known.{Known}
 use Rattle.interval_domain.specs.Rows as rows
 use Rattle.interval_domain.specs.Rows.{IsReached}
-use Rattle.edge_amounts.specs.Numbers.{number_in, number_of}
-use Rattle.edge_amounts.proofs.NumberLemmas.{number_within}
+use Rattle.cob_graph.specs.Numbers.{number_in, number_of}
+use Rattle.cob_graph.proofs.NumberLemmas.{number_within}
 use Rattle.cell_steps.specs.Cells.{with_known}
 use Rattle.cell_layer.specs.ProgramRows.{known_in, set_in, IsCellNumber, IsRowOf}
 

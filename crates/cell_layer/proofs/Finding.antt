@@ -15,7 +15,7 @@ use Rattle.cob_runs.specs.Effects.{act_at}
 use Rattle.cob_graph.specs.declared.graph.Edge.{Edge}
 use Rattle.cob_graph.specs.declared.graph.Graph.{Graph}
 use Rattle.cob_graph.specs.WellFormed.{IsWellFormed}
-use Rattle.edge_amounts.specs.PartView.{edge_parts}
+use Rattle.edge_parts.specs.PartView.{edge_parts}
 use Rattle.graph_runs.specs.Sources.{IsSourceGraph}
 use Rattle.data_laws.specs.Statements.{IsIn, IsFound}
 use Rattle.data_laws.proofs.Listed.{found_is_listed, listed_is_found}
@@ -25,7 +25,7 @@ use Rattle.cell_laws.specs.Layer.{left, edge_cells, edge_clears}
 use Rattle.cell_laws.specs.Sizes.{IsSmallPart}
 use Rattle.cell_laws.proofs.Small.{edges_are_small_of_sources}
 use Rattle.cell_layer.specs.NumberedStatements.{number_in, act_in}
-use Rattle.edge_amounts.specs.declared.statement_tests.StatementTests.{StatementTests}
+use Rattle.edge_parts.specs.declared.statement_tests.StatementTests.{StatementTests}
 use Rattle.cell_layer.specs.Statements.{stated, stated_in}
 use Rattle.cell_layer.specs.Edges.{statement_post, statement_clears}
 use Rattle.cell_layer.specs.Works.{IsLeft}

@@ -1,10 +1,10 @@
 -- What is known of cells where a run begins, cell by cell and by homes.
 use Rattle.std.proofs.Common.{◌≡◌, ◌≤◌, ◌<◌, ◌+◌, ◌*◌, ℕ, ℤ, zero, suc, pos, Bool, true, false, if◌then◌else◌, List, [], ◌∷◌, ◌++◌, map, length, take, get_or, replicate, Option, Some, None, refl, sym, ap, subst, ◌∙◌, append_assoc, slice_set, arith}
-use Rattle.std.specs.Prelude.{IfSome, nat_le, slice_get}
+use Rattle.std.specs.Prelude.{IfSome, nat_le, slice_get, bytes_eq}
 use Rattle.std.specs.List.{All, AllByRecursion}
 use Rattle.std.specs.Option.{option_map_or}
 use Rattle.std.proofs.lemmas.Bool.{leb-true}
-use Rattle.std.proofs.lemmas.Int.{ints}
+use Rattle.std.proofs.lemmas.Int.{ints, clamps}
 use Rattle.std.proofs.lemmas.List.{length-map, map-append, get_or-map, take_all}
 use Rattle.std.proofs.lemmas.List.Elements.{All-from_recursion}
 use Rattle.cob_tree.specs.declared.form.Form.{Form}
@@ -16,19 +16,19 @@ use Rattle.cob_program.specs.Act.{Turns, times, Stmt, MkStmt, Act, perform, Prog
 use Rattle.cob_program.specs.Statements.{program_statements}
 use Rattle.cob_program.specs.Values.{◌>>=◌}
 use Rattle.cob_runs.specs.declared.action.Cell.{Cell}
-use Rattle.cob_runs.specs.Contents.{item_at, form_at}
+use Rattle.cob_runs.specs.Contents.{item_at, form_at, times_at}
 use Rattle.cob_store.specs.WellFormed.{IsShort}
 use Rattle.cob_graph.specs.Graphs.{cells_of}
 use Rattle.cob_graph.specs.declared.homes.Home.{Home}
 use Rattle.cob_graph.specs.declared.homes.Home.TheVariants.{Item as of_item, Count as of_count}
 use Rattle.cob_graph.specs.Homes.{home_of, if_named, item_homes, turns_homes, act_homes, count_homes, homes_of}
-use Rattle.edge_amounts.specs.Numbers.{item_of, items_of}
-use Rattle.edge_amounts.proofs.Parallel.{cells_same}
-use Rattle.interval_domain.specs.Known.{Known, IsOrdered}
+use Rattle.cob_graph.specs.Numbers.{item_of, items_of}
+use Rattle.cob_graph.proofs.Parallel.{cells_same}
+use Rattle.interval_domain.specs.Known.{Known, IsOrdered, joined_known}
 use Rattle.interval_domain.specs.Rows as rows
-use Rattle.interval_domain.specs.Rows.{IsReached, words_in, cells_in, row_of, row_from}
-use Rattle.cell_laws.specs.Entry.{value_bytes, point, entry_known, entry_cells}
-use Rattle.cell_layer.specs.Firsts.{first_known, first_cells}
+use Rattle.interval_domain.specs.Rows.{IsReached, words_in, cells_in, row_from}
+use Rattle.cell_laws.specs.Entry.{values_over, first_number, point, least_of, entry_known, entry_cells}
+use Rattle.cell_layer.specs.Firsts.{AreOver, bytes_in, number_of, first_known, first_cells}
 
 -- ---- a row that is reached
 
@@ -70,12 +70,54 @@ bind_ordered (Some a) f each = each a
 point_ordered : (z : ℤ) → IsOrdered (point z)
 point_ordered z = grind (arith, ints)
 
+joined_ordered : (a b : Known) → IsOrdered a → IsOrdered b → IsOrdered (joined_known a b)
+joined_ordered None b h k = tt
+joined_ordered (Some i) None h k = tt
+joined_ordered (Some i) (Some j) h k = omega (arith, ints, clamps, h, k)
+
+pub number_ordered : (o : Option ℤ) → IsOrdered (o >>= point)
+number_ordered o = bind_ordered o point point_ordered
+
+pub least_ordered : (f : ℕ → Option ℤ) (count : ℕ) → IsOrdered (least_of f count)
+least_ordered f zero = tt
+least_ordered f (suc zero) = number_ordered (f 0)
+least_ordered f (suc (suc k)) = joined_ordered (least_of f (suc k)) (f (suc k) >>= point) (least_ordered f (suc k)) (number_ordered (f (suc k)))
+
 pub first_ordered : (l : Layout) (o : Option ℕ) → IsOrdered (o >>= λ place. entry_known l (of_item place))
-first_ordered l o =
-    bind_ordered o (λ place. entry_known l (of_item place))
-    (λ place. bind_ordered (item_at l place) (λ i. value_bytes l i >>= λ bytes. contents_value i.form bytes >>= point)
-    (λ i. bind_ordered (value_bytes l i) (λ bytes. contents_value i.form bytes >>= point)
-    (λ bytes. bind_ordered (contents_value i.form bytes) point point_ordered)))
+first_ordered l o = bind_ordered o (λ place. entry_known l (of_item place)) (λ place. least_ordered (first_number l place) (times_at l place))
+
+-- ---- one occurrence after the other
+
+pub least_next : (f : ℕ → Option ℤ) (k : ℕ) (known next both : Known) → 1 ≤ k → known ≡ least_of f k → next ≡ (f k >>= point) → both ≡ joined_known known next →
+    both ≡ least_of f (k + 1)
+least_next f zero known next both some is at joined = absurd (omega (arith, some))
+least_next f (suc k) known next both some is at joined =
+    let more : suc (suc k) ≡ suc k + 1 = omega arith in
+    joined ∙ (ap (λ c. joined_known c next) is ∙ (ap (λ c. joined_known (least_of f (suc k)) c) at ∙ ap (least_of f) more))
+
+-- ---- an item
+
+-- what is known of the item at a place, if there is one
+abbrev entry_by : List ℕ → List ℕ → Option Item → Known
+entry_by zeros ones o =
+    least_of (λ n.
+    if bytes_eq (option_map_or (λ i. bytes_in i zeros n) o []) (option_map_or (λ i. bytes_in i ones n) o [])
+    then contents_value (option_map_or (λ i. i.form) o form.Group) (option_map_or (λ i. bytes_in i zeros n) o []) else None)
+    (option_map_or (λ i. i.times) o 1)
+
+pub no_entry : (l : Layout) (place : ℕ) (o : Option Item) → o ≡ item_at l place → o ≡ None → None ≡ entry_known l (of_item place)
+no_entry l place o at none = sym (ap (entry_by (values_over l 0) (values_over l 1)) (sym at ∙ none))
+
+pub item_entry : (l : Layout) (zeros ones : List ℕ) (place : ℕ) (o : Option Item) (i : Item) → AreOver l zeros ones → o ≡ item_at l place → o ≡ Some i →
+    least_of (number_of i zeros ones) i.times ≡ entry_known l (of_item place)
+item_entry l zeros ones place o i over at is =
+    ap (λ z. least_of (number_of i z ones) i.times) over.over_zeros
+    ∙ (ap (λ z. least_of (number_of i (values_over l 0) z) i.times) over.over_ones
+    ∙ sym (ap (entry_by (values_over l 0) (values_over l 1)) (sym at ∙ is)))
+
+pub short_form : (l : Layout) (place : ℕ) (o : Option Item) (i : Item) → o ≡ item_at l place → o ≡ Some i → IsShort (form_at l place) → IsShort i.form
+short_form l place o i at is short =
+    subst IsShort (ap (λ (q : Option Item). option_map_or (λ j. j.form) q form.Group) (sym at ∙ is)) short
 
 pub firsts_many : (l : Layout) (cells : List Cell) → length (first_cells l cells) ≡ length cells
 firsts_many l cells = length-map cells (first_known l)

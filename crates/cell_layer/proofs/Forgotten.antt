@@ -7,8 +7,10 @@ use Rattle.std.proofs.lemmas.List.{length-map, map-append}
 use Rattle.std.proofs.lemmas.List.Elements.{All-from_recursion}
 use Rattle.cob_tree.specs.declared.form.Form.{Form}
 use Rattle.cob_tree.specs.declared.form.Form.TheVariants as form
+use Rattle.cob_data.specs.declared.extent.Extent.{Extent}
 use Rattle.cob_data.specs.declared.layout.Item.{Item}
 use Rattle.cob_data.specs.declared.layout.Layout.{Layout}
+use Rattle.cob_data.specs.Occurrences.{extent_of}
 use Rattle.cob_program.specs.Act.{Turns, times, Stmt, MkStmt, Act, perform, Program}
 use Rattle.cob_program.specs.Statements.{program_statements}
 use Rattle.cob_runs.specs.declared.action.Cell.{Cell}
@@ -20,63 +22,69 @@ use Rattle.cob_graph.specs.Homes.{home_of, if_named, item_homes, turns_homes, ac
 use Rattle.interval_domain.specs.Known.{Known}
 use Rattle.interval_domain.specs.Rows as rows
 use Rattle.interval_domain.specs.Rows.{IsReached}
-use Rattle.edge_amounts.specs.Numbers.{item_of, items_of}
-use Rattle.edge_amounts.proofs.Parallel.{cells_same}
-use Rattle.cell_steps.specs.Cells.{forgotten, is_in_bytes, is_beside}
+use Rattle.cob_graph.specs.Numbers.{item_of, items_of}
+use Rattle.cob_graph.proofs.Parallel.{cells_same}
+use Rattle.cell_steps.specs.Cells.{forgotten, is_in_extent, is_beside}
 use Rattle.cell_layer.specs.ProgramRows.{IsRowOf}
 use Rattle.cell_layer.specs.Forgetting.{has_bytes, forgotten_at, forgotten_by}
 
--- so many cells are gone through
-abbrev pub through : (Option ℕ → Bool) → ℕ → List (Option ℕ) → List Known → List Known
-through is_gone zero os cs = cs
-through is_gone (suc k) (o ∷ os) (c ∷ cs) = (if is_gone o then None else c) ∷ through is_gone k os cs
-through is_gone (suc k) _ cs = cs
+module _ {A : Type 0} (is_gone : A → Bool) where
+  -- so many cells are gone through
+  abbrev pub through : ℕ → List A → List Known → List Known
+  through zero os cs = cs
+  through (suc k) (o ∷ os) (c ∷ cs) = (if is_gone o then None else c) ∷ through k os cs
+  through (suc k) _ cs = cs
 
-module _ (is_gone : Option ℕ → Bool) where
-  pub through_length : (k : ℕ) (os : List (Option ℕ)) (cs : List Known) → length (through is_gone k os cs) ≡ length cs
+  pub through_length : (k : ℕ) (os : List A) (cs : List Known) → length (through k os cs) ≡ length cs
   through_length zero os cs = refl
   through_length (suc k) [] cs = refl
   through_length (suc k) (o ∷ os) [] = refl
   through_length (suc k) (o ∷ os) (c ∷ cs) = ap suc (through_length k os cs)
 
-  pub through_all : (k : ℕ) (os : List (Option ℕ)) (cs : List Known) → k ≡ length os → through is_gone k os cs ≡ forgotten_by is_gone os cs
+  pub through_all : (k : ℕ) (os : List A) (cs : List Known) → k ≡ length os → through k os cs ≡ forgotten_by is_gone os cs
   through_all zero [] cs e = refl
   through_all zero (o ∷ os) cs e = absurd (omega (arith, e))
   through_all (suc k) [] cs e = absurd (omega (arith, e))
   through_all (suc k) (o ∷ os) [] e = refl
   through_all (suc k) (o ∷ os) (c ∷ cs) e = ap (λ ds. (if is_gone o then None else c) ∷ ds) (through_all k os cs (omega (arith, e)))
 
-  pub through_next : (k : ℕ) (os : List (Option ℕ)) (cs : List Known) (gone : Bool) → k < length os → k < length cs →
-      gone ≡ is_gone (get_or os k None) → forgotten_at (through is_gone k os cs) k gone ≡ through is_gone (suc k) os cs
-  through_next k [] cs gone h i e = absurd (omega arith)
-  through_next k (p ∷ os) [] gone h i e = absurd (omega arith)
-  through_next zero (p ∷ os) (c ∷ cs) true h i e = rw (← e) refl
-  through_next zero (p ∷ os) (c ∷ cs) false h i e = rw (← e) refl
-  through_next (suc k) (p ∷ os) (c ∷ cs) true h i e =
-      ap (λ ds. (if is_gone p then None else c) ∷ ds) (through_next k os cs true (omega arith) (omega arith) e)
-  through_next (suc k) (p ∷ os) (c ∷ cs) false h i e =
-      ap (λ ds. (if is_gone p then None else c) ∷ ds) (through_next k os cs false (omega arith) (omega arith) e)
+  pub through_next : (k : ℕ) (os : List A) (cs : List Known) (d : A) (gone : Bool) → k < length os → k < length cs →
+      gone ≡ is_gone (get_or os k d) → forgotten_at (through k os cs) k gone ≡ through (suc k) os cs
+  through_next k [] cs d gone h i e = absurd (omega arith)
+  through_next k (p ∷ os) [] d gone h i e = absurd (omega arith)
+  through_next zero (p ∷ os) (c ∷ cs) d true h i e = rw (← e) refl
+  through_next zero (p ∷ os) (c ∷ cs) d false h i e = rw (← e) refl
+  through_next (suc k) (p ∷ os) (c ∷ cs) d true h i e =
+      ap (λ ds. (if is_gone p then None else c) ∷ ds) (through_next k os cs d true (omega arith) (omega arith) e)
+  through_next (suc k) (p ∷ os) (c ∷ cs) d false h i e =
+      ap (λ ds. (if is_gone p then None else c) ∷ ds) (through_next k os cs d false (omega arith) (omega arith) e)
+
+  -- by marks
+  pub by_marks : (os : List A) (cs : List Known) → forgotten_by (λ gone. gone) (map is_gone os) cs ≡ forgotten_by is_gone os cs
+  by_marks [] cs = refl
+  by_marks (o ∷ os) [] = refl
+  by_marks (o ∷ os) (c ∷ cs) = ap (λ ds. (if is_gone o then None else c) ∷ ds) (by_marks os cs)
 
 -- ---- by homes
 
-gone_same : (l : Layout) (offset count : ℕ) (h : Home) → has_bytes l.items offset count (item_of h) ≡ is_in_bytes l offset count h
-gone_same l offset count (of_item place) = refl
-gone_same l offset count (of_count statement) = refl
+gone_same : (l : Layout) (e : Extent) (h : Home) → has_bytes l.items e (item_of h) ≡ is_in_extent l e h
+gone_same l e (of_item place) = refl
+gone_same l e (of_count statement) = refl
 
-by_homes : (l : Layout) (offset count : ℕ) (hs : List Home) (cs : List Known) →
-    forgotten_by (has_bytes l.items offset count) (map item_of hs) cs ≡ forgotten (is_in_bytes l offset count) hs cs
-by_homes l offset count [] cs = refl
-by_homes l offset count (h ∷ hs) [] = refl
-by_homes l offset count (h ∷ hs) (c ∷ cs) =
-    ap (λ (b : Bool). (if b then None else c) ∷ forgotten_by (has_bytes l.items offset count) (map item_of hs) cs) (gone_same l offset count h)
-    ∙ ap (λ ds. (if is_in_bytes l offset count h then None else c) ∷ ds) (by_homes l offset count hs cs)
+by_homes : (l : Layout) (e : Extent) (hs : List Home) (cs : List Known) →
+    forgotten_by (has_bytes l.items e) (map item_of hs) cs ≡ forgotten (is_in_extent l e) hs cs
+by_homes l e [] cs = refl
+by_homes l e (h ∷ hs) [] = refl
+by_homes l e (h ∷ hs) (c ∷ cs) =
+    ap (λ (b : Bool). (if b then None else c) ∷ forgotten_by (has_bytes l.items e) (map item_of hs) cs) (gone_same l e h)
+    ∙ ap (λ ds. (if is_in_extent l e h then None else c) ∷ ds) (by_homes l e hs cs)
 
-pub forgotten_of : (p : Program) (cells : List Cell) (row : List ℤ) (offset count : ℕ) → IsRowOf p cells row →
-    forgotten_by (has_bytes p.layout.items offset count) (items_of cells) (rows.cells_of row)
-    ≡ forgotten (is_in_bytes p.layout offset count) (homes_of p) (rows.cells_of row)
-forgotten_of p cells row offset count r =
-    ap (λ os. forgotten_by (has_bytes p.layout.items offset count) os (rows.cells_of row)) (ap items_of r.cells_are ∙ cells_same p)
-    ∙ by_homes p.layout offset count (homes_of p) (rows.cells_of row)
+pub forgotten_of : (p : Program) (cells : List Cell) (row : List ℤ) (e : Extent) → IsRowOf p cells row →
+    forgotten_by (has_bytes p.layout.items e) (items_of cells) (rows.cells_of row)
+    ≡ forgotten (is_in_extent p.layout e) (homes_of p) (rows.cells_of row)
+forgotten_of p cells row e r =
+    ap (λ os. forgotten_by (has_bytes p.layout.items e) os (rows.cells_of row)) (ap items_of r.cells_are ∙ cells_same p)
+    ∙ by_homes p.layout e (homes_of p) (rows.cells_of row)
 
 forgotten_length : (is_gone : Home → Bool) (hs : List Home) (cs : List Known) → length (forgotten is_gone hs cs) ≡ length cs
 forgotten_length is_gone [] cs = refl
@@ -117,7 +125,7 @@ nothing_gone is_gone (h ∷ hs) (c ∷ cs) none =
 pub nothing_beside : (l : Layout) (place : ℕ) (hs : List Home) (cs : List Known) → item_at l place ≡ None →
     cs ≡ forgotten (is_beside l place) hs cs
 nothing_beside l place hs cs none = nothing_gone (is_beside l place) hs cs
-    (λ h. ap (λ (o : Option Item). option_map_or (λ i. is_in_bytes l i.offset i.length h) o false) none)
+    (λ h. ap (λ (o : Option Item). option_map_or (λ i. is_in_extent l (extent_of i) h) o false) none)
 
 -- ---- the items of a program's cells stand in its list
 

@@ -19,7 +19,7 @@ use Rattle.interval_domain.specs.Elements.{CellsFit}
 use Rattle.interval_domain.specs.Rows.{is_reached, cells_of, element_of}
 use Rattle.cell_steps.specs.OwnRanges.{owns}
 use Rattle.cell_laws.specs.Layer.{row_for, edge_cells, leaves_clear, clears_at}
-use Rattle.cell_layer.specs.declared.works.EdgeWorks.{EdgeWorks}
+use Rattle.cell_layer.specs.declared.layer.works.EdgeWorks.{EdgeWorks}
 use Rattle.cell_layer.specs.Held.{IsHeld}
 
 module _ (p : Program) (g : Graph) (works : EdgeWorks) (held : ∥ IsHeld p g works ∥₁) where

@@ -2,7 +2,7 @@
 use Rattle.std.proofs.Common.{◌≡◌, Bool, true, false, ◌&&◌, refl, sym, ap, ◌∙◌}
 use Rattle.std.proofs.Math.Bool.{and_assoc}
 use Rattle.cob_tree.specs.declared.fault.Kind.{Kind}
-use Rattle.cob_tree.specs.declared.fault.Kind.TheVariants.{Size, Truncation, Zero, Class}
+use Rattle.cob_tree.specs.declared.fault.Kind.TheVariants.{Size, Truncation, Zero, Class, Subscript}
 use Rattle.cob_tree.specs.declared.kinds.Kinds.{Kinds}
 use Rattle.cob_tree.specs.Kinds.{has, kinds_of, every_kind, both}
 use Rattle.cob_tree.proofs.KindLaws.{has_kinds_of, same_kinds}
@@ -31,6 +31,7 @@ module _ (s : Kinds) where
       go Truncation = one_more s.truncation (f Truncation) (rest Truncation) (all Truncation) (e Truncation)
       go Zero = one_more s.zero (f Zero) (rest Zero) (all Zero) (e Zero)
       go Class = one_more s.class (f Class) (rest Class) (all Class) (e Class)
+      go Subscript = one_more s.subscript (f Subscript) (rest Subscript) (all Subscript) (e Subscript)
 
   pub both_last : (f all : Kind → Bool) → ((kind : Kind) → f kind ≡ all kind) → both s (kinds_of f) ≡ both s (kinds_of all)
   both_last f all e = ap (both s) (same_tests f all e)
@@ -43,3 +44,4 @@ module _ (s : Kinds) where
       go Truncation = and_true s.truncation
       go Zero = and_true s.zero
       go Class = and_true s.class
+      go Subscript = and_true s.subscript

@@ -1,6 +1,7 @@
 -- What holds of an edge of a graph by its work.
-use Rattle.std.proofs.Common.{◌≡◌, List, length, ℤ, Option, Some, None, Bool, true, sym, ap, subst, ◌∙◌}
+use Rattle.std.proofs.Common.{◌≡◌, List, length, ℤ, Option, Some, None, Bool, true, Vec, sym, ap, subst, ◌∙◌}
 use Rattle.std.specs.List.{AllByRecursion}
+use Rattle.std.specs.declared.alloc.Global.{Global}
 use Rattle.std.proofs.Props.{props}
 use Rattle.std.proofs.Math.Logic.{∥∥₁_elim}
 use Rattle.std.proofs.lemmas.List.{length-map}
@@ -12,8 +13,8 @@ use Rattle.cob_runs.specs.declared.action.Cell.{Cell}
 use Rattle.cob_graph.specs.declared.graph.Edge.{Edge}
 use Rattle.cob_graph.specs.declared.graph.Graph.{Graph}
 use Rattle.cob_graph.specs.Graphs.{cells_of as program_cells}
-use Rattle.edge_amounts.specs.PartView.{edge_parts}
-use Rattle.edge_amounts.specs.declared.work.EdgeWork.{EdgeWork}
+use Rattle.edge_parts.specs.PartView.{edge_parts}
+use Rattle.edge_parts.specs.declared.work.EdgeWork.{EdgeWork}
 use Rattle.graph_runs.specs.Sources.{IsSourceGraph}
 use Rattle.interval_domain.specs.declared.bounds.Interval.{Interval}
 use Rattle.interval_domain.specs.Known.{Known}
@@ -24,6 +25,7 @@ use Rattle.cob_graph.specs.Homes.{homes_of}
 use Rattle.cell_steps.specs.OwnRanges.{home_range, owns}
 use Rattle.cell_laws.specs.Layer.{row_for, edge_cells, edge_clears}
 use Rattle.cell_laws.specs.Sizes.{IsSmallPart}
+use Rattle.cell_layer.specs.Forgetting.{AreMarks}
 use Rattle.cell_layer.specs.SmallCells.{has_small_cells}
 use Rattle.cell_layer.specs.Edges.{CanWalk, statement_post, statement_clears}
 use Rattle.cell_layer.specs.Works.{program_of, statement_of, act_of, IsWorkOf}
@@ -38,6 +40,14 @@ module _ (p : Program) (g : Graph) (x : Edge) where
   module _ (w : EdgeWork) (work : ∥ IsWorkOf p g x (Some w) ∥₁) where
     same_owns : owns p ≡ owns (program_of w)
     same_owns = ∥∥₁_elim work (hlevel props) (λ is. sym (ap owns is.program))
+
+    -- the marks of the graph's cells are those of the work's program
+    pub marks_of_work : (cells found : List Cell) (rows lent : List (Vec Bool Global)) → found ≡ cells → lent ≡ rows → AreMarks p cells rows →
+        AreMarks (program_of w) found lent
+    marks_of_work cells found rows lent same these marked =
+        ∥∥₁_elim work (hlevel props)
+        (λ is. subst (λ q. AreMarks q found lent) (sym is.program)
+        (subst (λ cs. AreMarks p cs lent) (sym same) (subst (AreMarks p cells) (sym these) marked)))
 
     module _ (source : ∥ IsSourceGraph p g ∥₁) where
       program_has_cells : g.cells ≡ program_cells (program_of w)

@@ -1,5 +1,6 @@
 pub mod CellNumbers
 pub mod Forgotten
+pub mod MarkedCells
 pub mod Digits
 pub mod ShortBounds
 pub mod SumsAgree
@@ -7,13 +8,13 @@ pub mod ShortAnswers
 pub mod SmallHomes
 pub mod Reading
 pub mod CounterRanges
+pub mod Tables
 pub mod TestsAgree
 pub mod Cuts
 pub mod SmallEdges
 pub mod RangeBounds
 pub mod Stepping
 pub mod Storing
-pub mod Quotients
 pub mod FirstCells
 pub mod AtMostOne
 pub mod Marks

@@ -25,7 +25,7 @@ use Rattle.cob_graph.specs.Limits.{most_cells, most_nodes}
 use Rattle.cell_steps.specs.OwnRanges.{home_range, owns}
 use Rattle.cell_laws.specs.Entry.{entry_cells}
 use Rattle.cell_laws.specs.Layer.{row_for}
-use Rattle.cell_layer.specs.declared.works.EdgeWorks.{EdgeWorks}
+use Rattle.cell_layer.specs.declared.layer.works.EdgeWorks.{EdgeWorks}
 use Rattle.cell_layer.specs.Held.{IsHeld}
 use Rattle.cell_layer.proofs.FirstCells.{homes_many}
 use Rattle.cell_layer.proofs.AtMostOne.{items_prop}

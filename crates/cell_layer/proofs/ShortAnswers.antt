@@ -12,9 +12,9 @@ use Rattle.sum_ranges.specs.SumRanges.{atom_range}
 use Rattle.sum_ranges.specs.Vanishing.{may_be_zero}
 use Rattle.transfer_ranges.specs.Stores.{operands}
 use Rattle.interval_domain.specs.Known.{Known}
-use Rattle.cell_steps.specs.Operands.{edge_amount, operands_vanish}
+use Rattle.transfer_ranges.specs.EdgeOperands.{edge_amount, operands_vanish}
 use Rattle.cell_steps.specs.Stores.{range_at}
-use Rattle.edge_amounts.specs.Small.{is_small_amount, has_small_sum}
+use Rattle.transfer_ranges.specs.SmallAmounts.{is_small_amount, has_small_sum}
 use Rattle.cell_laws.specs.Sizes.{sends_small}
 use Rattle.cell_layer.specs.ShortRanges.{if_small, short_range_at}
 use Rattle.cell_layer.proofs.SumsAgree.{atom_same, zero_same, operands_same, operands_vanish_same}

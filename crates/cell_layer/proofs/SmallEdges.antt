@@ -9,7 +9,7 @@ use Rattle.cob_program.specs.Values.{◌>>=◌}
 use Rattle.cob_program.specs.Sum.{Atom}
 use Rattle.cob_program.specs.Act.{Act, Program}
 use Rattle.cob_runs.specs.declared.action.Action.{Action}
-use Rattle.cob_edge_parts.specs.Parts.{Amount, Part, read, unread, divide, store, bytes_in, guard, read_count, set_count, count_down, guard_count, has_phrase}
+use Rattle.cob_edge_parts.specs.Parts.{Amount, Part, read, unread, subscript, index, divide, store, bytes_in, guard, read_count, set_count, count_down, guard_count, has_phrase}
 use Rattle.sum_ranges.specs.SumRanges.{atom_range}
 use Rattle.sum_ranges.specs.Vanishing.{may_be_zero}
 use Rattle.transfer_ranges.specs.declared.amounts.Taken.{Taken}
@@ -17,10 +17,10 @@ use Rattle.transfer_ranges.specs.ResultRanges.{count_range, lowered}
 use Rattle.interval_domain.specs.Known.{Known}
 use Rattle.cob_graph.specs.declared.homes.Home.TheVariants.{Item as of_item, Count as of_count}
 use Rattle.cob_graph.specs.Homes.{homes_of}
-use Rattle.cell_steps.specs.Cells.{units_of}
+use Rattle.cell_steps.specs.Cells.{is_table, units_of}
 use Rattle.cell_steps.specs.Seen.{Seen, beginning, with_cells, with_zero}
 use Rattle.cell_steps.specs.Stores.{range_at, handled, taking, with_taken, stored}
-use Rattle.cell_steps.specs.Steps.{can_divide, known_as, read_cells, guarded_cells, counted_cells, with_cells_if, after_read, after_bytes, after_count, after_divide, step}
+use Rattle.cell_steps.specs.Steps.{can_divide, known_as, read_cells, guarded_cells, counted_cells, with_cells_if, after_read, after_bytes, after_count, after_divide, step, shows_nothing, after_subscript, after_index, indexed_cells}
 use Rattle.cell_steps.specs.Clearing.{is_misfit, all_fit, all_count, clears_part, clears_parts}
 use Rattle.cell_steps.specs.Edges.{steps, finished}
 use Rattle.cell_laws.specs.Sizes.{sends_small, IsSmallPart}
@@ -68,12 +68,24 @@ module _ (p : Program) (a : Act) (x : Action) where
   cells_if s None = refl
   cells_if s (Some cs) = refl
 
+  read_if_same : (b : Bool) (place : ℕ) (s : Seen) →
+      (if b then trim s else with_cells (trim s) (read_cells p (of_item place) s.cells)) ≡ trim (if b then s else with_cells s (read_cells p (of_item place) s.cells))
+  read_if_same true place s = refl
+  read_if_same false place s = refl
+
   read_same : (place : ℕ) (s : Seen) → after_read p place (trim s) ≡ trim (after_read p place s)
-  read_same place s = go s.may_zero
+  read_same place s = read_if_same (s.may_zero || is_table p.layout place) place s
+
+  subscript_same : (last : Bool) (k : ℕ) (s : Seen) → after_subscript p last k (trim s) ≡ trim (after_subscript p last k s)
+  subscript_same last k s = read_if_same (shows_nothing p last k s) k s
+
+  index_same : (last : Bool) (k count : ℕ) (s : Seen) → after_index p last k count (trim s) ≡ option_map (trimmed p a x) (after_index p last k count s)
+  index_same last k count s = go (shows_nothing p last k s)
     where
-      go : (b : Bool) → (if b then trim s else with_cells (trim s) (read_cells p (of_item place) s.cells)) ≡ trim (if b then s else with_cells s (read_cells p (of_item place) s.cells))
+      go : (b : Bool) → (if b then Some (trim s) else with_cells_if (trim s) (indexed_cells p k count s.cells))
+          ≡ option_map (trimmed p a x) (if b then Some s else with_cells_if s (indexed_cells p k count s.cells))
       go true = refl
-      go false = refl
+      go false = cells_if s (indexed_cells p k count s.cells)
 
   divide_same : (d : Atom) (s : Seen) → after_divide p a x d (trim s) ≡ option_map (trimmed p a x) (after_divide p a x d s)
   divide_same d s = go (handled p a x) (can_divide (atom_range (range_at p s.cells) d))
@@ -100,6 +112,8 @@ module _ (p : Program) (a : Act) (x : Action) where
   pub step_same : (y : Part) (s : Seen) → IsSmallPart p a x y → step_small p a x y (trim s) ≡ option_map (trimmed p a x) (step p a x y s)
   step_same (read place) s h = ap Some (read_same place s)
   step_same unread s h = refl
+  step_same (subscript last k) s h = ap Some (subscript_same last k s)
+  step_same (index last k count) s h = index_same last k count s
   step_same (divide d) s h = divide_same d s
   step_same (store place mode y) s h = stored_same h.sender s place mode y
   step_same (bytes_in offset count) s h = ap (λ (t : Seen). Some (after_bytes p offset count t)) (taken_same s)
@@ -124,14 +138,27 @@ module _ (p : Program) (a : Act) (x : Action) where
   clears_same (read place) s kind.Size h = refl
   clears_same (read place) s kind.Zero h = refl
   clears_same (read place) s kind.Truncation h = refl
+  clears_same (read place) s kind.Subscript h = refl
   clears_same unread s kind.Class h = refl
   clears_same unread s kind.Size h = refl
   clears_same unread s kind.Zero h = refl
   clears_same unread s kind.Truncation h = refl
+  clears_same unread s kind.Subscript h = refl
+  clears_same (subscript last k) s kind.Class h = refl
+  clears_same (subscript last k) s kind.Size h = refl
+  clears_same (subscript last k) s kind.Zero h = refl
+  clears_same (subscript last k) s kind.Truncation h = refl
+  clears_same (subscript last k) s kind.Subscript h = refl
+  clears_same (index last k count) s kind.Class h = refl
+  clears_same (index last k count) s kind.Size h = refl
+  clears_same (index last k count) s kind.Zero h = refl
+  clears_same (index last k count) s kind.Truncation h = refl
+  clears_same (index last k count) s kind.Subscript h = refl
   clears_same (divide d) s kind.Class h = refl
   clears_same (divide d) s kind.Size h = refl
   clears_same (divide d) s kind.Zero h = refl
   clears_same (divide d) s kind.Truncation h = refl
+  clears_same (divide d) s kind.Subscript h = refl
   clears_same (store place mode y) s fault h = store_clears_same h.sender s place mode y fault
   clears_same (bytes_in offset count) s fault h = refl
   clears_same (guard t wanted) s fault h = refl
@@ -139,14 +166,17 @@ module _ (p : Program) (a : Act) (x : Action) where
   clears_same (read_count n) s kind.Size h = refl
   clears_same (read_count n) s kind.Zero h = refl
   clears_same (read_count n) s kind.Truncation h = refl
+  clears_same (read_count n) s kind.Subscript h = refl
   clears_same (set_count n y) s kind.Size h = count_clears_same h.1 s
   clears_same (set_count n y) s kind.Class h = refl
   clears_same (set_count n y) s kind.Zero h = refl
   clears_same (set_count n y) s kind.Truncation h = refl
+  clears_same (set_count n y) s kind.Subscript h = refl
   clears_same (count_down n) s kind.Class h = refl
   clears_same (count_down n) s kind.Size h = refl
   clears_same (count_down n) s kind.Zero h = refl
   clears_same (count_down n) s kind.Truncation h = refl
+  clears_same (count_down n) s kind.Subscript h = refl
   clears_same (guard_count n wanted) s fault h = refl
 
   -- ---- all parts

@@ -1,6 +1,7 @@
 -- Behind a part the walk can go on.
-use Rattle.std.proofs.Common.{◌≡◌, ℕ, zero, suc, Bool, true, false, ◌||◌, if◌then◌else◌, List, [], ◌∷◌, Option, Some, None, refl, sym, ap, subst, ◌∙◌}
+use Rattle.std.proofs.Common.{◌≡◌, ℕ, zero, suc, Bool, true, false, ◌||◌, if◌then◌else◌, List, [], ◌∷◌, Option, Some, None, refl, sym, ap, subst, ◌∙◌, arith}
 use Rattle.std.specs.Prelude.{IfSome, slice_get}
+use Rattle.std.proofs.lemmas.Int.{ints}
 use Rattle.std.specs.List.{AllByRecursion}
 use Rattle.std.specs.Option.{option_map}
 use Rattle.std.proofs.lemmas.Option.{same_Some}
@@ -17,8 +18,8 @@ use Rattle.cob_program.specs.Act.{Act, Stmt, Program}
 use Rattle.cob_runs.specs.declared.action.Action.{Action}
 use Rattle.cob_runs.specs.Contents.{form_at}
 use Rattle.cob_calc.specs.Contents.{bound_at}
-use Rattle.cob_edge_parts.specs.Parts.{Amount, Part, read, unread, divide, store, bytes_in, guard, read_count, set_count, count_down, guard_count}
-use Rattle.edge_amounts.specs.PartView.{edge_parts}
+use Rattle.cob_edge_parts.specs.Parts.{Amount, Part, read, unread, subscript, index, divide, store, bytes_in, guard, read_count, set_count, count_down, guard_count}
+use Rattle.edge_parts.specs.PartView.{edge_parts}
 use Rattle.sum_ranges.specs.SumRanges.{atom_range}
 use Rattle.sum_ranges.specs.Vanishing.{may_be_zero}
 use Rattle.sum_ranges.specs.Working.{AreBounded}
@@ -27,21 +28,21 @@ use Rattle.transfer_ranges.specs.declared.amounts.AmountRange.{AmountRange}
 use Rattle.transfer_ranges.specs.Receivers.{receiver_of}
 use Rattle.transfer_ranges.specs.ResultRanges.{result_range, count_range, lowered}
 use Rattle.transfer_ranges.specs.Sizes.{IsSmallAmount}
-use Rattle.edge_amounts.specs.Working.{CanSettleFor, CanWork, amount_from, units_from}
+use Rattle.transfer_ranges.specs.Working.{CanSettleFor, CanWork, amount_from, units_from}
 use Rattle.interval_domain.specs.Known.{Known, IsOrdered, KnownFits}
 use Rattle.interval_domain.specs.Elements.{Element, CellsFit, ElementFits}
 use Rattle.cob_graph.specs.declared.homes.Home.{Home}
 use Rattle.cob_graph.specs.declared.homes.Home.TheVariants.{Item as of_item, Count as of_count}
 use Rattle.cob_graph.specs.Homes.{homes_of}
 use Rattle.cell_steps.specs.OwnRanges.{form_range, home_range, picture_range, owns}
-use Rattle.cell_steps.specs.Cells.{units_of, forgotten, is_in_bytes, is_beside}
-use Rattle.cell_steps.specs.Operands.{edge_operands}
+use Rattle.cell_steps.specs.Cells.{is_table, units_of, forgotten, is_in_extent, bytes_from}
+use Rattle.transfer_ranges.specs.EdgeOperands.{edge_operands}
 use Rattle.cell_steps.specs.Seen.{Seen, with_cells, with_zero}
-use Rattle.cell_steps.specs.Stores.{range_at, handled, keeps_receiver, taking, amount_at, result_at, may_fail, stored_known, stored_cells, stored_element, behind_store, stored}
-use Rattle.cell_steps.specs.Steps.{can_divide, known_as, read_cells, guarded_cells, counted_cells, with_cells_if, after_read, after_divide}
+use Rattle.cell_steps.specs.Stores.{range_at, handled, keeps_receiver, taking, amount_at, result_at, may_fail, stored_cells, stored_element, behind_store, stored}
+use Rattle.cell_steps.specs.Steps.{can_divide, known_as, read_cells, guarded_cells, counted_cells, indexed_cells, with_cells_if, shows_nothing, after_read, after_subscript, after_index, after_divide}
 use Rattle.cell_laws.proofs.CellLists.{cells_reflexive, with_known_fits, forgotten_fits, stored_fits}
 use Rattle.cell_laws.proofs.ResultsFit.{result_fits, count_fits}
-use Rattle.cell_laws.proofs.PartsRise.{FitBelow, FitBelowIf, stored_known_fits, read_cells_below, guarded_below, counted_below}
+use Rattle.cell_laws.proofs.PartsRise.{FitBelow, FitBelowIf, stored_cells_below, read_cells_below, guarded_below, counted_below, indexed_below}
 use Rattle.cell_laws.proofs.ResultLawsHold.{rising}
 use Rattle.cell_laws.specs.Sizes.{sends_small, IsSmallStore, IsSmallPart}
 use Rattle.cell_layer.specs.NumberedStatements.{act_in}
@@ -89,9 +90,7 @@ module _ (p : Program) where
       ElementFits (owns p) (option_map (stored_cells p place cs) o)
   put_fits place cs None f h = tt
   put_fits place cs (Some i) f h =
-      with_known_fits p.layout (homes_of p) (forgotten (is_beside p.layout place) (homes_of p) cs) (of_item place) (stored_known (form_at p.layout place) i)
-      (forgotten_fits p.layout (is_beside p.layout place) (homes_of p) cs f)
-      (stored_known_fits (form_at p.layout place) (form_range (form_at p.layout place)) i h)
+      (stored_cells_below p place cs cs i i (itself cs f) h (omega (arith, ints), omega (arith, ints))).fits
 
 module _ (p : Program) (a : Act) (x : Action) where
   abbrev Can : Seen → Type 0
@@ -181,12 +180,22 @@ module _ (p : Program) (a : Act) (x : Action) where
       by_keeping true o = tt
       by_keeping false o = units_fit_form mode (form_at p.layout place) o
 
+  read_if_can : (b : Bool) (place : ℕ) (s : Seen) → Can s → Can (if b then s else with_cells s (read_cells p (of_item place) s.cells))
+  read_if_can true place s can = can
+  read_if_can false place s can = with_other s (read_cells p (of_item place) s.cells) can (read_cells_below p (of_item place) s.cells s.cells (itself p s.cells can.fits)).fits
+
   read_can : (place : ℕ) (s : Seen) → Can s → Can (after_read p place s)
-  read_can place s can = go s.may_zero
+  read_can place s can = read_if_can (s.may_zero || is_table p.layout place) place s can
+
+  subscript_can : (last : Bool) (k : ℕ) (s : Seen) → Can s → Can (after_subscript p last k s)
+  subscript_can last k s can = read_if_can (shows_nothing p last k s) k s can
+
+  index_can : (last : Bool) (k count : ℕ) (s : Seen) → Can s → IfSome (after_index p last k count s) (CanStep p a x)
+  index_can last k count s can = go (shows_nothing p last k s)
     where
-      go : (b : Bool) → Can (if b then s else with_cells s (read_cells p (of_item place) s.cells))
+      go : (b : Bool) → IfSome (if b then Some s else with_cells_if s (indexed_cells p k count s.cells)) (CanStep p a x)
       go true = can
-      go false = with_other s (read_cells p (of_item place) s.cells) can (read_cells_below p (of_item place) s.cells s.cells (itself p s.cells can.fits)).fits
+      go false = with_others s (indexed_cells p k count s.cells) can (indexed_below p k count s.cells s.cells (itself p s.cells can.fits))
 
   divide_can : (d : Atom) (s : Seen) → Can s → IfSome (after_divide p a x d s) (CanStep p a x)
   divide_can d s can = go (handled p a x) (can_divide (atom_range (range_at p s.cells) d))
@@ -208,11 +217,13 @@ module _ (p : Program) (a : Act) (x : Action) where
   pub goes_on : (y : Part) (s : Seen) → Can s → IfSome (step_small p a x y s) (CanStep p a x)
   goes_on (read place) s can = read_can place s can
   goes_on unread s can = tt
+  goes_on (subscript last k) s can = subscript_can last k s can
+  goes_on (index last k count) s can = index_can last k count s can
   goes_on (divide d) s can = divide_can d s can
   goes_on (store place mode y) s can = stored_can (with_taken_small p a x s) place mode y (taken_can s can)
   goes_on (bytes_in offset count) s can =
-      with_other (with_taken_small p a x s) (forgotten (is_in_bytes p.layout offset count) (homes_of p) (with_taken_small p a x s).cells) (taken_can s can)
-      (forgotten_fits p.layout (is_in_bytes p.layout offset count) (homes_of p) (with_taken_small p a x s).cells (taken_can s can).fits)
+      with_other (with_taken_small p a x s) (forgotten (is_in_extent p.layout (bytes_from offset count)) (homes_of p) (with_taken_small p a x s).cells) (taken_can s can)
+      (forgotten_fits p.layout (is_in_extent p.layout (bytes_from offset count)) (homes_of p) (with_taken_small p a x s).cells (taken_can s can).fits)
   goes_on (guard t wanted) s can = with_others s (guarded_cells p t wanted s.cells) can (guarded_below p rising t wanted s.cells s.cells (itself p s.cells can.fits))
   goes_on (read_count n) s can =
       with_other s (read_cells p (of_count n) s.cells) can (read_cells_below p (of_count n) s.cells s.cells (itself p s.cells can.fits)).fits

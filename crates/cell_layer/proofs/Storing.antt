@@ -5,7 +5,6 @@ use Rattle.std.proofs.lemmas.Int.{ints, clamps}
 use Rattle.interval_domain.specs.declared.bounds.Interval.{Interval}
 use Rattle.interval_domain.specs.Corners.{interval, joined as hull_of}
 use Rattle.cob_program.specs.Act.{Program}
-use Rattle.cob_runs.specs.Contents.{form_at}
 use Rattle.interval_domain.specs.Known.{Known, joined_known}
 use Rattle.interval_domain.specs.Elements.{joined}
 use Rattle.cob_graph.specs.declared.homes.Home.{Home}
@@ -13,7 +12,7 @@ use Rattle.cob_graph.specs.declared.homes.Home.TheVariants.{Item as of_item}
 use Rattle.cob_graph.specs.Homes.{is_home, homes_of}
 use Rattle.cell_steps.specs.Storages.{known_of}
 use Rattle.cell_steps.specs.Cells.{with_known, forgotten, is_beside}
-use Rattle.cell_steps.specs.Stores.{stored_known, stored_cells, stored_element}
+use Rattle.cell_steps.specs.Stores.{receiver_known, stored_cells, stored_element}
 use Rattle.cell_layer.specs.Kept.{kept_or_new}
 
 -- ---- joins
@@ -75,8 +74,8 @@ join_stored gone home new (h ∷ hs) (c ∷ cs) = go (is_home h home) (join_stor
 -- the receiver's cell and what is beside it are all that changes
 pub put_is : (p : Program) (place : ℕ) (keeps : Bool) (cs : List Known) (units : Interval) →
     stored_element keeps cs (Some (stored_cells p place cs units))
-    ≡ Some (with_known (of_item place) (kept_or_new keeps (known_of (homes_of p) cs (of_item place)) (stored_known (form_at p.layout place) units))
+    ≡ Some (with_known (of_item place) (kept_or_new keeps (known_of (homes_of p) cs (of_item place)) (receiver_known p place cs units))
     (homes_of p) (forgotten (is_beside p.layout place) (homes_of p) cs))
 put_is p place false cs units = refl
 put_is p place true cs units =
-    ap Some (join_stored (is_beside p.layout place) (of_item place) (stored_known (form_at p.layout place) units) (homes_of p) cs)
+    ap Some (join_stored (is_beside p.layout place) (of_item place) (receiver_known p place cs units) (homes_of p) cs)

@@ -18,8 +18,8 @@ use Rattle.sum_ranges.proofs.Roots.{root_vanishes}
 use Rattle.transfer_ranges.specs.Amounts.{taken}
 use Rattle.transfer_ranges.specs.Operands.{alone, is_whole, taken_from, taken_sum}
 use Rattle.transfer_ranges.specs.Stores.{sender_range, operands}
-use Rattle.cell_steps.specs.Operands.{operands_vanish}
-use Rattle.edge_amounts.specs.Small.{is_small_sender, is_small_amount, has_small_sum}
+use Rattle.transfer_ranges.specs.EdgeOperands.{operands_vanish}
+use Rattle.transfer_ranges.specs.SmallAmounts.{is_small_sender, is_small_amount, has_small_sum}
 
 pub bind_same : {A B : Type 0} (x y : Option A) (f g : A → Option B) → x ≡ y → ((a : A) → f a ≡ g a) → (x >>= f) ≡ (y >>= g)
 bind_same None y f g e h = ap (λ o. o >>= g) e

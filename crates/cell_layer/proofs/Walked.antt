@@ -9,8 +9,8 @@ use Rattle.cob_tree.specs.Kinds.{kinds_of, both}
 use Rattle.cob_program.specs.Act.{Act, Program}
 use Rattle.cob_runs.specs.declared.action.Action.{Action}
 use Rattle.cob_edge_parts.specs.Parts.{Part}
-use Rattle.edge_amounts.specs.declared.part.EdgePart.{EdgePart}
-use Rattle.edge_amounts.specs.PartView.{plain_part}
+use Rattle.edge_parts.specs.declared.part.EdgePart.{EdgePart}
+use Rattle.edge_parts.specs.PartView.{plain_part}
 use Rattle.cell_steps.specs.Seen.{Seen}
 use Rattle.cell_layer.specs.Walks.{step_small, clears_small, clears_all_small}
 use Rattle.cell_layer.proofs.KindSets.{both_then}

@@ -9,8 +9,8 @@ use Rattle.cob_tree.specs.Kinds.{kinds_of}
 use Rattle.cob_program.specs.Act.{Act, Program}
 use Rattle.cob_runs.specs.declared.action.Action.{Action}
 use Rattle.cob_runs.specs.declared.action.Cell.{Cell}
-use Rattle.edge_amounts.specs.PartView.{edge_parts}
-use Rattle.edge_amounts.specs.declared.work.EdgeWork.{EdgeWork}
+use Rattle.edge_parts.specs.PartView.{edge_parts}
+use Rattle.edge_parts.specs.declared.work.EdgeWork.{EdgeWork}
 use Rattle.interval_domain.specs.Known.{Known}
 use Rattle.interval_domain.specs.Elements.{CellsFit}
 use Rattle.interval_domain.specs.Rows.{cells_of, row_from, width_of}

@@ -16,8 +16,8 @@ use Rattle.cob_program.specs.Values.{◌>>=◌}
 use Rattle.cob_runs.specs.Effects.{act_at}
 use Rattle.cob_graph.specs.declared.graph.Edge.{Edge}
 use Rattle.cob_graph.specs.declared.graph.Graph.{Graph}
-use Rattle.edge_amounts.specs.declared.statement_tests.StatementTests.{StatementTests}
-use Rattle.edge_amounts.specs.declared.work.EdgeWork.{EdgeWork}
+use Rattle.edge_parts.specs.declared.statement_tests.StatementTests.{StatementTests}
+use Rattle.edge_parts.specs.declared.work.EdgeWork.{EdgeWork}
 use Rattle.graph_runs.specs.Places.{no_edge}
 use Rattle.graph_runs.specs.Sources.{IsSourceGraph}
 use Rattle.data_laws.specs.Statements.{IsFound}

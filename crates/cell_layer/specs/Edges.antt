@@ -5,7 +5,7 @@ use Rattle.cob_tree.specs.declared.fault.Kind.{Kind}
 use Rattle.cob_program.specs.Act.{Stmt, Program}
 use Rattle.cob_runs.specs.declared.action.Action.{Action}
 use Rattle.cob_runs.specs.declared.action.Cell.{Cell}
-use Rattle.edge_amounts.specs.PartView.{edge_parts}
+use Rattle.edge_parts.specs.PartView.{edge_parts}
 use Rattle.interval_domain.specs.Known.{Known}
 use Rattle.interval_domain.specs.Elements.{Element, CellsFit}
 use Rattle.interval_domain.specs.Rows.{cells_of}

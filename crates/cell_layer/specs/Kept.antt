@@ -4,11 +4,11 @@ use Rattle.std.specs.Option.{option_map_or}
 use Rattle.cob_program.specs.Values.{◌>>=◌}
 use Rattle.cob_program.specs.Act.{Stmt, Program}
 use Rattle.cob_runs.specs.declared.action.Action.{Action}
-use Rattle.edge_amounts.specs.PartView.{edge_parts}
+use Rattle.edge_parts.specs.PartView.{edge_parts}
 use Rattle.interval_domain.specs.Known.{Known, joined_known}
 use Rattle.interval_domain.specs.Rows.{cells_of}
 use Rattle.cell_steps.specs.Seen.{Seen}
-use Rattle.cell_layer.specs.declared.kept.Kept.{Kept}
+use Rattle.cell_layer.specs.declared.edge.kept.Kept.{Kept}
 use Rattle.cell_layer.specs.NumberedStatements.{act_in}
 use Rattle.cell_layer.specs.Walks.{step_small}
 use Rattle.cell_layer.specs.Latest.{Latest, latest_behind}

@@ -18,7 +18,7 @@ use Rattle.cell_steps.specs.OwnRanges.{owns}
 use Rattle.cell_laws.specs.Layer.{cell_flow, cell_meaning}
 use Rattle.cell_laws.proofs.Flow.{cells_flow}
 use Rattle.cell_laws.proofs.Meaning.{cells_mean}
-use Rattle.cell_layer.specs.declared.works.EdgeWorks.{EdgeWorks}
+use Rattle.cell_layer.specs.declared.layer.works.EdgeWorks.{EdgeWorks}
 use Rattle.cell_layer.specs.Held.{IsHeld}
 
 -- ---- thresholds

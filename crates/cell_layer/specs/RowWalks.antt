@@ -3,7 +3,7 @@ use Rattle.std.specs.Prelude.{◌≡◌}
 use Rattle.cob_program.specs.ActView.{plain_act, plain_program}
 use Rattle.cob_program.specs.Act.{Act, Program}
 use Rattle.cell_steps.specs.Seen.{Seen}
-use Rattle.cell_layer.specs.declared.row_walk.Walk.{Walk}
+use Rattle.cell_layer.specs.declared.edge.row_walk.Walk.{Walk}
 use Rattle.cell_layer.specs.Kept.{seen, latest_of}
 use Rattle.cell_layer.specs.Latest.{Latest}
 use Rattle.cell_layer.specs.Walks.{CanStep}

@@ -2,7 +2,7 @@
 use Rattle.std.specs.Prelude.{◌≡◌, ℕ, List, map, Contains}
 use Rattle.cob_program.specs.ActView.{plain_stmt}
 use Rattle.cob_program.specs.Act.{Stmt}
-use Rattle.edge_amounts.specs.declared.statement_tests.StatementTests.{StatementTests}
+use Rattle.edge_parts.specs.declared.statement_tests.StatementTests.{StatementTests}
 use Rattle.cell_layer.specs.NumberedStatements.{number_in}
 
 -- a statement whose simple conditions are listed

@@ -7,7 +7,7 @@ use Rattle.transfer_ranges.specs.declared.amounts.Taken as ranges
 use Rattle.transfer_ranges.specs.Operands.{taken_sum}
 use Rattle.interval_domain.specs.Known.{Known}
 use Rattle.cell_steps.specs.Stores.{range_at}
-use Rattle.cell_layer.specs.declared.scales.Taken.{Taken}
+use Rattle.cell_layer.specs.declared.row.scales.Taken.{Taken}
 
 -- the scale of what divides is 0 where nothing does
 abbrev pub with_scales : ranges.Taken → Taken

@@ -14,7 +14,7 @@ use Rattle.sum_ranges.specs.Working.{AreBounded}
 use Rattle.transfer_ranges.specs.declared.amounts.Taken.{Taken}
 use Rattle.interval_domain.specs.Elements.{CellsFit}
 use Rattle.cell_steps.specs.OwnRanges.{owns}
-use Rattle.cell_steps.specs.Operands.{edge_operands}
+use Rattle.transfer_ranges.specs.EdgeOperands.{edge_operands}
 use Rattle.cell_steps.specs.Seen.{Seen}
 use Rattle.cell_steps.specs.Stores.{taking, stored}
 use Rattle.cell_steps.specs.Steps.{after_bytes, after_count, step}

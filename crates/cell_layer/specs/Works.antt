@@ -9,8 +9,8 @@ use Rattle.cob_runs.specs.Effects.{act_at}
 use Rattle.cob_graph.specs.declared.graph.Edge.{Edge}
 use Rattle.cob_graph.specs.declared.graph.Graph.{Graph}
 use Rattle.cob_edge_parts.specs.Parts.{Part}
-use Rattle.edge_amounts.specs.PartView.{plain_part}
-use Rattle.edge_amounts.specs.declared.work.EdgeWork.{EdgeWork}
+use Rattle.edge_parts.specs.PartView.{plain_part}
+use Rattle.edge_parts.specs.declared.work.EdgeWork.{EdgeWork}
 use Rattle.graph_runs.specs.Places.{no_edge}
 use Rattle.cell_laws.specs.Layer.{left}
 use Rattle.cell_layer.specs.NumberedStatements.{number_in, act_in}

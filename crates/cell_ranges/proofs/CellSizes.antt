@@ -27,19 +27,19 @@ text_within : (place n : ℕ) (b : Bool) → nat_le n 18 ≡ b → (if b then of
 text_within place n true e is = leb-true n 18 e
 text_within place n false e is = absurd (cc)
 
-form_within : (place bytes : ℕ) (f : Form) → IsWellFormedForm f bytes → home_of place f ≡ of_item place ∷ [] → IsWithin (cell_of_form place f)
-form_within place bytes form.Group h is = absurd (cc)
-form_within place bytes (form.Text n) h is = (text_within place n (nat_le n 18) refl is, omega arith)
-form_within place bytes (form.Number digits scale signed usage) h is =
+form_within : (place bytes times : ℕ) (f : Form) → IsWellFormedForm f bytes → home_of place f ≡ of_item place ∷ [] → IsWithin (cell_of_form place f times)
+form_within place bytes times form.Group h is = absurd (cc)
+form_within place bytes times (form.Text n) h is = (text_within place n (nat_le n 18) refl is, omega arith)
+form_within place bytes times (form.Number digits scale signed usage) h is =
     let most = h.number.at_most_18 in let fewer = h.decimals in (most, omega (arith, most, fewer))
-form_within place bytes (form.Edited picture digits scale) h is = absurd (cc)
+form_within place bytes times (form.Edited picture digits scale) h is = absurd (cc)
 
 module _ (p : Program) where
   item_within : (place : ℕ) (o : Option Item) → IfSome o (IsWellFormedItem p.layout) →
       home_of place (option_map_or (λ (i : Item). i.form) o form.Group) ≡ of_item place ∷ [] →
-      IsWithin (cell_of_form place (option_map_or (λ (i : Item). i.form) o form.Group))
+      IsWithin (cell_of_form place (option_map_or (λ (i : Item). i.form) o form.Group) (option_map_or (λ (i : Item). i.times) o 1))
   item_within place None well is = absurd (cc)
-  item_within place (Some i) well is = form_within place i.length i.form well.form is
+  item_within place (Some i) well is = form_within place i.length i.times i.form well.form is
 
   home_within : All (IsWellFormedItem p.layout) p.layout.items → (h : Home) → IsHomeOf p h → IsWithin (cell_of_home p.layout h)
   home_within items (of_item place) is =

@@ -21,13 +21,17 @@ use Rattle.cob_program.specs.Act as act
 use Rattle.cob_runs.specs.declared.action.Action.TheVariants as action
 use Rattle.interval_domain.specs.Corners.{interval}
 use Rattle.interval_domain.specs.Known.{Known}
+use Rattle.cob_edge_parts.specs.Parts.{subscript, index}
+use Rattle.cell_steps.specs.Seen.{Seen, beginning, with_zero}
+use Rattle.cell_steps.specs.Steps.{step}
+use Rattle.cell_steps.specs.Clearing.{clears_part}
 use Rattle.cell_steps.specs.Edges.{post_cells, clears_edge}
 
 -- ---- A PIC 9, B PIC S99, C PIC 9V9, D PIC 999, X PIC XXX over D, E PIC Z9, T PIC X(20), and PERFORM .. A TIMES
 
 abbrev item_of : ℕ → ℕ → Form → Item
 item_of offset length f =
-    record { name = Some (65 ∷ []); offset = offset; length = length; form = f; parent = None; line = 5; value = None }
+    record { name = Some (65 ∷ []); offset = offset; length = length; times = 1; stride = 0; form = f; parent = None; line = 5; value = None }
 
 abbrev loop : Act
 loop = perform (range 0 0) (times (sender.Item 0))
@@ -332,3 +336,103 @@ count_may_exceed = refl
 
 count_fits : clears_edge program 1 loop action.Down (cells any any any any any (to (pos 1) (pos 9))) kind.Size ≡ true
 count_fits = refl
+
+-- ---- subscripts
+
+-- DIVIDE D BY B GIVING D REMAINDER D ON SIZE ERROR, of which parts are tried
+abbrev dividing : Act
+dividing = worked (over (item 3) (item 1)) (target 3 how.Whole Trunc ∷ []) (Some 3) (given no_stmts)
+
+abbrev of_a : Known → List Known
+of_a a = cells a any any any any any
+
+abbrev failed : List Known → Seen
+failed cells = record { cells = cells; written = false; common = None; may_zero = false; any_fail = true }
+
+-- A is read, and names one of five occurrences
+a_is_read : step program dividing action.Size (subscript false 0) (beginning (of_a any)) ≡ Some (beginning (of_a (to (pos 0) (pos 9))))
+a_is_read = refl
+
+a_names_one : step program dividing action.Size (index false 0 5) (beginning (of_a (to (pos 0) (pos 9)))) ≡ Some (beginning (of_a (to (pos 1) (pos 5))))
+a_names_one = refl
+
+a_names_none : step program dividing action.Size (index false 0 5) (beginning (of_a (to (pos 6) (pos 9)))) ≡ None
+a_names_none = refl
+
+-- where the turn may not come A stays what it was: behind a divisor that may be 0, and of a remainder
+zero_may_stop_it : step program dividing action.Size (index false 0 5) (with_zero (beginning (of_a (to (pos 6) (pos 9)))) true)
+    ≡ Some (with_zero (beginning (of_a (to (pos 6) (pos 9)))) true)
+zero_may_stop_it = refl
+
+failure_may_stop_it : step program dividing action.Size (index true 0 5) (failed (of_a (to (pos 0) (pos 9)))) ≡ Some (failed (of_a (to (pos 0) (pos 9))))
+failure_may_stop_it = refl
+
+failure_stops_remainders_alone : step program dividing action.Size (index false 0 5) (failed (of_a (to (pos 0) (pos 9)))) ≡ Some (failed (of_a (to (pos 1) (pos 5))))
+failure_stops_remainders_alone = refl
+
+-- it is asked also where its turn may not come
+names_one_of_five : clears_part program dividing action.Size (index true 0 5) (failed (of_a (to (pos 1) (pos 5)))) kind.Subscript ≡ true
+names_one_of_five = refl
+
+may_be_zeroth : clears_part program dividing action.Size (index true 0 5) (failed (of_a (to (pos 0) (pos 5)))) kind.Subscript ≡ false
+may_be_zeroth = refl
+
+may_be_beyond : clears_part program dividing action.Size (index false 0 5) (beginning (of_a (to (pos 1) (pos 6)))) kind.Subscript ≡ false
+may_be_beyond = refl
+
+unknown_may_be_zeroth : clears_part program dividing action.Size (index false 0 9) (beginning (of_a any)) kind.Subscript ≡ false
+unknown_may_be_zeroth = refl
+
+may_not_be_numeric : clears_part program dividing action.Size (subscript false 0) (beginning (of_a any)) kind.Class ≡ false
+may_not_be_numeric = refl
+
+no_other_fault : clears_part program dividing action.Size (index false 0 5) (beginning (of_a any)) kind.Class ≡ true
+no_other_fault = refl
+
+-- ---- A PIC 9, a table of three rows with E PIC 9 and F PIC 9 in each, and R PIC 99 over its second row
+
+abbrev digit : Form
+digit = form.Number 1 0 false usage.Display
+
+abbrev in_row : ℕ → Item
+in_row offset =
+    record { name = Some (69 ∷ []); offset = offset; length = 1; times = 3; stride = 2; form = digit; parent = None; line = 5; value = None }
+
+abbrev tables : Program
+tables = record {
+  layout = record {
+    items = item_of 0 1 digit ∷ in_row 1 ∷ in_row 2 ∷ item_of 3 2 (form.Number 2 0 false usage.Display) ∷ [];
+    flags = [];
+    files = [];
+    storage = 7;
+  };
+  paras = [];
+  statements = 1;
+}
+
+-- MOVE A TO E: one occurrence is new, and the others stay; F lies beside it, and R over one of them
+stored_in_one : post_cells tables 1 (act.move (sender.Item 0) (1 ∷ [])) action.Assign (to (pos 5) (pos 5) ∷ to (pos 1) (pos 2) ∷ to (pos 3) (pos 3) ∷ to (pos 10) (pos 10) ∷ [])
+    ≡ Some (to (pos 5) (pos 5) ∷ to (pos 1) (pos 5) ∷ to (pos 3) (pos 3) ∷ any ∷ [])
+stored_in_one = refl
+
+stored_beside_unknown : post_cells tables 1 (act.move (sender.Item 0) (1 ∷ [])) action.Assign (to (pos 5) (pos 5) ∷ any ∷ any ∷ any ∷ [])
+    ≡ Some (to (pos 5) (pos 5) ∷ any ∷ any ∷ any ∷ [])
+stored_beside_unknown = refl
+
+-- MOVE A TO R: both columns have bytes of it
+stored_over_a_row : post_cells tables 1 (act.move (sender.Item 0) (3 ∷ [])) action.Assign (to (pos 5) (pos 5) ∷ to (pos 1) (pos 2) ∷ to (pos 3) (pos 3) ∷ any ∷ [])
+    ≡ Some (to (pos 5) (pos 5) ∷ any ∷ any ∷ to (pos 5) (pos 5) ∷ [])
+stored_over_a_row = refl
+
+-- ADD E TO A: one occurrence is read
+read_of_one : post_cells tables 1 (worked (alone (item 1)) (target 0 how.Plus Trunc ∷ []) None left_out) action.Done (to (pos 1) (pos 2) ∷ any ∷ any ∷ any ∷ [])
+    ≡ Some (to (pos 1) (pos 9) ∷ any ∷ any ∷ any ∷ [])
+read_of_one = refl
+
+-- E < 5, and E NUMERIC
+below_in_one : post_cells tables 1 (when (numbers (alone (item 1)) rel.Less (alone (number (numeral (53 ∷ [])))))) (action.True 0) (any ∷ to (pos 1) (pos 8) ∷ any ∷ any ∷ [])
+    ≡ Some (any ∷ to (pos 1) (pos 8) ∷ any ∷ any ∷ [])
+below_in_one = refl
+
+numeric_in_one : post_cells tables 1 (when (numeric 1)) (action.True 0) (any ∷ any ∷ any ∷ any ∷ []) ≡ Some (any ∷ any ∷ any ∷ any ∷ [])
+numeric_in_one = refl

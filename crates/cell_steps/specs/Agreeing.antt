@@ -26,7 +26,7 @@ use Rattle.cob_graph.specs.Homes.{homes_of}
 use Rattle.cell_steps.specs.Storages.{storage, StandsIn}
 use Rattle.cell_steps.specs.Premises.{HasSoundItems}
 use Rattle.interval_domain.specs.Known.{Known}
-use Rattle.cell_steps.specs.Operands.{edge_amount, edge_operands, amount_of}
+use Rattle.transfer_ranges.specs.EdgeOperands.{edge_amount, edge_operands, amount_of}
 use Rattle.cell_steps.specs.Seen.{Seen}
 use Rattle.cell_steps.specs.Stores.{range_at, handled, keeps_receiver}
 use Rattle.cell_steps.specs.Steps.{step}

@@ -1,7 +1,10 @@
 -- Changes of what is known of cells.
-use Rattle.std.specs.Prelude.{ℕ, ◌+◌, nat_le, not, ◌||◌, if◌then◌else◌, Bool, false, List, ◌∷◌, Some, None, is_some}
+use Rattle.std.specs.Prelude.{ℕ, ◌==◌, not, if◌then◌else◌, Bool, false, List, ◌∷◌, Some, None, is_some}
 use Rattle.std.specs.Option.{option_map_or}
+use Rattle.cob_data.specs.declared.extent.Extent.{Extent}
 use Rattle.cob_data.specs.declared.layout.Layout.{Layout}
+use Rattle.cob_data.specs.Extents.{share_extents}
+use Rattle.cob_data.specs.Occurrences.{extent_of}
 use Rattle.cob_runs.specs.Contents.{item_at, form_at, scale_of}
 use Rattle.interval_domain.specs.declared.bounds.Interval.{Interval}
 use Rattle.sum_ranges.specs.declared.ranged.Ranged.{Ranged}
@@ -12,6 +15,10 @@ use Rattle.cob_graph.specs.declared.homes.Home.TheVariants.{Item as of_item, Cou
 use Rattle.cob_graph.specs.Homes.{is_home}
 use Rattle.cell_steps.specs.OwnRanges.{home_range}
 use Rattle.cell_steps.specs.Storages.{known_of}
+
+-- The item is a table's: an OCCURS stands in its entry or above it, also where that counts one occurrence.
+abbrev pub is_table : Layout → ℕ → Bool
+is_table l place = option_map_or (λ i. not (i.stride == 0)) (item_at l place) false
 
 -- whether a home is known to have a number, which none without a cell is
 abbrev pub is_known : List Home → List Known → Home → Bool
@@ -47,14 +54,17 @@ abbrev pub forgotten : (Home → Bool) → List Home → List Known → List Kno
 forgotten is_gone (h ∷ hs) (c ∷ cs) = (if is_gone h then None else c) ∷ forgotten is_gone hs cs
 forgotten is_gone _ cs = cs
 
--- two ranges of bytes, each an offset and a length, have a byte in common
-abbrev pub share_bytes : ℕ → ℕ → ℕ → ℕ → Bool
-share_bytes offset count from many = not (nat_le (from + many) offset || nat_le (offset + count) from)
+-- ---- bytes in common
 
-abbrev pub is_in_bytes : Layout → ℕ → ℕ → Home → Bool
-is_in_bytes l offset count (of_item place) = option_map_or (λ i. share_bytes offset count i.offset i.length) (item_at l place) false
-is_in_bytes l offset count (of_count statement) = false
+-- an occurrence of the home has bytes of an occurrence of the extent; a counter has none
+abbrev pub is_in_extent : Layout → Extent → Home → Bool
+is_in_extent l e (of_item place) = option_map_or (λ i. share_extents e (extent_of i)) (item_at l place) false
+is_in_extent l e (of_count statement) = false
 
--- bytes of the item's are the home's too
+-- a range of bytes, by its offset and its length
+abbrev pub bytes_from : ℕ → ℕ → Extent
+bytes_from offset count = record { offset = offset; length = count; times = 1; stride = 0 }
+
+-- an occurrence of the home has bytes of one of the item's
 abbrev pub is_beside : Layout → ℕ → Home → Bool
-is_beside l place h = option_map_or (λ i. is_in_bytes l i.offset i.length h) (item_at l place) false
+is_beside l place h = option_map_or (λ i. is_in_extent l (extent_of i) h) (item_at l place) false

@@ -2,7 +2,6 @@ pub mod OwnRanges
 pub mod Storages
 pub mod Premises
 pub mod Cells
-pub mod Operands
 pub mod Seen
 pub mod Stores
 pub mod Steps

@@ -1,8 +1,8 @@
 -- What is known of cells, and the storages of which it is true.
-use Rattle.std.specs.Prelude.{◌≡◌, ℕ, List, ◌∷◌, length, Option, Some, None, ℤ, if◌then◌else◌}
+use Rattle.std.specs.Prelude.{◌≡◌, ◌<◌, ℕ, List, ◌∷◌, length, Option, Some, None, ℤ, if◌then◌else◌}
 use Rattle.cob_data.specs.declared.layout.Layout.{Layout}
 use Rattle.cob_program.specs.Act.{Program}
-use Rattle.cob_runs.specs.Contents.{form_at, bytes_at}
+use Rattle.cob_runs.specs.Contents.{form_at, times_at, occurrence_bytes}
 use Rattle.cob_edge_parts.specs.Meaning.{count_in}
 use Rattle.num_bytes.specs.Reading.{contents_value}
 use Rattle.interval_domain.specs.Bounds.{Holds}
@@ -22,10 +22,15 @@ known_of _ _ home = None
 abbrev pub storage : List ℕ → List (Option ℤ) → Storage
 storage bytes counters = record { bytes = bytes; counters = counters }
 
--- the number of a cell in its units, if it has one
-abbrev pub value_at : Layout → Storage → Home → Option ℤ
-value_at l s (of_item place) = contents_value (form_at l place) (bytes_at l s.bytes place)
-value_at l s (of_count statement) = count_in s.counters statement
+-- how many occurrences a home has; they are numbered from 0, and a counter is one
+abbrev pub occurrences_of : Layout → Home → ℕ
+occurrences_of l (of_item place) = times_at l place
+occurrences_of l (of_count statement) = 1
+
+-- the number of an occurrence in units of its cell, if it has one
+abbrev pub value_at : Layout → Storage → Home → ℕ → Option ℤ
+value_at l s (of_item place) n = contents_value (form_at l place) (occurrence_bytes l s.bytes place n)
+value_at l s (of_count statement) n = count_in s.counters statement
 
 -- where something is known there is a number, and it lies in the interval
 abbrev pub KnownStands : Known → Option ℤ → Type 0
@@ -33,12 +38,16 @@ KnownStands None v = Unit {0}
 KnownStands (Some i) None = ⊥
 KnownStands (Some i) (Some v) = Holds i v
 
+-- it is true of each of a home's occurrences
+abbrev pub HomeStands : Layout → Storage → Known → Home → Type 0
+HomeStands l s c h = (n : ℕ) → n < occurrences_of l h → KnownStands c (value_at l s h n)
+
 -- What is known of each home is true of the storage. Storage has its length, and each TIMES a number, without which what
 -- is unknown couldn't be a number of its own range.
 pub record StandsIn (p : Program) (cells : List Known) (s : Storage) : Type 0 where
   pub whole : length s.bytes ≡ p.layout.storage
   pub counted : IsCounted p s.counters
-  pub known : (h : Home) → KnownStands (known_of (homes_of p) cells h) (value_at p.layout s h)
+  pub known : (h : Home) → HomeStands p.layout s (known_of (homes_of p) cells h) h
 
 abbrev pub ElementStands : Program → Element → Storage → Type 0
 ElementStands p None s = ⊥

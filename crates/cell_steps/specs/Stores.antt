@@ -12,34 +12,40 @@ use Rattle.cob_runs.specs.declared.action.Action.{Action}
 use Rattle.cob_runs.specs.Contents.{form_at}
 use Rattle.cob_edge_parts.specs.Parts.{Amount, is_handled}
 use Rattle.sum_ranges.specs.declared.ranged.Ranged.{Ranged}
-use Rattle.transfer_ranges.specs.declared.amounts.Taken.{Taken}
 use Rattle.transfer_ranges.specs.declared.amounts.AmountRange.{AmountRange}
 use Rattle.transfer_ranges.specs.Receivers.{receiver_of}
 use Rattle.transfer_ranges.specs.ResultRanges as result
-use Rattle.interval_domain.specs.Known.{Known}
+use Rattle.interval_domain.specs.Known.{Known, joined_known}
 use Rattle.interval_domain.specs.Elements.{Element, joined_element}
 use Rattle.cob_graph.specs.declared.homes.Home.TheVariants.{Item as of_item}
 use Rattle.cob_graph.specs.Homes.{homes_of}
 use Rattle.cell_steps.specs.Cells as cells
-use Rattle.cell_steps.specs.Cells.{with_known, forgotten, is_beside}
-use Rattle.cell_steps.specs.Operands.{edge_operands, operands_vanish, amount_of, may_divide_by_zero, is_remainder}
+use Rattle.cell_steps.specs.Cells.{is_table, with_known, forgotten, is_beside}
+use Rattle.cell_steps.specs.Storages.{known_of}
+use Rattle.transfer_ranges.specs.EdgeOperands.{edge_operands, operands_vanish, amount_of, is_remainder}
+use Rattle.transfer_ranges.specs.Working.{may_vanish}
 use Rattle.cell_steps.specs.Seen.{Seen}
 
 -- ---- what is known behind a store
 
--- an edited item has no cell
-abbrev pub stored_known : Form → Interval → Known
-stored_known (form.Number digits scale signed kept) new = Some new
-stored_known _ new = None
+-- Of a table's item one occurrence is new, and the others stay. An edited item has no cell.
+abbrev pub stored_known : Bool → Form → Known → Interval → Known
+stored_known table (form.Number digits scale signed kept) old new = if table then joined_known old (Some new) else Some new
+stored_known table _ old new = None
 
 module _ (p : Program) where
   abbrev pub range_at : List Known → ℕ → Ranged
   range_at known place = cells.range_at p.layout (homes_of p) known place
 
+  -- what is known of the item itself behind a store into one of its occurrences
+  abbrev pub receiver_known : ℕ → List Known → Interval → Known
+  receiver_known place known new =
+      stored_known (is_table p.layout place) (form_at p.layout place) (known_of (homes_of p) known (of_item place)) new
+
   -- The item is known so, and what has bytes of it is forgotten.
   abbrev pub stored_cells : ℕ → List Known → Interval → List Known
   stored_cells place known new =
-      with_known (of_item place) (stored_known (form_at p.layout place) new) (homes_of p)
+      with_known (of_item place) (receiver_known place known new) (homes_of p)
       (forgotten (is_beside p.layout place) (homes_of p) known)
 
 -- what is kept, if the store may fail, and what is stored, if it may fit
@@ -68,10 +74,6 @@ has_one_receiver _ = false
 -- An edge to the list of ON SIZE ERROR, where a statement has one receiver: what failed is that one, and it keeps its value.
 abbrev pub keeps_receiver : Act → Action → Bool
 keeps_receiver a x = is_handled a x && has_one_receiver a
-
--- what divides may be 0
-abbrev pub may_vanish : Option Taken → Amount → Bool
-may_vanish common amount = option_map_or (may_divide_by_zero amount) common true
 
 -- An edge of a program's graph: what its node's statement does, and which of the statement's edges it is.
 module _ (p : Program) (a : Act) (x : Action) where

@@ -95,7 +95,12 @@ module _ (g : Graph) (clears : ℕ → Kind → Bool) where
   kind_there statement kind.Class h =
       Contains-append_right (opens statement kind.Size) _ _
       (Contains-append_right (opens statement kind.Truncation) _ _
-      (Contains-append_right (opens statement kind.Zero) _ _ (Contains-append_left (opens statement kind.Class) [] _ h)))
+      (Contains-append_right (opens statement kind.Zero) _ _ (Contains-append_left (opens statement kind.Class) _ _ h)))
+  kind_there statement kind.Subscript h =
+      Contains-append_right (opens statement kind.Size) _ _
+      (Contains-append_right (opens statement kind.Truncation) _ _
+      (Contains-append_right (opens statement kind.Zero) _ _
+      (Contains-append_right (opens statement kind.Class) _ _ (Contains-append_left (opens statement kind.Subscript) [] _ h))))
 
   pub open_or_cleared : (statements statement : ℕ) (fault : Kind) → 1 ≤ statement → statement ≤ statements →
       Contains (pairs_by g clears statements) (open_at statement fault) ⊎ (is_cleared_by g clears statement fault ≡ true)

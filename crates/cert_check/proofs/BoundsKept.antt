@@ -34,8 +34,8 @@ use Rattle.cert_text.proofs.Allowing.{claims_fit_there}
 use Rattle.diff_steps.specs.Packs.{Pack, size_of}
 use Rattle.pack_laws.specs.Layer.{AreFacts, ArePacks, sizes_of, diff_lattice, diff_flow, diff_meaning, packs_post}
 use Rattle.pack_laws.specs.Packs.{home_at, pack_in}
-use Rattle.pack_laws.proofs.Packed.{HasDistinctHomes}
-use Rattle.pack_laws.proofs.Distinct.{homes_of_sources_are_distinct}
+use Rattle.pack_laws.proofs.Packed.{HasDistinctHomes, HasPlainItems}
+use Rattle.pack_laws.proofs.Distinct.{homes_of_sources_are_distinct, sources_have_no_tables}
 use Rattle.pack_laws.proofs.Flow.{packs_flow}
 use Rattle.pack_laws.proofs.Meaning.{packs_mean}
 use Rattle.dom_laws.specs.Leaks.{Keeps, IsFirstLeak}
@@ -121,10 +121,13 @@ module _ (p : Program) (g : Graph) (c : Certificate) where
     distinct : HasDistinctHomes p
     distinct j k h e f = ∥∥₁_elim source (hlevel props) (λ s. homes_of_sources_are_distinct p g s j k h e f)
 
+    plain : HasPlainItems p.layout
+    plain place = ∥∥₁_elim source (hlevel props) (λ s. sources_have_no_tables p g s place)
+
     pub are_packs : ArePacks p packs lists
     are_packs = record {
-      cells = packs_are_of p c.cells (shape.cells ∙ sym (homes_many p)) distinct c.packs allowed.each_pack;
-      few = packs_are_few p c.cells (shape.cells ∙ sym (homes_many p)) distinct c.packs allowed.each_pack;
+      cells = packs_are_of p c.cells (shape.cells ∙ sym (homes_many p)) distinct plain c.packs allowed.each_pack;
+      few = packs_are_few p c.cells (shape.cells ∙ sym (homes_many p)) distinct plain c.packs allowed.each_pack;
       listed = listed ∙ sym (length-map c.packs (pack_in (homes_of p)));
     }
 

@@ -16,7 +16,7 @@ use Rattle.cert_text.specs.View.{Place, NotReached, Holds, place_of}
 use Rattle.cert_text.specs.Allowed.{bounds_fit, cells_rise, claims_fit, no_key, pack_fits, packs_fit, place_fits, places_all_fit}
 use Rattle.cert_text.specs.MatrixClaims.{HasFittingBounds, cells_in}
 use Rattle.pack_laws.specs.Packs.{pack_in, packs_in, AreRisingNumbers, ArePacksOfCells}
-use Rattle.pack_laws.proofs.Packed.{HasDistinctHomes, is_pack, few_cells}
+use Rattle.pack_laws.proofs.Packed.{HasDistinctHomes, HasPlainItems, is_pack, few_cells}
 use Rattle.cert_check.specs.Given.{AreEmptyLists}
 
 -- ---- rising numbers
@@ -70,19 +70,20 @@ module _ (cells : ℕ) where
 
 -- ---- packs of homes
 
-module _ (p : Program) (cells : ℕ) (many : cells ≡ length (homes_of p)) (distinct : HasDistinctHomes p) where
+module _ (p : Program) (cells : ℕ) (many : cells ≡ length (homes_of p)) (distinct : HasDistinctHomes p)
+    (plain : HasPlainItems p.layout) where
   pub packs_are_of : (packs : List (List ℕ)) → packs_fit cells packs ≡ true → ArePacksOf p (map (pack_in (homes_of p)) packs)
   packs_are_of [] e = tt
   packs_are_of (ns ∷ packs) e =
       let both = and_parts (pack_fits cells ns) (packs_fit cells packs) e in
-      (is_pack p cells many distinct ns (are_rising cells ns both.0), packs_are_of packs both.1)
+      (is_pack p cells many distinct plain ns (are_rising cells ns both.0), packs_are_of packs both.1)
 
   pub packs_are_few : (packs : List (List ℕ)) → packs_fit cells packs ≡ true →
       AllByRecursion (λ pack. size_of pack ≤ 8) (map (pack_in (homes_of p)) packs)
   packs_are_few [] e = tt
   packs_are_few (ns ∷ packs) e =
       let both = and_parts (pack_fits cells ns) (packs_fit cells packs) e in
-      (few_cells p cells many distinct ns (are_rising cells ns both.0), packs_are_few packs both.1)
+      (few_cells p cells many distinct plain ns (are_rising cells ns both.0), packs_are_few packs both.1)
 
 -- ---- packs as the code has them
 

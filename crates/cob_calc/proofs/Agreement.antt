@@ -16,7 +16,7 @@ use Rattle.cob_calc.specs.Contents.{Contents, amount, amount_at}
 use Rattle.cob_calc.specs.Exact.{fraction_of, quotient_if, exact_root, exact_from, exact_value}
 use Rattle.cob_calc.specs.declared.exact.Exact.TheVariants as exact
 use Rattle.cob_calc.specs.Receiving.{rest_of}
-use Rattle.cob_calc.proofs.RootLemmas.{root_more, root_many}
+use Rattle.cob_program.proofs.Roots.{root_more, root_many}
 use Rattle.dec_num.specs.Scaled.{value_of}
 use Rattle.cob_calc.specs.Arithmetic.{are_numbers}
 

@@ -11,9 +11,10 @@ use Rattle.cob_data.specs.declared.layout.Item.{Item}
 use Rattle.cob_data.specs.declared.layout.Layout.{Layout}
 use Rattle.num_bytes.specs.Reading.{contents_value}
 use Rattle.cob_program.specs.Bounds.{of_digits, form_bound, is_small, IsWithin}
-use Rattle.cob_runs.specs.Contents.{area, form_at, scaled_by}
+use Rattle.cob_runs.specs.Contents.{area, item_at, form_at, scaled_by}
 use Rattle.cob_runs.specs.Moves.{takes_number}
 use Rattle.cob_store.specs.WellFormed.{IsWellFormedForm, IsWellFormedItem, HasWellFormedItems}
+use Rattle.cob_store.proofs.Parts.{first_within}
 use Rattle.cob_store.proofs.ReadBound.{read_within}
 use Rattle.cob_calc.specs.Contents.{Contents, IsWellFormed, amount, amount_at, bound_at, IsBounded}
 
@@ -37,15 +38,25 @@ pub sound_item : (l : Layout) (place : ℕ) (i : Item) → HasWellFormedItems l 
 sound_item l place i sound e =
     subst (IsWellFormedItem l) (get_or_from_slice_get l.items place i i e) (sound.items place i (slice_get_within l.items place i e))
 
+-- its bytes lie within storage,
+pub held_within : (c : Contents) (place : ℕ) (i : Item) → IsWellFormed c → item_at c.layout place ≡ Some i → i.offset + i.length ≤ length c.storage
+held_within c place i sound e =
+    let h = first_within c.layout i (sound_item c.layout place i sound.items e) in
+    omega (arith, h, sound.whole)
+
+-- and are those of its form
+pub held_formed : (c : Contents) (place : ℕ) (i : Item) → IsWellFormed c → item_at c.layout place ≡ Some i →
+    IsWellFormedForm i.form (length (area c.storage i.offset i.length))
+held_formed c place i sound e =
+    let h = sound_item c.layout place i sound.items e in
+    rw (length-area c.storage i.offset i.length (held_within c place i sound e)) h.form
+
 pub bounded : (c : Contents) → IsWellFormed c → IsBounded c
 bounded c sound place = go (slice_get c.layout.items place) refl
   where
     go : (o : Option Item) → slice_get c.layout.items place ≡ o → IsWithin (amount_at c place) (bound_at c.layout place)
     go None e = rw e (record { most = omega arith; scale = refl })
-    go (Some i) e =
-        let h = sound_item c.layout place i sound.items e in
-        let bytes = length-area c.storage i.offset i.length (omega (arith, h.within, sound.whole)) in
-        rw e (amount_within i.form (area c.storage i.offset i.length) (rw bytes h.form))
+    go (Some i) e = rw e (amount_within i.form (area c.storage i.offset i.length) (held_formed c place i sound e))
 
 -- ---- receivers
 

@@ -1,7 +1,6 @@
 pub mod NumberLemmas
 pub mod Within
 pub mod Bounded
-pub mod SumLoops
 pub mod SumLemmas
 pub mod ExactLemmas
 pub mod WorkLemmas
@@ -13,5 +12,4 @@ pub mod ReceiverLemmas
 pub mod RoomLemmas
 pub mod Agreement
 pub mod RestLemmas
-pub mod RootLemmas
 pub mod OperandLemmas

@@ -10,7 +10,7 @@ use Rattle.cob_program.specs.Bounds.{IsSmall}
 use Rattle.cob_calc.specs.declared.exact.Exact.TheVariants as exact
 use Rattle.cob_calc.specs.Exact.{fraction_of}
 use Rattle.cob_calc.specs.Receiving.{cut_at, IsSmallRest}
-use Rattle.cob_calc.proofs.ExactLemmas.{near_shift}
+use Rattle.dec_num.proofs.Shifting.{near_shift}
 
 pub small_negated : (v : Scaled) → IsSmall v → IsSmall (negated true v)
 small_negated v h = record { most = omega (arith, ints, h.most); scale = h.scale }

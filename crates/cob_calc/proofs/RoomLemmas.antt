@@ -24,8 +24,8 @@ use Rattle.cob_calc.specs.Exact.{fraction_of, quotient_if, exact_from, IsSmallQu
 use Rattle.cob_calc.specs.Receiving.{is_whole, IsSmallSum, AreSmall, CanWork, cut_at, rest_at, IsSmallRest, HasSmallRest}
 use Rattle.cob_calc.specs.Arithmetic.{quotient_at, is_small_rest_at, is_small_rest, is_small_result}
 use Rattle.cob_calc.proofs.Within as within
-use Rattle.cob_calc.proofs.ExactLemmas.{near_shift}
-use Rattle.cob_calc.proofs.SumLemmas.{small_sum_bound}
+use Rattle.dec_num.proofs.Shifting.{near_shift}
+use Rattle.cob_program.proofs.SmallSums.{small_sum_bound}
 
 -- ---- results
 

@@ -1,19 +1,19 @@
 -- What a sum is worth, one step of the work after the other.
-use Rattle.std.proofs.Common.{◌≡◌, ℕ, ◌+◌, ◌-◌, ◌*◌, ◌^◌, ◌≤◌, ◌<◌, ◌&&◌, ◌==◌, ℤ, pos, inl, inr, Bool, true, false, Option, Some, None, refl, sym, ap, subst, ◌∙◌, arith}
+use Rattle.std.proofs.Common.{◌≡◌, ℕ, ◌+◌, ◌-◌, ◌*◌, ◌^◌, ◌≤◌, ◌<◌, ◌&&◌, ◌==◌, ℤ, pos, inl, inr, Bool, true, false, Some, None, refl, sym, ap, subst, ◌∙◌, arith}
 use Rattle.std.specs.Prelude.{unsigned_abs, nat_le, ◌≢◌}
 use Rattle.std.proofs.lemmas.Int.{ints}
 use Rattle.std.proofs.lemmas.Nat.{mul-le}
 use Rattle.std.proofs.lemmas.Bool.{cases_lt}
-use Rattle.std.proofs.lemmas.Bool.Decides.{nat_tests}
 use Rattle.std.proofs.Math.Nat.{le_refl}
 use Rattle.dec_num.specs.declared.types.Mode.TheVariants.{Trunc}
 use Rattle.dec_num.specs.Exact.{ratio_of, near}
 use Rattle.dec_num.proofs.Powers.{ten_monotone}
 use Rattle.dec_num.specs.declared.types.Scaled.{Scaled}
-use Rattle.cob_program.specs.Sum.{Sum, MkSum, Parts, no_parts, more_parts, Part, MkPart, Factors, no_factors, more_factors, Factor, MkFactor, Atom, item, number, group}
+use Rattle.cob_program.specs.Sum.{Parts, more_parts, Part, Factors, no_factors, more_factors, Factor, MkFactor, Atom}
 use Rattle.cob_program.specs.Values.{whole_number, negated, plus, product, quotient_scale, quotient, with_factor, ◌>>=◌, sum_from, part_value, product_from, atom_value}
-use Rattle.cob_program.specs.Bounds.{Bound, exactly, sum_bound, product_bound, quotient_bound, factor_bound, is_small, sum_most, sum_most_from, part_most, product_most_from, atom_most, is_small_sum, is_small_sum_from, is_small_part, is_small_product, is_small_atom, IsWithin, IsSmall}
+use Rattle.cob_program.specs.Bounds.{Bound, exactly, sum_bound, product_bound, quotient_bound, factor_bound, is_small, part_most, atom_most, is_small_sum_from, is_small_part, is_small_product, is_small_atom, IsWithin, IsSmall}
 use Rattle.cob_program.proofs.Steps.{some_bound, both, negated_within, whole_within, plus_within, factor_within, small_of}
+use Rattle.cob_program.proofs.SmallSums.{bind_bind, at_most, one_is_small, none_is_small, small_atom_most}
 use Rattle.cob_calc.proofs.Within.{part_within, atom_within}
 use Rattle.cob_calc.specs.Contents.{Contents, IsWellFormed, amount_at, bound_at}
 use Rattle.cob_calc.specs.Working.{CanDivide, CanScale, factor_value, HasRoom, HasRoomInSum}
@@ -21,10 +21,6 @@ use Rattle.cob_calc.proofs.NumberLemmas.{not_zero}
 use Rattle.cob_calc.proofs.Bounded.{bounded}
 
 -- ---- one factor after the other
-
-bind_bind : {A B C : Type 0} (x : Option A) (f : A → Option B) (g : B → Option C) → (x >>= λ a. f a >>= g) ≡ ((x >>= f) >>= g)
-bind_bind None f g = refl
-bind_bind (Some a) f g = refl
 
 pub factor_first : (worth : ℕ → Scaled) (a : Scaled) (f : Factor) (fs : Factors) → product_from worth a (more_factors f fs) ≡ (factor_value worth a f >>= λ b. product_from worth b fs)
 factor_first worth a (MkFactor over minus atom) fs = bind_bind (atom_value worth atom) (λ b. with_factor over a (negated minus b)) (λ b. product_from worth b fs)
@@ -40,45 +36,6 @@ sum_ends worth a p ps none = ap (λ o. o >>= λ b. sum_from worth (plus a b) ps)
 
 pub sum_goes_on : (worth : ℕ → Scaled) (a b next : Scaled) (p : Part) (ps : Parts) → Some b ≡ part_value worth p → next ≡ plus a b → sum_from worth next ps ≡ sum_from worth a (more_parts p ps)
 sum_goes_on worth a b next p ps some made = ap (λ x. sum_from worth x ps) made ∙ ap (λ o. o >>= λ b. sum_from worth (plus a b) ps) some
-
--- ---- bounds
-
-at_most : (a b : ℕ) → nat_le a b ≡ true → a ≤ b
-at_most a b e = grind (arith, nat_tests)
-
-pub one_is_small : is_small (exactly 1) ≡ true
-one_is_small = refl
-
-pub none_is_small : is_small (exactly 0) ≡ true
-none_is_small = refl
-
--- the bound of what is small so far and goes on so
-small_product_most : (bound : ℕ → Bound) (a : Bound) (fs : Factors) → is_small a ≡ true → is_small_product bound a fs ≡ true → is_small (product_most_from bound a fs) ≡ true
-small_product_most bound a no_factors s e = s
-small_product_most bound a (more_factors (MkFactor over minus atom) fs) s e =
-    let next = factor_bound over a (atom_most bound atom) in
-    let l = both (is_small_atom bound atom) (is_small next && is_small_product bound next fs) e in
-    let m = both (is_small next) (is_small_product bound next fs) l.1 in
-    small_product_most bound next fs m.0 m.1
-
-small_sum_most : (bound : ℕ → Bound) (a : Bound) (ps : Parts) → is_small a ≡ true → is_small_sum_from bound a ps ≡ true → is_small (sum_most_from bound a ps) ≡ true
-small_sum_most bound a no_parts s e = s
-small_sum_most bound a (more_parts p ps) s e =
-    let next = sum_bound a (part_most bound p) in
-    let l = both (is_small_part bound p) (is_small next && is_small_sum_from bound next ps) e in
-    let m = both (is_small next) (is_small_sum_from bound next ps) l.1 in
-    small_sum_most bound next ps m.0 m.1
-
-pub small_part_most : (bound : ℕ → Bound) (p : Part) → is_small_part bound p ≡ true → is_small (part_most bound p) ≡ true
-small_part_most bound (MkPart minus fs) e = small_product_most bound (exactly 1) fs one_is_small e
-
-pub small_atom_most : (bound : ℕ → Bound) (a : Atom) → is_small_atom bound a ≡ true → is_small (atom_most bound a) ≡ true
-small_atom_most bound (item place) e = e
-small_atom_most bound (number n) e = e
-small_atom_most bound (group (MkSum ps)) e = small_sum_most bound (exactly 0) ps none_is_small e
-
-pub small_sum_bound : (bound : ℕ → Bound) (s : Sum) → is_small_sum bound s ≡ true → is_small (sum_most bound s) ≡ true
-small_sum_bound bound (MkSum ps) e = small_sum_most bound (exactly 0) ps none_is_small e
 
 -- ---- what is left has room
 

@@ -1,15 +1,12 @@
 -- Values as they are stored: exact, and then cut or rounded to a receiver's digits.
-use Rattle.std.specs.Prelude.{◌≢◌, ℕ, ◌^◌, ◌==◌, nat_lt, if◌then◌else◌, List, map, ℤ, pos, ◌*ℤ◌, unsigned_abs, Option, Some, None, ◌&&◌, Bool}
-use Rattle.std.specs.Borrow.{Bor}
+use Rattle.std.specs.Prelude.{◌≢◌, ℕ, ◌^◌, ◌==◌, nat_lt, if◌then◌else◌, ℤ, pos, ◌*ℤ◌, unsigned_abs, Option, Some, None}
 use Rattle.dec_num.specs.declared.types.Mode.{Mode}
 use Rattle.dec_num.specs.declared.types.Scaled.{Scaled}
 use Rattle.dec_num.specs.Exact.{Fraction, ratio_of, near}
 use Rattle.dec_num.specs.Scaled.{value_of}
-use Rattle.cob_program.specs.declared.sum.Factor as declared_factor
-use Rattle.cob_program.specs.Sum.{Sum, Factors, factors_of, Factor, MkFactor}
-use Rattle.cob_program.specs.SumView.{plain_factor}
+use Rattle.cob_program.specs.Sum.{Sum}
 use Rattle.cob_program.specs.Values.{whole_number, negated, ◌>>=◌, sum_value, product_from, atom_value, Root, root_of, exact_quotient}
-use Rattle.cob_program.specs.Bounds.{Bound, exactly, is_small_product, is_small_atom, IsSmall}
+use Rattle.cob_program.specs.Bounds.{IsSmall}
 use Rattle.cob_calc.specs.declared.exact.Exact.{Exact}
 use Rattle.cob_calc.specs.declared.exact.Exact.TheVariants as exact
 
@@ -41,12 +38,6 @@ units_held digits scale mode v = held digits (near mode v (pos scale))
 
 -- ---- the last operation of a sum, where it is a quotient
 
-abbrev pub root_with : Factors → Factor → Root
-root_with above (MkFactor over minus atom) = record { above = above; minus = minus; below = atom }
-
-abbrev pub plain_root : Bor (List declared_factor.Factor) × Bor declared_factor.Factor → Root
-plain_root x = root_with (factors_of (map plain_factor x.0.now)) (plain_factor x.1.now)
-
 abbrev pub root_value : (ℕ → Scaled) → Root → Option Fraction
 root_value worth r =
     product_from worth (whole_number (pos 1)) r.above >>= λ n. atom_value worth r.below >>= λ d. exact_quotient n (negated r.minus d)
@@ -61,7 +52,3 @@ exact_from worth s (Some r) = exact_root worth r
 
 abbrev pub exact_value : (ℕ → Scaled) → Sum → Option Exact
 exact_value worth s = exact_from worth s (root_of s)
-
--- what is divided and what divides are small
-abbrev pub is_small_quotient : (ℕ → Bound) → Root → Bool
-is_small_quotient bound r = is_small_product bound (exactly 1) r.above && is_small_atom bound r.below

@@ -1,5 +1,5 @@
 -- The answer as a function, and in words.
-use Rattle.std.proofs.Common.{◌≡◌, ℕ, ◌+◌, max, min, IsTrue, ◌↔◌, ◌<◌, ◌≤◌, Bool, true, false, cond, ltb, inl, inr, List, length, Option, Some, None, Result, Ok, Err, refl, sym, ap, ◌∙◌, subst, arith}
+use Rattle.std.proofs.Common.{◌≡◌, ℕ, ◌<◌, ◌≤◌, Bool, true, false, cond, ltb, inl, inr, List, length, Option, Some, None, Result, Ok, Err, refl, sym, ap, ◌∙◌, subst, arith}
 use Rattle.std.proofs.lemmas.Bool.Decides.{nat_tests}
 use Rattle.rule_order.specs.Order.{AreKept, IsFirstBroken, first_broken}
 use Rattle.rule_order.proofs.OrderLemmas.{first_is, kept_is, is_first, is_kept}
@@ -10,12 +10,10 @@ use Rattle.cob_data.specs.declared.end.Which.TheVariants.{Nesting, Items, Storag
 use Rattle.cob_data.specs.declared.end.DataEnd.{DataEnd}
 use Rattle.cob_data.specs.declared.end.DataEnd.TheVariants.{Outside, Limit}
 use Rattle.cob_data.specs.declared.layout.Layout.{Layout}
-use Rattle.cob_data.specs.declared.layout.Item.{Item as LaidItem}
 use Rattle.cob_data.specs.declared.description.Description.{Description}
 use Rattle.cob_data.specs.declared.description.Spot.{Spot}
 use Rattle.cob_data.specs.Entries.{items_of, all_entries}
 use Rattle.cob_data.specs.Known.{AreLow, HasFewEntries}
-use Rattle.cob_data.specs.Overlaps.{Meet}
 use Rattle.cob_data.proofs.LowLemmas.{are_low}
 use Rattle.cob_data.proofs.ReadLemmas.{descriptions_length}
 use Rattle.cob_data.specs.Lengths.{forest}
@@ -157,13 +155,3 @@ pub few_as : (f : Facts) (t : Tree) → f ≡ facts_of t → HasFewEntries t.fro
 few_as f t e few =
     let same : length f.items ≡ length (items_of t.front) = ap (λ (g : Facts). length g.items) e in
     omega (arith, same, descriptions_length (all_entries t.front), few.entries)
-
--- ---- overlapping
-
-pub overlap_is : (a b : LaidItem) (r : Bool) → r ≡ ltb (max a.offset b.offset) (min (a.offset + a.length) (b.offset + b.length)) → IsTrue r ↔ Meet a b
-overlap_is a b true e =
-    let h = over (max a.offset b.offset) (min (a.offset + a.length) (b.offset + b.length)) (sym e) in
-    (λ _. (max a.offset b.offset, record { from = omega arith; to = omega (arith, h) }, record { from = omega arith; to = omega (arith, h) }), λ _. refl)
-overlap_is a b false e =
-    let h = not_over (max a.offset b.offset) (min (a.offset + a.length) (b.offset + b.length)) (sym e) in
-    (λ (x : IsTrue false). absurd (cc), λ m. absurd (omega (arith, h, m.1.from, m.1.to, m.2.from, m.2.to)))

@@ -1,3 +1,9 @@
+pub mod Blocks
+mod Examples
+pub mod OneOccurrence
+pub mod Overlapping
+pub mod ExtentStarts
+pub mod Meeting
 pub mod LengthLemmas
 pub mod SpotLemmas
 pub mod ReadLemmas

@@ -1,3 +1,5 @@
+pub mod Extents
+pub mod Occurrences
 pub mod Entries
 pub mod Reading
 pub mod Lengths

@@ -46,6 +46,8 @@ fn item_at(alloc: Global, item: &Description, spot: &Spot) -> Result<Item, Alloc
         name: copied_name(alloc, &item.name)?,
         offset: spot.start as u32,
         length: spot.length as u32,
+        times: 1,
+        stride: 0,
         form: item.form.copied(alloc)?,
         parent: spot.parent,
         line: item.line,

@@ -1,6 +1,8 @@
 //! The layout of a program's data: items, condition-names and files, and copies of them.
 ghost use Rattle.std.specs.Prelude.{◌≡◌, IfOk};
+ghost use Rattle.cob_data.specs.Occurrences.{extent_of, area_of};
 
+use crate::extent::Extent;
 use cob_tree::{Bytes, Form, Many, Name, Num};
 use std::alloc::{AllocError, Global};
 
@@ -16,13 +18,16 @@ pub enum Sender {
 }
 
 /// An item of the DATA DIVISION (ISO 1989:1985, "Data division"): a record, a group or an elementary item, FILLER
-/// among them. `offset` and `length` count bytes, from the beginning of all storage. `parent` is the group directly
-/// above it, by its place; `line` is its entry's; `value` is the constant of its VALUE.
+/// among them. `offset` and `length` count bytes, from the beginning of all storage. An item of a table has `times`
+/// occurrences, of which each starts `stride` bytes behind the one before; any other has one, and a stride of 0.
+/// `parent` is the group directly above it, by its place; `line` is its entry's; `value` is the constant of its VALUE.
 #[derive(Drop)]
 pub struct Item {
     pub name: Option<Name>,
     pub offset: u32,
     pub length: u32,
+    pub times: u32,
+    pub stride: u32,
     pub form: Form,
     pub parent: Option<u32>,
     pub line: u32,
@@ -114,6 +119,18 @@ fn copied_value(alloc: Global, value: &Option<Sender>) -> Result<Option<Sender>,
 }
 
 impl Item {
+    /// Its bytes in all its occurrences.
+    pub fn extent(&self) -> Extent
+        ensures { result ≡ extent_of self.now }
+    {
+        Extent {
+            offset: self.offset,
+            length: self.length,
+            times: self.times,
+            stride: self.stride,
+        }
+    }
+
     /// Copies the item.
     pub fn copied(&self, alloc: Global) -> Result<Item, AllocError>
         ensures { IfOk result (λ copy. copy ≡ self.now) }
@@ -122,6 +139,8 @@ impl Item {
             name: copied_name(alloc, &self.name)?,
             offset: self.offset,
             length: self.length,
+            times: self.times,
+            stride: self.stride,
             form: self.form.copied(alloc)?,
             parent: self.parent,
             line: self.line,
@@ -167,6 +186,18 @@ fn copied_places(alloc: Global, places: &[u32]) -> Result<Many<u32>, AllocError>
 }
 
 impl FileDecl {
+    /// The bytes of its record area.
+    pub fn area(&self) -> Extent
+        ensures { result ≡ area_of self.now }
+    {
+        Extent {
+            offset: self.offset,
+            length: self.length,
+            times: 1,
+            stride: 0,
+        }
+    }
+
     /// Copies the file's declaration.
     pub fn copied(&self, alloc: Global) -> Result<FileDecl, AllocError>
         ensures { IfOk result (λ copy. copy ≡ self.now) }

@@ -6,6 +6,7 @@ mod build;
 mod description;
 mod end;
 mod entry;
+mod extent;
 mod files;
 mod item_rules;
 mod laws;
@@ -21,6 +22,10 @@ mod top;
 mod values;
 
 pub use end::{DataEnd, Rule, Which};
-pub use laws::{groups_are_as_long_as_their_parts, parts_follow_each_other};
+pub use extent::{Extent, share_extents};
+pub use laws::{
+    columns_lie_apart, groups_are_as_long_as_their_parts, occurrences_lie_apart,
+    parts_follow_each_other,
+};
 pub use layout::{FileDecl, Flag, Item, Layout, Pair, Sender};
 pub use top::{layout_of, overlaps};

@@ -1,5 +1,5 @@
 //! The layout of a program, or why it has none.
-ghost use Rattle.std.specs.Prelude.{◌≡◌, ℕ, ◌≤◌, length, ◌+◌, ◌↔◌, IsTrue, IfSome};
+ghost use Rattle.std.specs.Prelude.{◌≡◌, ℕ, ◌<◌, ◌≤◌, length, ◌+◌, ◌↔◌, IsTrue, IfSome};
 ghost use Rattle.rule_order.specs.Order.{IsFirstBroken, AreKept};
 ghost use Rattle.cob_tree.specs.StmtView.{plain_tree};
 ghost use Rattle.cob_tree.specs.PrintStmt.{print_tree};
@@ -17,6 +17,7 @@ ghost use Rattle.cob_tree.specs.Limits.{token_limit};
 
 use crate::build::layout_in;
 use crate::end::DataEnd;
+use crate::extent::share_extents;
 use crate::layout::{Item, Layout};
 use crate::names::names_of;
 use crate::read::facts_of;
@@ -77,15 +78,17 @@ pub fn layout_of(alloc: Global, tree: &Tree) -> Result<Layout, DataEnd>
     laid_out(alloc, tree)
 }
 
-fn end_of(item: &Item) -> u64
-    ensures { result ≡ item.now.offset + item.now.length }
+// Whether ranges that share bytes have some.
+fn have_some(shared: bool, count: u32, many: u32) -> bool
+    ensures { IsTrue result ↔ (IsTrue shared × (0 < count) × (0 < many)) }
 {
-    u64::from(item.offset) + u64::from(item.length)
+    shared && count > 0 && many > 0
 }
 
-/// Whether some byte lies in both items.
+/// Whether some byte lies in both items, in whichever of their occurrences.
 pub fn overlaps(a: &Item, b: &Item) -> bool
     ensures { IsTrue result ↔ Meet a.now b.now }
 {
-    u64::from(a.offset.max(b.offset)) < end_of(a).min(end_of(b))
+    let shared = share_extents(&a.extent(), &b.extent());
+    have_some(shared, a.length, b.length)
 }

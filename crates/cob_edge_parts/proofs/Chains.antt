@@ -4,8 +4,9 @@ use Rattle.std.specs.Prelude.{if◌then◌else◌}
 use Rattle.cob_tree.specs.declared.fault.Kind.{Kind}
 use Rattle.cob_data.specs.declared.layout.Layout.{Layout}
 use Rattle.cob_runs.specs.Computing.{worth}
-use Rattle.cob_edge_parts.specs.Parts.{Part, read, unread, divide, store, bytes_in, guard, read_count, set_count, count_down, guard_count}
-use Rattle.cob_edge_parts.specs.Meaning.{Moment, divided_by_zero, divides_by, is_left_alone, stored_bytes, stored_or_kept, ReadsAt, Passes, PassesAll, Meets}
+use Rattle.cob_edge_parts.specs.Parts.{Part, read, unread, subscript, index, divide, store, bytes_in, guard, read_count, set_count, count_down, guard_count}
+use Rattle.cob_edge_parts.specs.Meaning.{Moment, divided_by_zero, divides_by, is_left_alone, skipped, stored_bytes, stored_or_kept, ReadsAt, Passes, PassesAll, Meets}
+use Rattle.cob_edge_parts.proofs.Subscripts.{subscript_leaves, index_leaves}
 
 module _ (l : Layout) (handled : Bool) where
   -- what is passed is passed in two pieces
@@ -48,6 +49,10 @@ module _ (l : Layout) where
   pub passes_first : (handled : Bool) (x : Part) (m n : Moment) → Passes l handled x m n → n.first ≡ m.first
   passes_first handled (read place) m n h = reads_first m.by_zero place m n h
   passes_first handled unread m n h = absurd h
+  passes_first handled (subscript last item) m n h =
+      ap (λ (k : Moment). k.first) (subscript_leaves l (skipped last m) item m n h)
+  passes_first handled (index last item count) m n h =
+      ap (λ (k : Moment). k.first) (index_leaves l (skipped last m) item count m n h)
   passes_first true (divide a) m n h =
       ap (λ (k : Moment). k.first) h ∙ zero_first (divides_by (worth l m.first) a) m
   passes_first false (divide a) m n h = ap (λ (k : Moment). k.first) h.1

@@ -27,7 +27,7 @@ use Rattle.cob_edge_parts.specs.Parts.{Part, moved, computed, remaining, augment
 
 abbrev item_of : ℕ → ℕ → Form → Item
 item_of offset length f =
-    record { name = Some (78 ∷ []); offset = offset; length = length; form = f; parent = None; line = 5; value = None }
+    record { name = Some (78 ∷ []); offset = offset; length = length; times = 1; stride = 0; form = f; parent = None; line = 5; value = None }
 
 abbrev file : FileDecl
 file = record {

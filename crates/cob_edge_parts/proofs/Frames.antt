@@ -1,14 +1,19 @@
 -- Bytes that are written leave all areas apart from them.
-use Rattle.std.proofs.Common.{◌≡◌, ◌≤◌, ℕ, ◌+◌, Bool, true, false, List, ◌++◌, length, take, drop, inl, inr, Option, Some, None, refl, sym, ap, subst, ◌∙◌, append_assoc, arith, length-append, length-drop}
+use Rattle.std.proofs.Common.{◌≡◌, ◌<◌, ◌≤◌, ◌⊎◌, ℕ, ◌+◌, Bool, true, false, List, ◌++◌, length, take, drop, inl, inr, Option, Some, None, refl, sym, ap, subst, ◌∙◌, append_assoc, arith, length-append, length-drop}
 use Rattle.std.specs.Prelude.{if◌then◌else◌, ◌==◌}
 use Rattle.std.specs.Option.{option_map_or}
+use Rattle.std.proofs.lemmas.Bool.{cases_lt}
 use Rattle.std.proofs.lemmas.Bool.Decides.{nat_tests}
 use Rattle.std.proofs.lemmas.List.{length-take-le, take-append-le, drop-append-le, take-append-drop, take_at}
 use Rattle.std.proofs.lemmas.Slice.{drop-append-drop}
 use Rattle.std.proofs.Math.Seq.{drop-append_seam}
+use Rattle.cob_data.specs.declared.extent.Extent.{Extent}
 use Rattle.cob_data.specs.declared.layout.Item.{Item}
-use Rattle.cob_runs.specs.Contents.{area, written, filled_at}
-use Rattle.cob_edge_parts.specs.Ranges.{AreApart, ChangesWithin, RangesChangeAlone, ItemsChangeAlone}
+use Rattle.cob_data.specs.Extents.{start_of, AreApart, share_extents, IsExtent, LiesWithin}
+use Rattle.cob_data.specs.Occurrences.{extent_of}
+use Rattle.cob_data.proofs.Meeting.{lie_apart}
+use Rattle.cob_runs.specs.Contents.{area, written}
+use Rattle.cob_edge_parts.specs.Ranges.{ChangesWithin, RangesChangeAlone, GetsItsBytes, OccurrencesChangeAlone}
 
 front_area : (xs ys : List ℕ) (from many : ℕ) → from + many ≤ length xs → area (xs ++ ys) from many ≡ area xs from many
 front_area xs ys from many h =
@@ -85,16 +90,36 @@ ranges_change_alone None offset count storage h = unchanged offset count storage
 ranges_change_alone (Some bytes) offset count storage h =
     by_length offset count storage bytes h (length bytes == count) refl
 
-pub items_change_alone : ItemsChangeAlone
-items_change_alone l storage place i bytes at same within =
-    let fill : filled_at l storage place bytes ≡ written storage i.offset bytes =
-    ap (λ (o : Option Item). option_map_or (λ j. written storage j.offset bytes) o storage) at in
-    let inside : i.offset + length bytes ≤ length storage = omega (arith, same) in
-    record {
-      changes = subst (λ (s : List ℕ). ChangesWithin i.offset i.length storage s) (sym fill)
-          (subst (λ (n : ℕ). ChangesWithin i.offset n storage (written storage i.offset bytes)) same
-          (written_changes storage i.offset bytes inside));
-      held = ap (λ (s : List ℕ). area s i.offset i.length) fill
-          ∙ subst (λ (n : ℕ). area (written storage i.offset bytes) i.offset n ≡ bytes) same
-          (written_held storage i.offset bytes inside);
-    }
+-- ---- occurrences
+
+two_are_apart : (e : Extent) → IsExtent e → (m n : ℕ) → m < e.times → n < e.times → ¬ m ≡ n →
+    AreApart (start_of e n) e.length (start_of e m) e.length
+two_are_apart e is m n a b differ = by (cases_lt m n)
+  where
+    by : (m < n) ⊎ (n ≤ m) → AreApart (start_of e n) e.length (start_of e m) e.length
+    by (inl l) = inl (is.apart m n l b)
+    by (inr l) = inr (is.apart n m (omega (arith, l, differ)) a)
+
+pub occurrence_changes : (e : Extent) (n : ℕ) (bytes storage : List ℕ) → IsExtent e → LiesWithin e (length storage) → n < e.times →
+    length bytes ≡ e.length → GetsItsBytes e n bytes storage (written storage (start_of e n) bytes)
+occurrence_changes e n bytes storage is within there same = record {
+  changes = changes;
+  siblings = λ m less differ. changes.elsewhere (start_of e m) e.length (two_are_apart e is m n less there differ);
+  others = λ d none m less. changes.elsewhere (start_of d m) d.length (lie_apart e d none n m there less);
+  held = subst (λ (k : ℕ). area (written storage (start_of e n) bytes) (start_of e n) k ≡ bytes) same
+      (written_held storage (start_of e n) bytes inside);
+}
+  where
+    inside : start_of e n + length bytes ≤ length storage
+    inside = subst (λ (k : ℕ). start_of e n + k ≤ length storage) (sym same) (within n there)
+
+    changes : ChangesWithin (start_of e n) e.length storage (written storage (start_of e n) bytes)
+    changes =
+        subst (λ (k : ℕ). ChangesWithin (start_of e n) k storage (written storage (start_of e n) bytes)) same
+        (written_changes storage (start_of e n) bytes inside)
+
+pub occurrences_change_alone : OccurrencesChangeAlone
+occurrences_change_alone l storage place i n bytes at is within there same =
+    subst (λ (s : List ℕ). GetsItsBytes (extent_of i) n bytes storage s)
+    (sym (ap (λ (o : Option Item). option_map_or (λ j. written storage (start_of (extent_of j) n) bytes) o storage) at))
+    (occurrence_changes (extent_of i) n bytes storage is within there same)

@@ -1,6 +1,7 @@
 pub mod Examples
 pub mod PartExamples
 pub mod Frames
+pub mod Subscripts
 pub mod Chains
 pub mod Passing
 pub mod Booleans

@@ -1,5 +1,5 @@
 -- What single parts do, what they meet, and which edge meets a fault, worked out.
-use Rattle.std.specs.Prelude.{◌≡◌, ℕ, Bool, true, false, List, [], ◌∷◌, Some, None, pos}
+use Rattle.std.specs.Prelude.{◌≡◌, ℕ, Bool, true, false, List, [], ◌∷◌, Some, None, Ok, Err, pos, neg_ℤ}
 use Rattle.std.proofs.Common.{refl}
 use Rattle.dec_num.specs.declared.types.Mode.TheVariants.{Trunc}
 use Rattle.cob_tree.specs.declared.fault.Kind.TheVariants as kind
@@ -9,8 +9,9 @@ use Rattle.cob_program.specs.Sum.{item}
 use Rattle.cob_program.specs.Values.{whole_number}
 use Rattle.cob_program.specs.Act.{times, no_stmts, Phrase, left_out, given, Act, arith, perform, range}
 use Rattle.cob_runs.specs.declared.action.Action.TheVariants as action
-use Rattle.cob_edge_parts.specs.Parts.{moved, computed, remaining, augmented, read, reads_count}
-use Rattle.cob_edge_parts.specs.Meaning.{Moment, moment, misfit_of, is_left_alone, amount, Passes}
+use Rattle.cob_runs.specs.Subscripts.{in_table}
+use Rattle.cob_edge_parts.specs.Parts.{moved, computed, remaining, augmented, read, index, reads_count}
+use Rattle.cob_edge_parts.specs.Meaning.{Moment, moment, misfit_of, is_left_alone, skipped, amount, Passes}
 use Rattle.cob_edge_parts.specs.Edges.{StandsForCount, fault_edge}
 use Rattle.cob_edge_parts.proofs.Examples.{program, alone, target}
 
@@ -48,6 +49,36 @@ none_stored = refl
 not_read : (storage : List ℕ) →
     Passes program.layout true (read 2) (along storage storage true false) (along storage storage true false)
 not_read storage = refl
+
+-- numbers from 1 to 3 name the occurrences of a table that has three
+first_of_three : in_table 3 (pos 1) ≡ Ok 0
+first_of_three = refl
+
+last_of_three : in_table 3 (pos 3) ≡ Ok 2
+last_of_three = refl
+
+none_is_zeroth : in_table 3 (pos 0) ≡ Err kind.Subscript
+none_is_zeroth = refl
+
+none_is_beyond : in_table 3 (pos 4) ≡ Err kind.Subscript
+none_is_beyond = refl
+
+none_is_below : in_table 3 (neg_ℤ (pos 1)) ≡ Err kind.Subscript
+none_is_below = refl
+
+-- Where a quotient failed, its remainder's turn doesn't come, and others do; after a divisor that is 0 none does.
+remainder_skipped : skipped true (along [] [] false true) ≡ true
+remainder_skipped = refl
+
+turn_comes : skipped false (along [] [] false true) ≡ false
+turn_comes = refl
+
+no_turn_comes : skipped false (along [] [] true false) ≡ true
+no_turn_comes = refl
+
+not_indexed : (storage : List ℕ) →
+    Passes program.layout true (index true 1 3) (along storage storage false true) (along storage storage false true)
+not_indexed storage = refl
 
 -- 0 may stand for a count that isn't there
 zero_for_none : StandsForCount None (Some (pos 0))

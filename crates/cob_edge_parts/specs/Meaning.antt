@@ -1,5 +1,5 @@
 -- What each part of an edge does to storage and counters, and the fault that it meets.
-use Rattle.std.specs.Prelude.{◌≡◌, ℕ, suc, ◌-◌, ◌==◌, ◌||◌, ◌⊎◌, if◌then◌else◌, Bool, true, false, not, List, [], ◌∷◌, length, slice_get, slice_set, Option, Some, None, Ok, ℤ, pos, ◌-ℤ◌, unsigned_abs}
+use Rattle.std.specs.Prelude.{◌≡◌, ℕ, suc, ◌-◌, ◌==◌, ◌||◌, ◌&&◌, ◌⊎◌, if◌then◌else◌, Bool, true, false, not, List, [], ◌∷◌, length, slice_get, slice_set, Option, Some, None, Ok, Err, ℤ, pos, ◌-ℤ◌, unsigned_abs}
 use Rattle.std.specs.Option.{option_map, option_map_or}
 use Rattle.dec_num.specs.declared.types.Mode.{Mode}
 use Rattle.dec_num.specs.declared.types.Scaled.{Scaled}
@@ -10,11 +10,12 @@ use Rattle.cob_tree.specs.declared.fault.Kind.TheVariants as kind
 use Rattle.cob_data.specs.declared.layout.Layout.{Layout}
 use Rattle.cob_program.specs.Sum.{Atom}
 use Rattle.cob_program.specs.Values.{◌>>=◌, whole_number, plus, atom_value, root_of}
-use Rattle.cob_runs.specs.Contents.{written, form_at, filled_at, number_at, stored}
+use Rattle.cob_runs.specs.Contents.{written, form_at, filled_at, number_at, occurrence_number, stored}
 use Rattle.cob_runs.specs.Moves.{number_of}
 use Rattle.cob_runs.specs.Computing.{worth, result, remainder_of}
 use Rattle.cob_runs.specs.Deciding.{test_holds}
-use Rattle.cob_edge_parts.specs.Parts.{Amount, moved, computed, remaining, augmented, Part, read, unread, divide, store, bytes_in, guard, read_count, set_count, count_down, guard_count}
+use Rattle.cob_runs.specs.Subscripts.{in_table}
+use Rattle.cob_edge_parts.specs.Parts.{Amount, moved, computed, remaining, augmented, Part, read, unread, subscript, index, divide, store, bytes_in, guard, read_count, set_count, count_down, guard_count}
 
 -- ---- moments
 
@@ -88,6 +89,10 @@ abbrev pub is_left_alone : Moment → Amount → Bool
 is_left_alone m (remaining s scale) = m.by_zero || m.failed
 is_left_alone m _ = m.by_zero
 
+-- No turn comes behind a divisor that is 0, and a remainder's, the last one, doesn't where its quotient failed.
+abbrev pub skipped : Bool → Moment → Bool
+skipped last m = m.by_zero || (last && m.failed)
+
 -- ---- areas that change
 
 -- what stood in an area, or other bytes of its length
@@ -121,6 +126,20 @@ module _ (l : Layout) where
   ReadsAt true place m n = n ≡ m
   ReadsAt false place m n = (v : Scaled) × (number_at l m.storage place ≡ Some v) × (n ≡ with_own m v)
 
+  -- a subscript's item has no occurrences
+  abbrev pub subscript_in : Moment → ℕ → Option Scaled
+  subscript_in m item = occurrence_number l m.storage item 0
+
+  -- by whether its turn doesn't come
+  abbrev pub ReadsSubscript : Bool → ℕ → Moment → Moment → Type 0
+  ReadsSubscript true item m n = n ≡ m
+  ReadsSubscript false item m n = (v : Scaled) × (subscript_in m item ≡ Some v) × (n ≡ m)
+
+  abbrev pub Finds : Bool → ℕ → ℕ → Moment → Moment → Type 0
+  Finds true item count m n = n ≡ m
+  Finds false item count m n =
+      (v : Scaled) × (subscript_in m item ≡ Some v) × (at : ℕ) × (in_table count v.units ≡ Ok at) × (n ≡ m)
+
   abbrev pub Divides : Bool → Atom → Moment → Moment → Type 0
   Divides true a m n = n ≡ (if divides_by (worth l m.first) a then m else divided_by_zero m)
   Divides false a m n = (divides_by (worth l m.first) a ≡ true) × (n ≡ m)
@@ -137,6 +156,8 @@ module _ (l : Layout) where
   abbrev pub Passes : Bool → Part → Moment → Moment → Type 0
   Passes handled (read place) m n = ReadsAt m.by_zero place m n
   Passes handled unread m n = ⊥
+  Passes handled (subscript last item) m n = ReadsSubscript (skipped last m) item m n
+  Passes handled (index last item count) m n = Finds (skipped last m) item count m n
   Passes handled (divide a) m n = Divides handled a m n
   Passes handled (store place mode a) m n = Stores handled place mode a m n
   Passes handled (bytes_in offset count) m n =
@@ -157,6 +178,10 @@ module _ (l : Layout) where
   Faults handled (read place) m fault =
       (m.by_zero ≡ false) × (number_at l m.storage place ≡ None) × (fault ≡ kind.Class)
   Faults handled unread m fault = fault ≡ kind.Class
+  Faults handled (subscript last item) m fault =
+      (skipped last m ≡ false) × (subscript_in m item ≡ None) × (fault ≡ kind.Class)
+  Faults handled (index last item count) m fault =
+      (skipped last m ≡ false) × (v : Scaled) × (subscript_in m item ≡ Some v) × (in_table count v.units ≡ Err fault)
   Faults false (divide a) m fault = (divides_by (worth l m.first) a ≡ false) × (fault ≡ kind.Zero)
   Faults false (store place mode a) m fault = (stored_bytes m place mode a ≡ None) × (fault ≡ misfit_of a)
   Faults handled part m fault = ⊥

@@ -48,6 +48,10 @@ pub data Part : Type 0 where
   read : ℕ → Part
   -- a constant that is no number is asked for one; no program of the profile has this
   unread : Part
+  -- A subscript's item is a number. The test tells a remainder's, whose turn may not come.
+  subscript : Bool → ℕ → Part
+  -- the number is that of an occurrence of a table, which has so many
+  index : Bool → ℕ → ℕ → Part
   -- a divisor isn't 0
   divide : Atom → Part
   -- an item gets a value

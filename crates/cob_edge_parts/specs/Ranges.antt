@@ -1,13 +1,12 @@
 -- That a part changes the bytes of its range alone.
-use Rattle.std.specs.Prelude.{◌≡◌, ◌≤◌, ◌⊎◌, ℕ, ◌+◌, List, length, Option, Some}
+use Rattle.std.specs.Prelude.{◌≡◌, ◌<◌, ◌≤◌, ℕ, ◌+◌, false, List, length, Option, Some}
+use Rattle.cob_data.specs.declared.extent.Extent.{Extent}
 use Rattle.cob_data.specs.declared.layout.Item.{Item}
 use Rattle.cob_data.specs.declared.layout.Layout.{Layout}
-use Rattle.cob_runs.specs.Contents.{area, item_at, filled_at}
+use Rattle.cob_data.specs.Extents.{start_of, AreApart, share_extents, IsExtent, LiesWithin}
+use Rattle.cob_data.specs.Occurrences.{extent_of}
+use Rattle.cob_runs.specs.Contents.{area, item_at, occurrence_filled}
 use Rattle.cob_edge_parts.specs.Meaning.{changed_in}
-
--- Two ranges of bytes, each an offset and a length, have no byte in common.
-abbrev pub AreApart : ℕ → ℕ → ℕ → ℕ → Type 0
-AreApart offset count from many = (from + many ≤ offset) ⊎ (offset + count ≤ from)
 
 -- storage is as long as before, and each area apart from the range is as before
 pub record ChangesWithin (offset count : ℕ) (before behind : List ℕ) : Type 0 where
@@ -19,12 +18,16 @@ abbrev pub RangesChangeAlone : Type 0
 RangesChangeAlone = (change : Option (List ℕ)) (offset count : ℕ) (storage : List ℕ) → offset + count ≤ length storage →
     ChangesWithin offset count storage (changed_in change offset count storage)
 
--- an item that gets as many bytes as it has
-pub record GetsItsBytes (l : Layout) (storage : List ℕ) (place : ℕ) (i : Item) (bytes : List ℕ) : Type 0 where
-  pub changes : ChangesWithin i.offset i.length storage (filled_at l storage place bytes)
-  pub held : area (filled_at l storage place bytes) i.offset i.length ≡ bytes
+-- an occurrence that gets as many bytes as it has: the others stay, and those of each item that shares no byte
+pub record GetsItsBytes (e : Extent) (n : ℕ) (bytes before behind : List ℕ) : Type 0 where
+  pub changes : ChangesWithin (start_of e n) e.length before behind
+  pub siblings : (m : ℕ) → m < e.times → ¬ m ≡ n →
+      area behind (start_of e m) e.length ≡ area before (start_of e m) e.length
+  pub others : (d : Extent) → share_extents e d ≡ false → (m : ℕ) → m < d.times →
+      area behind (start_of d m) d.length ≡ area before (start_of d m) d.length
+  pub held : area behind (start_of e n) e.length ≡ bytes
 
-abbrev pub ItemsChangeAlone : Type 0
-ItemsChangeAlone = (l : Layout) (storage : List ℕ) (place : ℕ) (i : Item) (bytes : List ℕ) →
-    item_at l place ≡ Some i → length bytes ≡ i.length → i.offset + i.length ≤ length storage →
-    GetsItsBytes l storage place i bytes
+abbrev pub OccurrencesChangeAlone : Type 0
+OccurrencesChangeAlone = (l : Layout) (storage : List ℕ) (place : ℕ) (i : Item) (n : ℕ) (bytes : List ℕ) →
+    item_at l place ≡ Some i → IsExtent (extent_of i) → LiesWithin (extent_of i) (length storage) → n < i.times →
+    length bytes ≡ i.length → GetsItsBytes (extent_of i) n bytes storage (occurrence_filled l storage place n bytes)

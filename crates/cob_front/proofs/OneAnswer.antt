@@ -3,7 +3,8 @@ use Rattle.std.proofs.Common.{◌≡◌, ◌≤◌, ◌<◌, ◌⊎◌, ℕ, Lis
 use Rattle.cob_tree.specs.declared.token.Token.{Token}
 use Rattle.cob_tree.specs.Stmt.{Tree}
 use Rattle.cob_tree.specs.Symbols.{Sign, seen}
-use Rattle.cob_lex.specs.Scan.{Scan, BadLineAt, BadTokenAt, Tokens, scan_of}
+use Rattle.cob_lex.specs.Scan.{Scan, BadLineAt, BadTokenAt, Tokens, Scans}
+use Rattle.cob_lex.proofs.Scans.{one_scan}
 use Rattle.cob_parse_expr.specs.Places.{line_at}
 use Rattle.cob_parse_proc.specs.Parsing.{IsTree, IsWrong, IsDeep}
 use Rattle.cob_parse_proc.specs.Laws as parsing
@@ -40,11 +41,16 @@ ScanLeads (BadLineAt line column) x = x ≡ refused (end.BadLine line column)
 ScanLeads (BadTokenAt line column) x = x ≡ refused (end.BadToken line column)
 ScanLeads (Tokens ts) x = Leads ts x
 
-abbrev BytesLead : List ℕ → Ending → Type 0
-BytesLead bytes x = ((source_limit < length bytes) × (x ≡ refused end.TooLong)) ⊎ ((length bytes ≤ source_limit) × ScanLeads (scan_of bytes) x)
+record ScannedTo (bytes : List ℕ) (x : Ending) : Type 0 where
+  scan : Scan
+  is : Scans bytes scan
+  leads : ScanLeads scan x
 
-scanned : (bytes : List ℕ) (x : Ending) (s : Scan) → length bytes ≤ source_limit → scan_of bytes ≡ s → ScanLeads s x → BytesLead bytes x
-scanned bytes x s fits is leads = inr (fits, subst (λ s. ScanLeads s x) (sym is) leads)
+abbrev BytesLead : List ℕ → Ending → Type 0
+BytesLead bytes x = ((source_limit < length bytes) × (x ≡ refused end.TooLong)) ⊎ ((length bytes ≤ source_limit) × ScannedTo bytes x)
+
+scanned : (bytes : List ℕ) (x : Ending) (s : Scan) → length bytes ≤ source_limit → Scans bytes s → ScanLeads s x → BytesLead bytes x
+scanned bytes x s fits is leads = inr (fits, record { scan = s; is = is; leads = leads })
 
 stood : (bytes : List ℕ) (x : Ending) (t : Tree) → StandsFor bytes t → TreeLeads t x → BytesLead bytes x
 stood bytes x t h leads = scanned bytes x (Tokens h.tokens) h.has.fits h.has.scanned (a_tree t h.parsed leads)
@@ -95,7 +101,8 @@ bytes_once : (bytes : List ℕ) (x y : Ending) → BytesLead bytes x → BytesLe
 bytes_once bytes x y (inl (long, e)) (inl (long', f)) = e ∙ sym f
 bytes_once bytes x y (inl (long, e)) (inr (fits, f)) = absurd (omega (arith, long, fits))
 bytes_once bytes x y (inr (fits, e)) (inl (long, f)) = absurd (omega (arith, long, fits))
-bytes_once bytes x y (inr (fits, e)) (inr (fits', f)) = scan_once (scan_of bytes) x y e f
+bytes_once bytes x y (inr (fits, e)) (inr (fits', f)) =
+    scan_once f.scan x y (subst (λ s. ScanLeads s x) (one_scan bytes e.scan f.scan e.is f.is) e.leads) f.leads
 
 once : (bytes : List ℕ) (x y : Ending) → Ends bytes x → Ends bytes y → x ≡ y
 once bytes x y h k = bytes_once bytes x y (leads_to bytes x h) (leads_to bytes y k)

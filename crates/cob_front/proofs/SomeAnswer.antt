@@ -7,7 +7,8 @@ use Rattle.cob_tree.specs.Stmt.{Tree}
 use Rattle.cob_tree.specs.Symbols.{seen}
 use Rattle.cob_parse_expr.specs.Places.{line_at}
 use Rattle.cob_lex.specs.Text.{source_limit}
-use Rattle.cob_lex.specs.Scan.{Scan, BadLineAt, BadTokenAt, Tokens, scan_of}
+use Rattle.cob_lex.specs.Scan.{Scan, BadLineAt, BadTokenAt, Tokens, Scans}
+use Rattle.cob_lex.proofs.Scans.{some_scan}
 use Rattle.cob_parse_proc.specs.Program.{limit, tree_at}
 use Rattle.cob_parse_proc.proofs.ProgramAnswers.{tree_read, tree_stops, tree_deep}
 use Rattle.cob_front.specs.declared.refusal.Refusal.{Refusal}
@@ -28,10 +29,10 @@ of_tokens bytes ts has (Err (Stop n)) e =
     inr (end.Syntax (line_at ts (length stop.0)), (ts, has, record { left = stop.0; stops = stop.2; line_is = refl }))
 of_tokens bytes ts has (Err (Deep n)) e = inr (end.Nesting 65, (ts, has, tree_deep (map seen ts) n e, refl))
 
-of_scan : (bytes : List ℕ) → length bytes ≤ source_limit → (s : Scan) → scan_of bytes ≡ s → SomeAnswer bytes
+of_scan : (bytes : List ℕ) → length bytes ≤ source_limit → (s : Scan) → Scans bytes s → SomeAnswer bytes
 of_scan bytes fits (BadLineAt line column) e = inr (end.BadLine line column, (fits, e))
 of_scan bytes fits (BadTokenAt line column) e = inr (end.BadToken line column, (fits, e))
 of_scan bytes fits (Tokens ts) e = of_tokens bytes ts (record { fits = fits; scanned = e }) (whole (tree_at limit) (map seen ts)) refl
 
 pub some_answer : (bytes : List ℕ) → SomeAnswer bytes
-some_answer bytes = ⊎_elim (λ long. inr (end.TooLong, long)) (λ fits. of_scan bytes fits (scan_of bytes) refl) (cases_lt source_limit (length bytes))
+some_answer bytes = ⊎_elim (λ long. inr (end.TooLong, long)) (λ fits. let found = some_scan bytes in of_scan bytes fits found.0 found.1) (cases_lt source_limit (length bytes))

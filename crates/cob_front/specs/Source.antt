@@ -4,7 +4,7 @@ use Rattle.cob_tree.specs.declared.token.Token.{Token}
 use Rattle.cob_tree.specs.declared.tree.Tree as declared_tree
 use Rattle.cob_tree.specs.Stmt.{Tree}
 use Rattle.cob_tree.specs.Symbols.{seen}
-use Rattle.cob_lex.specs.Scan.{BadLineAt, BadTokenAt, Tokens, scan_of}
+use Rattle.cob_lex.specs.Scan.{BadLineAt, BadTokenAt, Tokens, Scans}
 use Rattle.cob_parse_proc.specs.Parsing.{IsTree, IsWrong, IsDeep}
 use Rattle.cob_data.specs.declared.layout.Layout.{Layout}
 use Rattle.cob_data.specs.declared.end.DataEnd.TheVariants as data_end
@@ -21,7 +21,7 @@ use Rattle.cob_lex.specs.Text.{source_limit}
 -- the bytes are within the limit, and have these canonical tokens
 pub record HasTokens (bytes : List ℕ) (tokens : List Token) : Type 0 where
   pub fits : length bytes ≤ source_limit
-  pub scanned : scan_of bytes ≡ Tokens tokens
+  pub scanned : Scans bytes (Tokens tokens)
 
 -- The bytes' tokens are those of the tree.
 pub record StandsFor (bytes : List ℕ) (t : Tree) : Type 0 where
@@ -67,8 +67,8 @@ pub record HasCause (bytes : List ℕ) (e : Refusal) : Type 0 where
 -- why bytes are no source of a program
 abbrev pub IsCause : List ℕ → Refusal → Type 0
 IsCause bytes end.TooLong = source_limit < length bytes
-IsCause bytes (end.BadLine line column) = (length bytes ≤ source_limit) × (scan_of bytes ≡ BadLineAt line column)
-IsCause bytes (end.BadToken line column) = (length bytes ≤ source_limit) × (scan_of bytes ≡ BadTokenAt line column)
+IsCause bytes (end.BadLine line column) = (length bytes ≤ source_limit) × Scans bytes (BadLineAt line column)
+IsCause bytes (end.BadToken line column) = (length bytes ≤ source_limit) × Scans bytes (BadTokenAt line column)
 IsCause bytes (end.Syntax line) = (tokens : List Token) × HasTokens bytes tokens × IsWrong tokens line
 IsCause bytes (end.Nesting count) = (tokens : List Token) × HasTokens bytes tokens × IsDeep (map seen tokens) × (count ≡ 65)
 IsCause bytes (end.Outside rule line) = HasCause bytes (end.Outside rule line)

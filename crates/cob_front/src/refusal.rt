@@ -8,7 +8,7 @@ pub enum Refusal {
     TooLong,
     /// The first place that the reference format refuses.
     BadLine { line: u32, column: u32 },
-    /// The first token that doesn't begin or end rightly.
+    /// The first place at which neither a token nor a separator stands.
     BadToken { line: u32, column: u32 },
     /// The line of the first token with which no program goes on.
     Syntax { line: u32 },

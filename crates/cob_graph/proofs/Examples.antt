@@ -23,7 +23,7 @@ use Rattle.cob_graph.specs.Lookup.{edge}
 -- ---- programs
 
 abbrev pub item_of : ℕ → ℕ → Form → Option Sender → Item
-item_of offset length f value = record { name = Some (78 ∷ []); offset = offset; length = length; form = f; parent = None; line = 5; value = value }
+item_of offset length f value = record { name = Some (78 ∷ []); offset = offset; length = length; times = 1; stride = 0; form = f; parent = None; line = 5; value = value }
 
 abbrev pub numeral : List ℕ → ℕ → Num
 numeral digits scale = record { sign = 0; digits = digits; scale = scale }

@@ -9,3 +9,10 @@ pub mod CoverLemmas
 pub mod Lengths
 pub mod OneCopy
 pub mod HomeLemmas
+pub mod NumberLemmas
+pub mod LeftLemmas
+pub mod StatementLoops
+pub mod InnerHomes
+pub mod Parallel
+pub mod CountLemmas
+pub mod Rising

@@ -8,7 +8,7 @@ use Rattle.cob_data.specs.declared.layout.Layout.{Layout}
 use Rattle.cob_program.specs.Act.{Turns, times, Stmt, MkStmt, Act, perform, Program}
 use Rattle.cob_program.specs.Statements.{program_statements}
 use Rattle.cob_runs.specs.declared.action.Cell.{Cell}
-use Rattle.cob_runs.specs.Contents.{form_at, scale_of}
+use Rattle.cob_runs.specs.Contents.{form_at, times_at, scale_of}
 use Rattle.cob_graph.specs.declared.homes.Home.{Home}
 use Rattle.cob_graph.specs.declared.homes.Home.TheVariants.{Item as of_item, Count as of_count}
 
@@ -56,8 +56,9 @@ homes_of p = item_homes 0 p.layout.items ++ count_homes (program_statements p)
 
 -- ---- cells
 
-abbrev pub cell : Option ℕ → ℕ → ℕ → Bool → Cell
-cell item digits scale signed = record { item = item; digits = digits; scale = scale; signed = signed }
+abbrev pub cell : Option ℕ → ℕ → ℕ → Bool → ℕ → Cell
+cell item digits scale signed many =
+    record { item = item; digits = digits; scale = scale; signed = signed; times = many }
 
 -- the digits of what an item is read as: a text is read as a number without sign
 abbrev pub digits_read : Form → ℕ
@@ -72,11 +73,11 @@ is_signed _ = false
 
 -- a PERFORM with TIMES has a counter of 18 digits with a sign
 abbrev pub counter : Cell
-counter = cell None 18 0 true
+counter = cell None 18 0 true 1
 
-abbrev pub cell_of_form : ℕ → Form → Cell
-cell_of_form place f = cell (Some place) (digits_read f) (scale_of f) (is_signed f)
+abbrev pub cell_of_form : ℕ → Form → ℕ → Cell
+cell_of_form place f many = cell (Some place) (digits_read f) (scale_of f) (is_signed f) many
 
 abbrev pub cell_of_home : Layout → Home → Cell
-cell_of_home l (of_item place) = cell_of_form place (form_at l place)
+cell_of_home l (of_item place) = cell_of_form place (form_at l place) (times_at l place)
 cell_of_home l (of_count statement) = counter

@@ -12,3 +12,4 @@ pub mod Listing
 pub mod Reaching
 pub mod Broken
 pub mod Covering
+pub mod Numbers

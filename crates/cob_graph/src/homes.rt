@@ -167,14 +167,15 @@ fn is_signed(form: &Form) -> bool
     }
 }
 
-fn cell_of_form(place: u32, form: &Form) -> Cell
-    ensures { result ≡ cell_of_form place form.now }
+fn cell_of_form(place: u32, form: &Form, times: u32) -> Cell
+    ensures { result ≡ cell_of_form place form.now times }
 {
     Cell {
         item: Some(place),
         digits: digits_read(form),
         scale: scale_of(form),
         signed: is_signed(form),
+        times,
     }
 }
 
@@ -182,12 +183,13 @@ fn cell_of_item(layout: &Layout, place: u32) -> Cell
     ensures { result ≡ cell_of_home layout.now (of_item place) }
 {
     match layout.items.get().get(place as usize) {
-        Some(item) => cell_of_form(place, &item.form),
-        None => cell_of_form(place, &Form::Group),
+        Some(item) => cell_of_form(place, &item.form, item.times),
+        None => cell_of_form(place, &Form::Group, 1),
     }
 }
 
-/// The cell of a home: the digits, decimals and sign of the numbers that it holds.
+/// The cell of a home: the digits, decimals and sign of the numbers that it holds, and for how many occurrences it
+/// stands.
 pub fn cell_of_home(layout: &Layout, home: Home) -> Cell
     ensures { result ≡ cell_of_home layout.now home }
 {
@@ -198,6 +200,7 @@ pub fn cell_of_home(layout: &Layout, home: Home) -> Cell
             digits: 18,
             scale: 0,
             signed: true,
+            times: 1,
         },
     }
 }

@@ -13,4 +13,5 @@ mod PlaceLemmas
 mod SizeLemmas
 mod SizeLoops
 pub mod Totality
+mod WayLemmas
 mod WhenLemmas

@@ -1,15 +1,13 @@
 -- First nodes of paragraphs, one paragraph after another.
-use Rattle.std.specs.Prelude.{Result, IfOk}
-use Rattle.std.proofs.Common.{ℕ, zero, suc, ◌+◌, ◌-◌, ◌≡◌, ◌<◌, ◌≤◌, ◌==◌, Bool, true, false, List, [], ◌∷◌, length, refl, sym, ap, subst, ◌∙◌, arith, add-zero, add-one, if◌then◌else◌, Option, Some, None, is_some}
+use Rattle.std.proofs.Common.{ℕ, zero, suc, ◌+◌, ◌-◌, ◌≡◌, ◌<◌, ◌≤◌, ◌==◌, Bool, true, false, List, [], ◌∷◌, length, refl, sym, ap, ◌∙◌, arith, add-zero, add-one, if◌then◌else◌, Option, Some, None, is_some}
 use Rattle.std.proofs.lemmas.Bool.{eqb-true}
 use Rattle.cob_program.specs.declared.act.Stmt as declared_stmt
-use Rattle.cob_program.specs.Logic.{Logic, Logics, more_logics}
 use Rattle.cob_program.specs.Act.{Program, Stmts, no_stmts, more_stmts}
 use Rattle.cob_runs.specs.Steps.{body_at}
 use Rattle.cob_graph_build.specs.declared.counting.Entry.{Entry}
 use Rattle.cob_program.specs.ActView.{plain_stmts}
-use Rattle.cob_graph.specs.Laid.{tests_in, LaidParas, no_laid_paras, more_laid_paras, list_size}
-use Rattle.cob_graph.specs.Places.{first_of_logic, first_of_all, first_of_any, first_of_list, first_of_paras, first_of_para}
+use Rattle.cob_graph.specs.Laid.{LaidParas, no_laid_paras, more_laid_paras, list_size}
+use Rattle.cob_graph.specs.Places.{first_of_list, first_of_paras, first_of_para}
 use Rattle.cob_graph.specs.Nodes.{Copied, list_nodes}
 use Rattle.cob_graph_build.specs.Tables.{lay_list, lay_paras, is_for, told_size, is_in, copy_in}
 
@@ -125,24 +123,3 @@ pub list_full : (p : Program) (copies : ℕ → ℕ → LaidParas) (xs : List de
     0 < length xs → at ≡ first_of_list (lay_list p copies (plain_stmts xs)) at next
 list_full p copies [] at next h = absurd (omega arith)
 list_full p copies (x ∷ xs) at next h = refl
-
--- ---- conditions of which all are to hold, or one
-
-module _ {E : Type 0} (r : Result ℕ E) (list : Logics) (x : Logic) (rest : Logics) (at n behind held failed first : ℕ) where
-  pub all_first : IfOk r (λ m. m ≡ first_of_logic x at first failed) → list ≡ more_logics x rest → n ≡ tests_in x → behind ≡ at + n →
-      first ≡ first_of_all rest behind held failed → IfOk r (λ m. m ≡ first_of_all list at held failed)
-  all_first told cut counted on begun =
-      let place : behind ≡ at + tests_in x = on ∙ ap (λ k. at + k) counted in
-      let whole : first_of_logic x at first failed ≡ first_of_all list at held failed =
-      ap (λ k. first_of_logic x at k failed) (begun ∙ ap (λ b. first_of_all rest b held failed) place)
-      ∙ ap (λ l. first_of_all l at held failed) (sym cut) in
-      subst (λ v. IfOk r (λ m. m ≡ v)) whole told
-
-  pub any_first : IfOk r (λ m. m ≡ first_of_logic x at held first) → list ≡ more_logics x rest → n ≡ tests_in x → behind ≡ at + n →
-      first ≡ first_of_any rest behind held failed → IfOk r (λ m. m ≡ first_of_any list at held failed)
-  any_first told cut counted on begun =
-      let place : behind ≡ at + tests_in x = on ∙ ap (λ k. at + k) counted in
-      let whole : first_of_logic x at held first ≡ first_of_any list at held failed =
-      ap (λ k. first_of_logic x at held k) (begun ∙ ap (λ b. first_of_any rest b held failed) place)
-      ∙ ap (λ l. first_of_any l at held failed) (sym cut) in
-      subst (λ v. IfOk r (λ m. m ≡ v)) whole told

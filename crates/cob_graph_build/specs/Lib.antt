@@ -3,3 +3,4 @@ pub mod Tables
 pub mod Growing
 pub mod Limits
 pub mod MainCopies
+pub mod Ways

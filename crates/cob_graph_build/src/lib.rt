@@ -10,6 +10,7 @@ mod laying;
 mod numbers;
 mod places;
 mod statements;
+mod ways;
 mod within;
 
 pub use cob_graph::{Edge, FlowEnd, Graph, Node, nested};

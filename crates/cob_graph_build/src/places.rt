@@ -1,19 +1,21 @@
 //! Where control goes: the first node of what follows, by the number at which it begins and what follows that.
 ghost use Rattle.std.specs.Prelude.{◌≡◌, ◌+◌, ◌-◌, ℕ, IfOk};
 ghost use Rattle.cob_program.specs.Act as act;
-ghost use Rattle.cob_program.specs.ActView.{plain_stmt, plain_program, plain_body, plain_turns, plain_stmts, plain_phrase, plain_whens};
-ghost use Rattle.cob_program.specs.LogicView.{plain_logic, plain_logics};
+ghost use Rattle.cob_program.specs.ActView.{plain_stmt, plain_program, plain_body, plain_turns, plain_stmts, plain_phrase, plain_when, plain_whens};
+ghost use Rattle.cob_program.specs.LogicView.{plain_logics};
 ghost use Rattle.cob_runs.specs.Acts.{has_status};
 ghost use Rattle.cob_graph.specs.Laid.{LaidParas, LaidBody, list_size, size, phrase_size, whens_size, body_size, tests_in, tests_among};
-ghost use Rattle.cob_graph.specs.Places.{first_of_list, first_of_paras, first_of_para, first_of_body, first_of_logic, first_of_all, first_of_any, first_of_whens, body_at, tests_at, augment_at, body_next};
+ghost use Rattle.cob_graph.specs.Places.{first_of_list, first_of_paras, first_of_para, first_of_body, first_of_all, first_of_any, first_of_whens, body_at, tests_at, augment_at, body_next};
 ghost use Rattle.cob_graph.specs.Nodes.{Copied, bad_to, end_to, list_nodes};
 ghost use Rattle.cob_graph_build.specs.Tables.{lay_stmt, lay_list, lay_phrase, lay_whens, lay_body, lay_paras};
 ghost use Rattle.cob_graph_build.specs.Growing.{plan, copies_of, copied_of};
+ghost use Rattle.cob_graph_build.specs.Ways.{when_tests, when_body};
 
 use crate::counting::{
     body_at, body_size, is_in, stmt_size, stmts_size, tests_among, tests_in, whens_size,
 };
 use crate::numbers::{exact, less, sum_of};
+use crate::ways::{Way, way_of_all, way_of_any};
 use crate::within::Within;
 use cob_data::Layout;
 use cob_program::{Body, Logic, Program, Stmt, Turns, When};
@@ -126,11 +128,19 @@ impl<'a> Within<'a> {
             [] => Ok(other),
             [when, rest @ ..] => {
                 let left = less(left)?;
-                let list_at = sum_of(at, exact(tests_among(when.tests.get()))?)?;
-                let rest_at = sum_of(list_at, self.list_nodes(&when.body)?)?;
-                let yes = first_of_list(&when.body, list_at, next);
-                let no = self.first_of_whens(rest, rest_at, other, next, left)?;
-                first_of_any(when.tests.get(), at, yes, no, left)
+                let tests = tests_of(when);
+                match way_of_any(tests, at, left)? {
+                    Way::At(first) => Ok(first),
+                    Way::Held => {
+                        let list_at = behind_tests(tests, at)?;
+                        Ok(first_of_list(body_of(when), list_at, next))
+                    }
+                    Way::Failed => {
+                        let list_at = behind_tests(tests, at)?;
+                        let rest_at = sum_of(list_at, self.list_nodes(body_of(when))?)?;
+                        self.first_of_whens(rest, rest_at, other, next, left)
+                    }
+                }
             }
         }
     }
@@ -156,6 +166,25 @@ impl<'a> Within<'a> {
             Some(list) => first_of_list(list, at, next),
         }
     }
+}
+
+fn tests_of(when: &When) -> &[Logic]
+    ensures { plain_logics result.now ≡ when_tests (plain_when when.now) }
+{
+    when.tests.get()
+}
+
+fn body_of(when: &When) -> &[Stmt]
+    ensures { plain_stmts result.now ≡ when_body (plain_when when.now) }
+{
+    &when.body
+}
+
+/// What stands behind so many tests.
+fn behind_tests(tests: &[Logic], at: u32) -> Result<u32, AllocError>
+    ensures { IfOk result (λ n. n ≡ at + tests_among (plain_logics tests.now)) }
+{
+    sum_of(at, exact(tests_among(tests))?)
 }
 
 /// Whether a file has FILE STATUS.
@@ -208,28 +237,7 @@ pub fn node_behind(within: &Within, list: &[Stmt], from: usize, at: u32) -> u32
 
 // ---- conditions
 
-/// The node at which a condition begins.
-#[cycle(firsts)]
-pub fn first_of_logic(
-    logic: &Logic,
-    at: u32,
-    yes: u32,
-    no: u32,
-    left: u32,
-) -> Result<u32, AllocError>
-    ensures { IfOk result (λ n. n ≡ first_of_logic (plain_logic logic.now) at yes no) }
-{
-    let left = less(left)?;
-    match logic {
-        Logic::All(parts) => first_of_all(parts, at, yes, no, left),
-        Logic::Any(parts) => first_of_any(parts, at, yes, no, left),
-        Logic::Not(part) => first_of_logic(part, at, no, yes, left),
-        Logic::Test(_) => Ok(at),
-    }
-}
-
 /// The node at which conditions begin that are all to hold.
-#[cycle(firsts)]
 pub fn first_of_all(
     parts: &[Logic],
     at: u32,
@@ -239,19 +247,10 @@ pub fn first_of_all(
 ) -> Result<u32, AllocError>
     ensures { IfOk result (λ n. n ≡ first_of_all (plain_logics parts.now) at yes no) }
 {
-    let left = less(left)?;
-    match parts {
-        [] => Ok(yes),
-        [part, rest @ ..] => {
-            let behind = sum_of(at, exact(tests_in(part))?)?;
-            let yes = first_of_all(rest, behind, yes, no, left)?;
-            first_of_logic(part, at, yes, no, left)
-        }
-    }
+    Ok(way_of_all(parts, at, left)?.led(yes, no))
 }
 
 /// The node at which conditions begin of which one is to hold.
-#[cycle(firsts)]
 pub fn first_of_any(
     parts: &[Logic],
     at: u32,
@@ -261,15 +260,7 @@ pub fn first_of_any(
 ) -> Result<u32, AllocError>
     ensures { IfOk result (λ n. n ≡ first_of_any (plain_logics parts.now) at yes no) }
 {
-    let left = less(left)?;
-    match parts {
-        [] => Ok(no),
-        [part, rest @ ..] => {
-            let behind = sum_of(at, exact(tests_in(part))?)?;
-            let no = first_of_any(rest, behind, yes, no, left)?;
-            first_of_logic(part, at, yes, no, left)
-        }
-    }
+    Ok(way_of_any(parts, at, left)?.led(yes, no))
 }
 
 // ---- loops

@@ -2,7 +2,8 @@
 use Rattle.std.proofs.Common.{◌≡◌, ℕ, ◌+◌, ◌-◌, ◌<◌, ◌≤◌, Bool, true, false, List, [], ◌∷◌, ◌++◌, append_assoc, append-nil, length, drop, refl, ap, ◌∙◌, sym, cond, Option, Some, None, arith, add-zero, zero-add}
 use Rattle.std.specs.Option.{option_map}
 use Rattle.cob_lex.specs.declared.text.Mark.{Mark}
-use Rattle.cob_lex.specs.Marks.{ch_at, goes_on, run_len, literal_len, undoubled, is_closed, half_behind, is_second, closed_at, undoubled_one}
+use Rattle.cob_lex.specs.Marks.{run_len, literal_len, undoubled, is_closed, half_behind, is_second, closed_at, undoubled_one}
+use Rattle.cob_lex.specs.Characters.{ch_at, goes_on}
 
 pub run_len_on : (xs : List Mark) → 0 < length xs → goes_on xs ≡ true → run_len xs ≡ 1 + run_len (drop 1 xs)
 unfolding run_len

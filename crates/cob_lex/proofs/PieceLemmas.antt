@@ -1,12 +1,14 @@
 -- Reading on behind a token.
-use Rattle.std.proofs.Common.{◌≡◌, ℕ, ◌+◌, ◌-◌, ◌<◌, ◌≤◌, zero, suc, List, [], ◌∷◌, ◌++◌, length, drop, refl, ap, ◌∙◌, sym, subst, arith, append_assoc, append-nil, Option, Some, None, Result, Ok, Err}
+use Rattle.std.proofs.Common.{◌≡◌, ℕ, ◌+◌, ◌-◌, ◌<◌, zero, suc, List, [], ◌∷◌, ◌++◌, length, drop, refl, ap, ◌∙◌, sym, arith, append_assoc, append-nil, Option, Some, None, Result, Ok, Err}
 use Rattle.cob_lex.specs.declared.text.Mark.{Mark}
 use Rattle.cob_lex.specs.declared.cut.State.{State}
 use Rattle.cob_lex.specs.declared.cut.Cut.{Cut}
 use Rattle.cob_lex.specs.declared.piece.Piece.{Piece}
 use Rattle.cob_lex.specs.declared.piece.Place.{Place}
 use Rattle.cob_lex.specs.Cuts.{cut, after}
-use Rattle.cob_lex.specs.Pieces.{place_of, first, piece_list, prefixed, begun, read, raw_tokens}
+use Rattle.cob_lex.specs.Pieces.{prefixed, begun, read}
+use Rattle.cob_lex.specs.Characters.{first}
+use Rattle.cob_lex.specs.Spelled.{place_of, piece_list}
 
 pub prefixed_nil : (r : Result (List Piece) Place) → prefixed [] r ≡ r
 prefixed_nil (Ok ps) = refl

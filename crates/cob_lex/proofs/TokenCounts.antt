@@ -1,5 +1,5 @@
 -- How many tokens a text may have: each raw token takes a character, and rewriting makes no token more.
-use Rattle.std.proofs.Common.{◌≡◌, ℕ, ◌+◌, ◌-◌, ◌*◌, ◌≤◌, zero, suc, Bool, false, subst, arith, List, [], ◌∷◌, length, Option, None, Some, Result, Ok, Err}
+use Rattle.std.proofs.Common.{◌≡◌, ℕ, ◌+◌, ◌-◌, ◌*◌, ◌≤◌, zero, suc, Bool, false, subst, ap, arith, List, [], ◌∷◌, length, map, Option, None, Some, Result, Ok, Err}
 use Rattle.std.proofs.lemmas.List.{length-append, length-map}
 use Rattle.cob_lex.specs.declared.text.Mark.{Mark}
 use Rattle.cob_lex.specs.declared.refusal.Place as text
@@ -13,10 +13,12 @@ use Rattle.cob_lex.specs.declared.piece.Place as lex
 use Rattle.cob_lex.specs.declared.row.Fate.{Fate}
 use Rattle.cob_lex.specs.declared.row.Fate.TheVariants.{Keep, Becomes, Dropped}
 use Rattle.cob_lex.specs.Cuts.{cut, after}
-use Rattle.cob_lex.specs.Pieces.{piece_list, prefixed, begun, read, beginning, raw_tokens}
+use Rattle.cob_lex.specs.Pieces.{prefixed, begun, read, beginning}
 use Rattle.cob_lex.specs.Rows.{row_at, fated, reworded, compared_at, words_of, related, is_stop, padded, rewritten}
-use Rattle.cob_lex.specs.Canonical.{token, canonical, canonical_tokens}
-use Rattle.cob_lex.specs.Scan.{Scan, BadLineAt, BadTokenAt, Tokens, lexed, joined, scan_of}
+use Rattle.cob_lex.specs.Canonical.{token, AreTokensOf}
+use Rattle.cob_lex.specs.Spelled.{piece_list, pieces}
+use Rattle.cob_lex.specs.Scan.{BadLineAt, Tokens, ScansBy, Scans}
+use Rattle.cob_lex.proofs.Spelling.{spelled_are_read}
 use Rattle.cob_lex.proofs.Most.{Most, most_more}
 use Rattle.cob_lex.proofs.TextLengths.{text_few}
 use Rattle.cob_tree.specs.Limits.{token_limit}
@@ -78,35 +80,24 @@ rewritten_few ps =
     let twice = related 0 once in
     omega (arith, reworded_few 0 ps, related_few 0 once, padded_few false twice)
 
-canonical_few : (n : ℕ) (text : List Mark) (r : Result (List Piece) lex.Place) → Most n r → Most n (canonical text r)
-canonical_few n text (Ok ps) most = omega (arith, length-map (rewritten ps) (token text), rewritten_few ps)
-canonical_few n text (Err refused) most = tt
-
 -- a text has at most as many tokens as characters
-tokens_few : (text : List Mark) → Most (length text) (canonical_tokens text)
-unfolding canonical_tokens
-tokens_few text = canonical_few (length text) text (raw_tokens text) (read_few 0 beginning 0 text)
+tokens_few : (text : List Mark) (tokens : List Token) → AreTokensOf text tokens → length tokens ≤ length text
+tokens_few text tokens are =
+    let raw = pieces 0 are.parts in
+    let most : Most {E = lex.Place} (length text) (Ok raw) = subst (Most (length text)) (spelled_are_read text are.parts are.spelled) (read_few 0 beginning 0 text) in
+    let same : length tokens ≡ length (map (token text) (rewritten raw)) = ap length are.are in
+    omega (arith, same, length-map (rewritten raw) (token text), rewritten_few raw, most)
 
--- at most so many tokens, if there are tokens
-abbrev HasMost : ℕ → Scan → Type 0
-HasMost n (BadLineAt line column) = Unit {0}
-HasMost n (BadTokenAt line column) = Unit {0}
-HasMost n (Tokens tokens) = length tokens ≤ n
+scanned_few : (n : ℕ) (r : Result (List Mark) text.Place) (tokens : List Token) → Most n r → ScansBy r (Tokens tokens) → length tokens ≤ n
+scanned_few n (Ok marks) tokens most are = omega (arith, most, tokens_few marks tokens are)
+scanned_few n (Err bad) tokens most are = absurd (unlike tokens bad.line bad.column are)
+  where
+    unlike : (tokens : List Token) (line column : ℕ) → Tokens tokens ≡ BadLineAt line column → ⊥
+    unlike tokens line column e = cc
 
-lexed_few : (n : ℕ) (r : Result (List Token) lex.Place) → Most n r → HasMost n (lexed r)
-lexed_few n (Ok tokens) most = most
-lexed_few n (Err place) most = tt
-
-joined_few : (n : ℕ) (r : Result (List Mark) text.Place) → Most n r → HasMost n (joined r)
-joined_few n (Ok marks) most =
-    let tokens = canonical_tokens marks in
-    lexed_few n tokens (most_more (length marks) n tokens most (tokens_few marks))
-joined_few n (Err place) most = tt
-
-pub few_tokens : (bytes : List ℕ) (tokens : List Token) → length bytes ≤ source_limit → scan_of bytes ≡ Tokens tokens
+pub few_tokens : (bytes : List ℕ) (tokens : List Token) → length bytes ≤ source_limit → Scans bytes (Tokens tokens)
     → length tokens ≤ token_limit
-few_tokens bytes tokens h e =
+few_tokens bytes tokens h are =
     let n = 66 * (length bytes + 1) in
-    let scanned : HasMost n (scan_of bytes) = joined_few n (source_text bytes) (text_few bytes) in
-    let most : length tokens ≤ n = subst (HasMost n) e scanned in
+    let most : length tokens ≤ n = scanned_few n (source_text bytes) tokens (text_few bytes) are in
     omega arith

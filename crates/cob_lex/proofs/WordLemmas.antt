@@ -10,7 +10,7 @@ use Rattle.std.proofs.lemmas.Slice.Eq.{bytes_eq-Decides}
 use Rattle.cob_lex.specs.declared.text.Mark.{Mark}
 use Rattle.cob_tree.specs.declared.keyword.Keyword.{Keyword}
 use Rattle.cob_tree.specs.Keywords.{text_of, keywords, keyword_among, keyword_of}
-use Rattle.cob_lex.specs.Marks.{ch_at, blank}
+use Rattle.cob_lex.specs.Characters.{ch_at, blank}
 use Rattle.cob_lex.specs.Words.{raised, spelled_keyword}
 
 pub raised_on : (front : List Mark) (capitals : List ℕ) (k ch : ℕ) → k < length front → k < length capitals → ch ≡ to_ascii_uppercase (ch_at front k) → take k capitals ≡ raised (take k front) → take (k + 1) (set capitals k ch) ≡ raised (take (k + 1) front)

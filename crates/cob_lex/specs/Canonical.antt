@@ -1,5 +1,5 @@
 -- The canonical tokens of a text.
-use Rattle.std.specs.Prelude.{ℕ, ◌-◌, Bool, ◌||◌, ◌==◌, min, if◌then◌else◌, List, ◌∷◌, map, length, take, drop, Option, Some, None, Result, Ok, Err}
+use Rattle.std.specs.Prelude.{◌≡◌, ℕ, ◌-◌, min, if◌then◌else◌, List, ◌∷◌, map, length, take, drop, Option, Some, None}
 use Rattle.std.specs.List.{filter, position}
 use Rattle.cob_lex.specs.declared.text.Mark.{Mark}
 use Rattle.cob_tree.specs.declared.keyword.Keyword.{Keyword}
@@ -14,34 +14,23 @@ use Rattle.cob_lex.specs.declared.cut.Shape.{Shape}
 use Rattle.cob_lex.specs.declared.cut.Shape.TheVariants.{Word, Number, Padded, Literal, Symbol, Relation, Stop, PictureString}
 use Rattle.cob_lex.specs.declared.piece.Piece.{Piece}
 use Rattle.cob_lex.specs.declared.piece.Place.{Place}
-use Rattle.cob_lex.specs.Marks.{ch_at, is_digit, content}
+use Rattle.cob_lex.specs.Marks.{content}
 use Rattle.cob_lex.specs.Words.{raised}
-use Rattle.cob_lex.specs.Pieces.{place, raw_tokens}
+use Rattle.cob_lex.specs.Characters.{ch_at, characters, is_sign}
+use Rattle.cob_lex.specs.Tokens.{is_digit_mark, is_point}
+use Rattle.cob_lex.specs.Spelled.{Part, IsSpelled, pieces, place}
 use Rattle.cob_lex.specs.Rows.{rewritten}
-
--- the characters as they stand
-abbrev pub characters : List Mark → List ℕ
-characters front = map (λ m. m.ch) front
 
 -- a reserved word is written by its text, any other word as it stands, in capitals
 abbrev pub written : Option Keyword → List Mark → List ℕ
 written (Some keyword) front = text_of keyword
 written None front = raised front
 
-abbrev pub is_digit_mark : Mark → Bool
-is_digit_mark m = is_digit m.ch
-
 abbrev pub digits : List Mark → List ℕ
 digits front = map (λ m. m.ch) (filter is_digit_mark front)
 
-abbrev pub is_sign : ℕ → Bool
-is_sign ch = ch == 43 || ch == 45
-
 abbrev pub sign : List Mark → ℕ
 sign front = if is_sign (ch_at front 0) then ch_at front 0 else 0
-
-abbrev pub is_point : Mark → Bool
-is_point m = m.ch == 46
 
 abbrev pub point : List Mark → Option ℕ
 point front = position is_point front
@@ -54,7 +43,8 @@ scale (Some k) count = min (count - k - 1) 18
 abbrev pub number : List ℕ → List Mark → Num
 number spelled front = record { sign = sign front; digits = spelled; scale = scale (point front) (length front) }
 
--- what a token of this shape is, from its characters
+-- What a token of this shape is, from its characters. The content of a text is what stands doubled between its marks
+-- (the law `texts_stand_doubled`).
 abbrev pub tok_of : Shape → List Mark → Tok
 tok_of (Word word) front = tok.Word (written word front)
 tok_of Number front = tok.Number (number (digits front) front)
@@ -72,13 +62,11 @@ characters_of text p = take p.length (drop p.start text)
 abbrev pub token : List Mark → Piece → Token
 token text p = record { tok = tok_of p.shape (characters_of text p); line = p.line; column = p.column }
 
-abbrev pub canonical : List Mark → Result (List Piece) Place → Result (List Token) Place
-canonical text (Ok ps) = Ok (map (token text) (rewritten ps))
-canonical text (Err refused) = Err refused
-
--- the canonical tokens of a text, or the place of the first token that doesn't begin or end rightly
-unfoldable pub canonical_tokens : List Mark → Result (List Token) Place
-canonical_tokens text = canonical text (raw_tokens text)
+-- The canonical tokens of a text: those that spell it, rewritten.
+pub record AreTokensOf (text : List Mark) (tokens : List Token) : Type 0 where
+  pub parts : List Part
+  pub spelled : IsSpelled text parts
+  pub are : tokens ≡ map (token text) (rewritten (pieces 0 parts))
 
 -- the fact for the place of a bad token; nothing for want of memory
 abbrev pub IfBadToken : LexEnd → (Place → Type 0) → Type 0

@@ -1,4 +1,4 @@
--- The token or separator at the beginning of a text, and what it leaves for the next one.
+-- The token or separator that the scanner cuts off a text, and what it leaves for the next one.
 use Rattle.std.specs.Prelude.{ℕ, ◌+◌, ◌-◌, Bool, ◌&&◌, ◌||◌, ◌==◌, nat_le, if◌then◌else◌, List, length, take, drop, Option, Some, None, true, false}
 use Rattle.cob_lex.specs.declared.text.Mark.{Mark}
 use Rattle.cob_tree.specs.declared.token.Rel.{Rel}
@@ -6,15 +6,18 @@ use Rattle.cob_tree.specs.declared.token.Rel.TheVariants.{Equal, Less, Greater, 
 use Rattle.cob_lex.specs.declared.mark.Class.{Class}
 use Rattle.cob_lex.specs.declared.mark.Class.TheVariants.{Space, Comma, Point, Plus, Single, EqualSign, LessSign, GreaterSign, QuotationMark, Run, Other}
 use Rattle.cob_tree.specs.declared.keyword.Keyword.{Keyword}
-use Rattle.cob_tree.specs.declared.keyword.Keyword.TheVariants.{Pic, Picture, Is}
+use Rattle.cob_tree.specs.declared.keyword.Keyword.TheVariants.{Is}
 use Rattle.cob_lex.specs.declared.cut.Shape.{Shape}
 use Rattle.cob_lex.specs.declared.cut.Shape.TheVariants.{Word, Number, Literal, Symbol, Relation, Stop, PictureString}
 use Rattle.cob_lex.specs.declared.cut.Due.{Due}
 use Rattle.cob_lex.specs.declared.cut.Due.TheVariants.{Nothing, BehindPic, BehindIs}
 use Rattle.cob_lex.specs.declared.cut.State.{State}
 use Rattle.cob_lex.specs.declared.cut.Cut.{Cut}
-use Rattle.cob_lex.specs.Marks.{ch_at, is_digit, class_of, is_gap, ends_rightly, run_of, literal_len, content, solid_len, stripped}
-use Rattle.cob_lex.specs.Words.{spelled_keyword, is_word, is_unsigned, is_minus}
+use Rattle.cob_lex.specs.Marks.{class_of, run_of, literal_len, content, solid_len, stripped}
+use Rattle.cob_lex.specs.Characters.{ch_at, is_digit, is_gap, ends_rightly}
+use Rattle.cob_lex.specs.Words.{spelled_keyword}
+use Rattle.cob_lex.specs.WordTests.{is_word, is_unsigned, is_minus}
+use Rattle.cob_lex.specs.Tokens.{is_opening, due_after}
 
 -- a separator
 abbrev pub gap : Cut
@@ -105,26 +108,6 @@ token_at BehindIs free text = picture_token (take (solid_len text) text)
 -- the token or separator at the beginning of a text that isn't empty; none where none begins or ends rightly there
 unfoldable pub cut : State → List Mark → Option Cut
 cut s text = if is_gap text then Some gap else token_at s.due s.free text
-
--- A number may have a sign where a space or `(` stands before it.
-abbrev pub is_opening : ℕ → Bool
-is_opening ch = ch == 32 || ch == 40
-
--- the reserved word that a token is
-abbrev pub keyword : Shape → Option Keyword
-keyword (Word word) = word
-keyword _ = None
-
-abbrev pub due_behind : Due → Option Keyword → Due
-due_behind Nothing (Some Pic) = BehindPic
-due_behind Nothing (Some Picture) = BehindPic
-due_behind BehindPic (Some Is) = BehindIs
-due_behind _ _ = Nothing
-
--- separators may stand between PIC, IS and the picture
-abbrev pub due_after : Due → Option Shape → Due
-due_after due None = due
-due_after due (Some shape) = due_behind due (keyword shape)
 
 -- what holds behind a token or separator
 unfoldable pub after : State → Cut → List Mark → State

@@ -1,28 +1,11 @@
--- Characters of a text: their classes, runs of them, and what may stand behind a token.
-use Rattle.std.specs.Prelude.{ℕ, ◌+◌, ◌-◌, Bool, not, ◌&&◌, ◌||◌, ◌==◌, nat_lt, nat_le, if◌then◌else◌, List, [], ◌∷◌, length, take, drop, slice_index_or, Option, Some, None, true, false}
+-- How the scanner looks at characters: by classes, in runs, and through literals.
+use Rattle.std.specs.Prelude.{ℕ, ◌+◌, ◌-◌, Bool, not, ◌&&◌, ◌||◌, ◌==◌, if◌then◌else◌, List, [], ◌∷◌, length, take, drop, Option, Some, None, false}
 use Rattle.std.specs.List.{position}
 use Rattle.std.specs.Option.{option_map, unwrap_or}
 use Rattle.cob_lex.specs.declared.text.Mark.{Mark}
 use Rattle.cob_lex.specs.declared.mark.Class.{Class}
 use Rattle.cob_lex.specs.declared.mark.Class.TheVariants.{Space, Comma, Point, Plus, Single, EqualSign, LessSign, GreaterSign, QuotationMark, Run, Other}
-
--- A text counts as followed by a space.
-abbrev pub blank : Mark
-blank = record { ch = 32; line = 0; column = 0 }
-
--- the character at this place of a text, from 0
-abbrev pub ch_at : List Mark → ℕ → ℕ
-ch_at text k = (slice_index_or text k blank).ch
-
-abbrev pub is_letter : ℕ → Bool
-is_letter ch = (nat_le 65 ch && nat_le ch 90) || (nat_le 97 ch && nat_le ch 122)
-
-abbrev pub is_digit : ℕ → Bool
-is_digit ch = nat_le 48 ch && nat_le ch 57
-
--- letters, digits and the hyphen
-abbrev pub is_word_character : ℕ → Bool
-is_word_character ch = is_letter ch || is_digit ch || ch == 45
+use Rattle.cob_lex.specs.Characters.{ch_at, is_word_character, goes_on, is_point_comma_semicolon}
 
 abbrev pub class_of : ℕ → Class
 class_of ch =
@@ -37,21 +20,6 @@ class_of ch =
     else if ch == 34 || ch == 39 then QuotationMark
     else if is_word_character ch then Run
     else Other
-
--- a separator begins the text: a space, or a comma or semicolon that a space follows
-abbrev pub is_gap : List Mark → Bool
-is_gap text = ch_at text 0 == 32 || ((ch_at text 0 == 44 || ch_at text 0 == 59) && ch_at text 1 == 32)
-
--- a space, a parenthesis, a relation, a Stop or a separator begins the text
-abbrev pub ends_rightly : List Mark → Bool
-ends_rightly text =
-    ch_at text 0 == 32 || ch_at text 0 == 40 || ch_at text 0 == 41
-    || ch_at text 0 == 60 || ch_at text 0 == 61 || ch_at text 0 == 62
-    || ((ch_at text 0 == 44 || ch_at text 0 == 46 || ch_at text 0 == 59) && ch_at text 1 == 32)
-
--- a letter, digit or hyphen begins the text, or an inner point, which is one that a digit follows
-abbrev pub goes_on : List Mark → Bool
-goes_on text = is_word_character (ch_at text 0) || (ch_at text 0 == 46 && is_digit (ch_at text 1))
 
 -- how long the run of letters, digits, hyphens and inner points at the beginning of the text is
 unfoldable pub run_len : List Mark → ℕ
@@ -110,9 +78,6 @@ first_space text = position is_space text
 -- how long the text is up to its first space
 abbrev pub solid_len : List Mark → ℕ
 solid_len text = unwrap_or (first_space text) (length text)
-
-abbrev pub is_point_comma_semicolon : ℕ → Bool
-is_point_comma_semicolon ch = ch == 44 || ch == 46 || ch == 59
 
 -- a text without a point, comma or semicolon at its end
 abbrev pub stripped : List Mark → List Mark

@@ -1,8 +1,7 @@
--- The raw tokens of a text, read from left to right, or the first place at which none stands.
-use Rattle.std.specs.Prelude.{◌≡◌, ℕ, ◌+◌, ◌-◌, zero, suc, false, List, [], ◌∷◌, ◌++◌, length, drop, slice_index_or, Option, Some, None, Result, Ok, Err}
+-- How the scanner reads the raw tokens of a text from left to right, up to the first place at which it cuts off none.
+use Rattle.std.specs.Prelude.{◌≡◌, ℕ, ◌+◌, ◌-◌, zero, suc, false, List, [], ◌∷◌, ◌++◌, Option, Some, None, Result, Ok, Err}
 use Rattle.std.specs.Global.{Vec}
 use Rattle.cob_lex.specs.declared.text.Mark.{Mark}
-use Rattle.cob_lex.specs.declared.cut.Shape.{Shape}
 use Rattle.cob_lex.specs.declared.cut.Due.TheVariants.{Nothing}
 use Rattle.cob_lex.specs.declared.cut.State.{State}
 use Rattle.cob_lex.specs.declared.cut.Cut.{Cut}
@@ -10,24 +9,8 @@ use Rattle.cob_lex.specs.declared.piece.Piece.{Piece}
 use Rattle.cob_lex.specs.declared.piece.Place.{Place}
 use Rattle.cob_lex.specs.declared.LexEnd.{LexEnd}
 use Rattle.cob_lex.specs.declared.LexEnd.TheVariants.{BadToken, Memory}
-use Rattle.cob_lex.specs.Marks.{blank}
 use Rattle.cob_lex.specs.Cuts.{cut, after}
-
-abbrev pub place : ℕ → ℕ → Place
-place line column = record { line = line; column = column }
-
-abbrev pub place_of : Mark → Place
-place_of m = place m.line m.column
-
--- the first character
-abbrev pub first : List Mark → Mark
-first text = slice_index_or text 0 blank
-
--- the token that begins with this character of the text, counted from 0; none for a separator
-abbrev pub piece_list : ℕ → Mark → ℕ → Option Shape → List Piece
-piece_list start m n None = []
-piece_list start m n (Some shape) =
-    (record { shape = shape; start = start; length = n; line = m.line; column = m.column }) ∷ []
+use Rattle.cob_lex.specs.Spelled.{place, place_of, piece_list}
 
 abbrev pub prefixed : List Piece → Result (List Piece) Place → Result (List Piece) Place
 prefixed ps (Ok qs) = Ok (ps ++ qs)

@@ -12,7 +12,7 @@ use Rattle.cob_lex.specs.declared.row.Fate.{Fate}
 use Rattle.cob_lex.specs.declared.row.Fate.TheVariants.{Keep, Becomes, Dropped}
 use Rattle.cob_lex.specs.declared.row.Row.{Row}
 use Rattle.cob_lex.specs.declared.row.Compared.{Compared}
-use Rattle.cob_lex.specs.Cuts.{keyword}
+use Rattle.cob_lex.specs.Tokens.{keyword}
 
 -- what a row of one word makes of it
 abbrev pub fate_of : Option Keyword → Fate

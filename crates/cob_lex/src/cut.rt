@@ -1,8 +1,10 @@
 //! The next raw token of a text: what is cut off, or why nothing can be.
 ghost use Rattle.std.specs.Prelude.{◌≡◌, ◌+◌, ◌-◌, ◌<◌, ◌≤◌, length, drop, take, false};
 ghost use Rattle.std.specs.Bool.{OnTrue};
-ghost use Rattle.cob_lex.specs.Marks.{ch_at, literal_len, solid_len};
-ghost use Rattle.cob_lex.specs.Cuts.{single, ended, is_lone_hyphen, run_token, plus_token, point_token, angle_token, is_literal, literal_token, picture_token, is_the_word_is, is_is, token_by, token_at, cut, is_opening, keyword, due_behind, due_after, after};
+ghost use Rattle.cob_lex.specs.Marks.{literal_len, solid_len};
+ghost use Rattle.cob_lex.specs.Cuts.{single, ended, is_lone_hyphen, run_token, plus_token, point_token, angle_token, is_literal, literal_token, picture_token, is_the_word_is, is_is, token_by, token_at, cut, after};
+ghost use Rattle.cob_lex.specs.Tokens.{is_opening, keyword, due_behind, due_after};
+ghost use Rattle.cob_lex.specs.Characters.{ch_at};
 ghost use Rattle.cob_lex.specs.Bounds.{IsWithin};
 
 use crate::mark::{

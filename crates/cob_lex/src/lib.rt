@@ -4,8 +4,10 @@
 #![tactic(auto)]
 
 ghost use Rattle.std.specs.Prelude.{◌≡◌, map, Ok, Err, IfOk, IfErr};
-ghost use Rattle.cob_lex.specs.Canonical.{canonical_tokens, token, IfBadToken};
+ghost use Rattle.cob_lex.specs.Canonical.{AreTokensOf, token, IfBadToken};
+ghost use Rattle.cob_lex.specs.Spelled.{IsStopped};
 ghost use Rattle.cob_lex.specs.Rows.{rewritten};
+ghost use Rattle.cob_lex.specs.Known.{AreKnown};
 ghost use Rattle.cob_lex.specs.declared.LexEnd.TheVariants.{Memory};
 
 mod cut;
@@ -23,7 +25,10 @@ mod token;
 mod word;
 
 use cob_tree::Token;
-pub use laws::{one_spelling, sources_have_few_tokens, spelling_is_read};
+pub use laws::{
+    canonical_tokens_are_spellable, examples, one_spelling, one_stop, printed_tokens_are_read,
+    sources_have_few_tokens, texts_stand_doubled,
+};
 use piece::{Piece, raw_tokens};
 use row::rewritten;
 pub use scan::{ScanEnd, tokens_in};
@@ -34,7 +39,7 @@ use token::tokens;
 /// Why a text has no canonical tokens.
 #[derive(Clone, Copy, PartialEq, Eq)]
 pub enum LexEnd {
-    /// The first character of the first token that doesn't begin or end rightly.
+    /// The first place at which neither a token nor a separator stands.
     BadToken { line: u32, column: u32 },
     /// Memory ran out.
     Memory,
@@ -56,7 +61,9 @@ impl From<AllocError> for LexEnd {
     }
 }
 
+#[tactic(auto, using(crate::proofs::KnownLemmas::rewritten_known))]
 fn finished(alloc: Global, text: &[Mark], raw: &[Piece]) -> Result<Vec<Token>, LexEnd>
+    requires { AreKnown text.now raw.now }
     ensures ok { IfOk result (λ v. v.items ≡ map (token text.now) (rewritten raw.now)) }
     ensures err { IfErr result (λ e. e ≡ Memory) }
 {
@@ -70,10 +77,10 @@ fn finished(alloc: Global, text: &[Mark], raw: &[Piece]) -> Result<Vec<Token>, L
 ///
 /// Own to this reader: `'` is a quotation mark like `"`; ID, COMP-3, COMPUTATIONAL-3 and RECORDING
 /// are words of the language; an optional word is dropped wherever it stands.
-#[tactic(auto, using(crate::proofs::TokenLemmas::canonical_are))]
+#[tactic(auto, using(crate::proofs::Spelling::tokens_are, crate::proofs::KnownLemmas::raw_known))]
 pub fn tokens_of(alloc: Global, text: &[Mark]) -> Result<Vec<Token>, LexEnd>
-    ensures tokens { IfOk result (λ tokens. canonical_tokens text.now ≡ Ok tokens.items) }
-    ensures bad_token { IfErr result (λ end. IfBadToken end (λ place. canonical_tokens text.now ≡ Err place)) }
+    ensures tokens { IfOk result (λ tokens. AreTokensOf text.now tokens.items) }
+    ensures bad_token { IfErr result (λ end. IfBadToken end (IsStopped text.now)) }
 {
     match raw_tokens(alloc, text) {
         Err(end) => Err(end),

@@ -2,7 +2,8 @@
 ghost use Rattle.std.specs.Prelude.{◌≡◌, ◌+◌, ◌-◌, ◌<◌, ◌≤◌, length, drop, take, IfSome, false, if◌then◌else◌};
 ghost use Rattle.std.specs.Option.{ForSome};
 ghost use Rattle.std.specs.Bool.{OnTrue};
-ghost use Rattle.cob_lex.specs.Marks.{ch_at, is_letter, is_digit, is_word_character, class_of, is_gap, ends_rightly, goes_on, run_len, run_of, literal_len, undoubled, is_closed, half_behind, is_second, closed_at, inside, first_space, solid_len, stripped, is_point_comma_semicolon};
+ghost use Rattle.cob_lex.specs.Marks.{class_of, run_len, run_of, literal_len, undoubled, is_closed, half_behind, is_second, closed_at, inside, first_space, solid_len, stripped};
+ghost use Rattle.cob_lex.specs.Characters.{ch_at, is_letter, is_digit, is_word_character, is_gap, ends_rightly, goes_on, is_point_comma_semicolon};
 
 use crate::text::Mark;
 

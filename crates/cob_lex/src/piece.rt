@@ -1,6 +1,8 @@
 //! Raw tokens with their places.
 ghost use Rattle.std.specs.Prelude.{◌≡◌, ◌+◌, ◌-◌, ◌<◌, ◌++◌, length, drop, OnOk};
-ghost use Rattle.cob_lex.specs.Pieces.{place_of, first, piece_list, read, beginning, raw_tokens, Gives};
+ghost use Rattle.cob_lex.specs.Pieces.{read, beginning, raw_tokens, Gives};
+ghost use Rattle.cob_lex.specs.Characters.{first};
+ghost use Rattle.cob_lex.specs.Spelled.{place_of, piece_list};
 
 use crate::LexEnd;
 use crate::cut::{Cut, Due, Shape, State};

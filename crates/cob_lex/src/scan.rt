@@ -15,7 +15,7 @@ use std::alloc::Global;
 pub enum ScanEnd {
     /// The first place that the reference format refuses.
     BadLine { line: u32, column: u32 },
-    /// The first token that doesn't begin or end rightly.
+    /// The first place at which neither a token nor a separator stands.
     BadToken { line: u32, column: u32 },
     /// Memory ran out.
     Memory,

@@ -2,14 +2,16 @@
 ghost use Rattle.std.specs.Prelude.{◌≡◌, ◌+◌, ◌++◌, ◌∷◌, [], ◌<◌, ◌≤◌, map, length, take, drop, IfOk, IfSome, OnOk, false};
 ghost use Rattle.cob_lex.specs.Marks.{undoubled, undoubled_one, content};
 ghost use Rattle.cob_lex.specs.Words.{raised};
-ghost use Rattle.cob_lex.specs.Canonical.{characters, written, digits, is_sign, sign, point, scale, number, tok_of, characters_of, token};
+ghost use Rattle.cob_lex.specs.Canonical.{written, digits, sign, point, scale, number, tok_of, characters_of, token};
+ghost use Rattle.cob_lex.specs.Characters.{characters, is_sign};
+ghost use Rattle.cob_lex.specs.Known.{IsKnownWord, IsKnown, IsKnownPiece, AreKnown};
 
 use crate::cut::Shape;
 use crate::mark::{ch_at, half_behind, inside, is_digit, is_second, tail};
 use crate::piece::{Piece, behind};
 use crate::row::head;
 use crate::text::Mark;
-use cob_tree::{Bytes, Keyword, Name, Num, Tok, Token};
+use cob_tree::{Bytes, Keyword, Name, Num, Tok, Token, Word};
 use std::alloc::{AllocError, Global};
 
 fn characters(alloc: Global, front: &[Mark]) -> Result<Bytes, AllocError>
@@ -29,13 +31,14 @@ fn raised(alloc: Global, front: &[Mark]) -> Result<Name, AllocError>
     Ok(Name::of(alloc, bytes.as_slice())?)
 }
 
-/// A reserved word by its text, and any other as it stands, in capitals.
-fn written(alloc: Global, word: Option<Keyword>, front: &[Mark]) -> Result<Name, AllocError>
-    ensures { IfOk result (λ name. name ≡ written word front.now) }
+/// A reserved word, and any other as it stands, in capitals.
+fn written(alloc: Global, word: Option<Keyword>, front: &[Mark]) -> Result<Word, AllocError>
+    requires { IsKnownWord word front.now }
+    ensures { IfOk result (λ found. found ≡ written word front.now) }
 {
     match word {
-        Some(keyword) => Ok(Name::of(alloc, keyword.text())?),
-        None => Ok(raised(alloc, front)?),
+        Some(keyword) => Ok(Word::reserved(keyword)),
+        None => Ok(Word::free(raised(alloc, front)?)),
     }
 }
 
@@ -145,6 +148,7 @@ fn content(alloc: Global, front: &[Mark]) -> Result<Bytes, AllocError>
 }
 
 fn tok_of(alloc: Global, shape: Shape, front: &[Mark]) -> Result<Tok, AllocError>
+    requires { IsKnown shape front.now }
     ensures { IfOk result (λ tok. tok ≡ tok_of shape front.now) }
 {
     match shape {
@@ -172,6 +176,7 @@ fn characters_of(text: &[Mark], piece: Piece) -> &[Mark]
 }
 
 fn token_of(alloc: Global, text: &[Mark], piece: Piece) -> Result<Token, AllocError>
+    requires { IsKnownPiece text.now piece }
     ensures { IfOk result (λ t. t ≡ token text.now piece) }
 {
     Ok(Token {
@@ -190,6 +195,7 @@ fn push_token(tokens: &mut Vec<Token>, token: Token) -> Result<(), AllocError>
 
 /// The tokens that these pieces of the text are.
 pub fn tokens(alloc: Global, text: &[Mark], pieces: &[Piece]) -> Result<Vec<Token>, AllocError>
+    requires { AreKnown text.now pieces.now }
     ensures { IfOk result (λ v. v.items ≡ map (token text.now) pieces.now) }
 {
     let mut tokens = Vec::new(alloc);

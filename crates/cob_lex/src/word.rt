@@ -1,8 +1,9 @@
 //! What a run of characters is: a word, with the reserved word that it may be, or a number.
 ghost use Rattle.std.specs.Prelude.{◌≡◌, ◌<◌, ◌≤◌, length, count_by};
 ghost use Rattle.std.specs.Bool.{OnTrue};
-ghost use Rattle.cob_lex.specs.Marks.{is_letter, is_word_character};
-ghost use Rattle.cob_lex.specs.Words.{spelled_keyword, is_word, digits_in, points_in, is_unsigned, is_minus};
+ghost use Rattle.cob_lex.specs.Characters.{is_letter, is_word_character};
+ghost use Rattle.cob_lex.specs.Words.{spelled_keyword};
+ghost use Rattle.cob_lex.specs.WordTests.{is_word, digits_in, points_in, is_unsigned, is_minus};
 
 use crate::mark::{ch_at, is_digit, is_letter, is_word_character, tail};
 use crate::text::Mark;

@@ -1,11 +1,12 @@
 -- What reading the divisions before PROCEDURE promises, in the terms of trees and their texts.
-use Rattle.std.specs.Prelude.{◌≡◌, ℕ, ◌≤◌, List, [], ◌∷◌, ◌++◌, length}
+use Rattle.std.specs.Prelude.{◌≡◌, ℕ, ◌≤◌, List, ◌++◌, length}
 use Rattle.cob_tree.specs.declared.token.Token.{Token}
 use Rattle.cob_tree.specs.declared.front.Front.{Front}
 use Rattle.cob_tree.specs.Symbols.{Sign}
 use Rattle.cob_tree.specs.PrintFront.{print_front}
 use Rattle.cob_tree.specs.Shaped.{ShapedFront}
 use Rattle.reading.specs.Printing.{Matches, Next}
+use Rattle.reading.specs.Fronts.{NoFurther, one}
 use Rattle.cob_parse_expr.specs.Alphabet.{grammar}
 use Rattle.cob_parse_expr.specs.Places.{from, line_at}
 use Rattle.cob_parse_expr.specs.LexemeClasses.{by_symbol}
@@ -42,7 +43,7 @@ pub record Stops (ts left : List Sign) : Type 0 where
   pub read : List Sign
   pub parts : ts ≡ read ++ left
   pub begins : Begins read
-  pub no_further : (u : Sign) (rest : List Sign) → left ≡ u ∷ rest → Begins (read ++ u ∷ []) → ⊥
+  pub no_further : NoFurther one (λ front rest. Begins front) read left
 
 -- Nothing is read from a place on, and the line is that of the first token at which nothing goes on.
 pub record IsWrong (tokens : List Token) (place line : ℕ) : Type 0 where

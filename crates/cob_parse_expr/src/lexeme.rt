@@ -1,9 +1,9 @@
-//! Tokens as the parsers see them: each word looked up once among the reserved words.
+//! Tokens as the parsers see them: each word is a reserved word or a name, as was found when it was read.
 ghost use Rattle.std.specs.Prelude.{◌≡◌, IfOk, map};
 ghost use Rattle.cob_tree.specs.Symbols.{symbol_of, seen};
 ghost use Rattle.cob_parse_expr.specs.Lexemes.{plain_symbol, plain_lexeme};
 
-use cob_tree::{Bytes, Keyword, Name, Num, Rel, Tok, Token, keyword_of};
+use cob_tree::{Bytes, Keyword, Name, Num, Rel, Tok, Token};
 use std::alloc::{AllocError, Global};
 
 /// What the grammar sees of a token: a word is a reserved word or a name.
@@ -32,9 +32,9 @@ impl Symbol {
         ensures { IfOk result (λ symbol. plain_symbol symbol ≡ symbol_of tok.now) }
     {
         match tok {
-            Tok::Word(name) => match keyword_of(name.get()) {
+            Tok::Word(word) => match word.keyword() {
                 Some(keyword) => Ok(Symbol::Key(keyword)),
-                None => Ok(Symbol::Name(Name::of(alloc, name.get())?)),
+                None => Ok(Symbol::Name(Name::of(alloc, word.get())?)),
             },
             Tok::Number(number) => Ok(Symbol::Number(number.copied(alloc)?)),
             Tok::Text(text) => Ok(Symbol::Text(Bytes::of(alloc, text.get())?)),
@@ -58,7 +58,7 @@ impl Lexeme {
     }
 }
 
-/// The lexemes of some tokens: each word is looked up once.
+/// The lexemes of some tokens.
 pub fn lexemes(alloc: Global, tokens: &[Token]) -> Result<Vec<Lexeme>, AllocError>
     ensures { IfOk result (λ lexemes. map plain_lexeme lexemes.items ≡ map seen tokens.now) }
 {

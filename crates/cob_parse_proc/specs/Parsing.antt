@@ -1,5 +1,5 @@
 -- What reading a whole program promises.
-use Rattle.std.specs.Prelude.{◌≡◌, ℕ, List, [], ◌∷◌, ◌++◌, length, map}
+use Rattle.std.specs.Prelude.{◌≡◌, ℕ, List, ◌∷◌, ◌++◌, length, map}
 use Rattle.std.specs.List.{AllByRecursion}
 use Rattle.cob_tree.specs.declared.token.Token.{Token}
 use Rattle.cob_tree.specs.Symbols.{Sign, seen}
@@ -8,6 +8,7 @@ use Rattle.cob_tree.specs.Stmt.{Tree}
 use Rattle.cob_tree.specs.PrintStmt.{print_tree}
 use Rattle.cob_tree.specs.Shaped.{ShapedFront, ShapedStmts, ShapedParagraph, Shaped}
 use Rattle.reading.specs.Printing.{Matches, Below}
+use Rattle.reading.specs.Fronts.{NoFurther, one}
 use Rattle.cob_parse_expr.specs.Places.{line_at}
 use Rattle.cob_parse_expr.specs.LexemeClasses.{by_symbol}
 
@@ -43,7 +44,7 @@ pub record Stops (ts left : List Sign) : Type 0 where
   pub parts : ts ≡ read ++ left
   pub goes_on : GoesOn read
   pub below : Below by_symbol top goes_on.before
-  pub no_further : (u : Sign) (rest : List Sign) → left ≡ u ∷ rest → GoesOn (read ++ u ∷ []) → ⊥
+  pub no_further : NoFurther one (λ front rest. GoesOn front) read left
 
 -- No program goes on, and the line is that of the first token that is left; at the end of the tokens the last one's, or 1.
 pub record IsWrong (tokens : List Token) (line : ℕ) : Type 0 where

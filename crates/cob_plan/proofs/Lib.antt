@@ -1,4 +1,3 @@
-mod ActViews
 mod Loops
 mod Sound
 mod NodeList

@@ -100,10 +100,14 @@ module _ (bound : ℕ → Bound) where
     is_small_atom (number n) = is_small (literal_bound n)
     is_small_atom (group s) = is_small_sum s
 
+  -- what is divided and what divides are small
+  abbrev pub is_small_quotient : Root → Bool
+  is_small_quotient r = is_small_product (exactly 1) r.above && is_small_atom r.below
+
   -- Only what is divided and what divides is bounded where a quotient stays exact.
   abbrev pub is_small_root : Sum → Option Root → Bool
   is_small_root s None = is_small_sum s
-  is_small_root s (Some r) = is_small_product (exactly 1) r.above && is_small_atom r.below
+  is_small_root s (Some r) = is_small_quotient r
 
   abbrev pub is_small_stored : Sum → Bool
   is_small_stored s = is_small_root s (root_of s)

@@ -7,3 +7,4 @@ pub mod ActView
 pub mod Statements
 pub mod Values
 pub mod Bounds
+pub mod RootView

@@ -6,6 +6,7 @@ mod act;
 mod laws;
 mod logic;
 mod program;
+mod root;
 mod statements;
 mod sum;
 
@@ -16,4 +17,5 @@ pub use laws::{
 };
 pub use logic::{Logic, Test};
 pub use program::{Para, Program};
+pub use root::Root;
 pub use sum::{Atom, Factor, Part, Sum};

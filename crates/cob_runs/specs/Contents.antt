@@ -8,6 +8,8 @@ use Rattle.cob_tree.specs.declared.form.Form.{Form}
 use Rattle.cob_tree.specs.declared.form.Form.TheVariants as form
 use Rattle.cob_data.specs.declared.layout.Item.{Item}
 use Rattle.cob_data.specs.declared.layout.Layout.{Layout}
+use Rattle.cob_data.specs.Extents.{start_of}
+use Rattle.cob_data.specs.Occurrences.{extent_of}
 use Rattle.num_bytes.specs.Reading.{contents_value}
 use Rattle.num_bytes.specs.Writing.{contents_bytes}
 use Rattle.num_bytes.specs.Editing.{edit_bytes}
@@ -37,12 +39,25 @@ module _ (l : Layout) where
   abbrev pub length_at : ℕ → ℕ
   length_at place = option_map_or (λ i. i.length) (item_at place) 0
 
-  abbrev pub bytes_at : List ℕ → ℕ → List ℕ
-  bytes_at storage place = option_map_or (λ i. area storage i.offset i.length) (item_at place) []
+  -- how many occurrences it has; they are numbered from 0
+  abbrev pub times_at : ℕ → ℕ
+  times_at place = option_map_or (λ i. i.times) (item_at place) 1
 
-  -- storage in which the item holds these bytes
+  abbrev pub occurrence_bytes : List ℕ → ℕ → ℕ → List ℕ
+  occurrence_bytes storage place n =
+      option_map_or (λ i. area storage (start_of (extent_of i) n) i.length) (item_at place) []
+
+  -- storage in which an occurrence of the item holds these bytes
+  abbrev pub occurrence_filled : List ℕ → ℕ → ℕ → List ℕ → List ℕ
+  occurrence_filled storage place n bytes =
+      option_map_or (λ i. written storage (start_of (extent_of i) n) bytes) (item_at place) storage
+
+  -- of an item that is no table's
+  abbrev pub bytes_at : List ℕ → ℕ → List ℕ
+  bytes_at storage place = occurrence_bytes storage place 0
+
   abbrev pub filled_at : List ℕ → ℕ → List ℕ → List ℕ
-  filled_at storage place bytes = option_map_or (λ i. written storage i.offset bytes) (item_at place) storage
+  filled_at storage place bytes = occurrence_filled storage place 0 bytes
 
 -- ---- numbers in items
 
@@ -63,8 +78,11 @@ scaled_by scale units = record { units = units; scale = scale }
 abbrev pub number_in : Form → List ℕ → Option Scaled
 number_in f bytes = option_map (scaled_by (scale_of f)) (contents_value f bytes)
 
+abbrev pub occurrence_number : Layout → List ℕ → ℕ → ℕ → Option Scaled
+occurrence_number l storage place n = number_in (form_at l place) (occurrence_bytes l storage place n)
+
 abbrev pub number_at : Layout → List ℕ → ℕ → Option Scaled
-number_at l storage place = number_in (form_at l place) (bytes_at l storage place)
+number_at l storage place = occurrence_number l storage place 0
 
 -- an item without a sign gets the absolute value
 abbrev pub bytes_of : Form → ℤ → List ℕ

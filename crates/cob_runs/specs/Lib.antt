@@ -1,6 +1,7 @@
 pub mod Contents
 pub mod Faults
 pub mod Moves
+pub mod Subscripts
 pub mod Computing
 pub mod Deciding
 pub mod Showing

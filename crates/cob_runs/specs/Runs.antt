@@ -2,10 +2,13 @@
 use Rattle.std.specs.Prelude.{◌≡◌, ℕ, zero, suc, ◌-◌, List, [], ◌∷◌, length, replicate, slice_get, Option, Some, None, Result, Ok, Err}
 use Rattle.std.specs.Option.{option_map_or}
 use Rattle.cob_tree.specs.declared.fault.Kind.{Kind}
+use Rattle.cob_data.specs.declared.extent.Extent.{Extent}
 use Rattle.cob_data.specs.declared.layout.FileDecl.{FileDecl}
 use Rattle.cob_data.specs.declared.layout.Item.{Item}
 use Rattle.cob_data.specs.declared.layout.Layout.{Layout}
 use Rattle.cob_data.specs.declared.layout.Sender.{Sender}
+use Rattle.cob_data.specs.Extents.{start_of}
+use Rattle.cob_data.specs.Occurrences.{extent_of}
 use Rattle.cob_program.specs.Act.{Program}
 use Rattle.cob_runs.specs.declared.outcome.Outcome.{Outcome}
 use Rattle.cob_runs.specs.declared.outcome.Outcome.TheVariants.{Going, Fault}
@@ -17,11 +20,16 @@ use Rattle.cob_runs.specs.Steps.{body_at, settled_state, step}
 
 -- ---- the beginning
 
+-- storage in which each of the first so many occurrences holds these bytes
+abbrev pub with_occurrences : Extent → List ℕ → ℕ → List ℕ → List ℕ
+with_occurrences e bytes zero storage = storage
+with_occurrences e bytes (suc n) storage = written (with_occurrences e bytes n storage) (start_of e n) bytes
+
 abbrev pub with_value : Item → Result (List ℕ) Kind → List ℕ → List ℕ
-with_value i (Ok bytes) storage = written storage i.offset bytes
+with_value i (Ok bytes) storage = with_occurrences (extent_of i) bytes i.times storage
 with_value i (Err kind) storage = storage
 
--- a VALUE is put as by MOVE
+-- a VALUE is put as by MOVE, into each occurrence
 abbrev pub with_constant : Layout → Item → Option Sender → List ℕ → List ℕ
 with_constant l i None storage = storage
 with_constant l i (Some x) storage = with_value i (moved l [] i.form i.length x) storage

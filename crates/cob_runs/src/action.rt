@@ -1,12 +1,13 @@
 //! Cells of an analysis, and the actions of a graph's edges.
 /// A cell of the analysis: an item that is a number, or a text of at most 18 bytes, or where `item` is None the counter
-/// of a PERFORM with TIMES.
+/// of a PERFORM with TIMES. It stands for each of the item's `times` occurrences; a counter is one.
 #[derive(Clone, Copy, PartialEq, Eq)]
 pub struct Cell {
     pub item: Option<u32>,
     pub digits: u32,
     pub scale: u32,
     pub signed: bool,
+    pub times: u32,
 }
 
 /// What an edge of the graph does of its node's statement. The number of a test, or of a file in its statement's list,

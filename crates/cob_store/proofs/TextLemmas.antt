@@ -5,7 +5,7 @@ use Rattle.std.proofs.lemmas.List.{take_all, take_at, take-append-le, take-repli
 use Rattle.std.proofs.Math.Seq.{take-append-add}
 use borrow.Rule.Slice.PartMut.{put_mid}
 use Rattle.cob_runs.specs.Contents.{fitted}
-use Rattle.cob_store.proofs.Parts.{put_mid-written}
+use Rattle.cob_store.proofs.Parts.{put_mid_written}
 
 fitted_short : (n : ℕ) (text : List ℕ) (count : ℕ) → length text ≤ n → count ≡ length text → take count text ++ replicate (n - count) 32 ≡ fitted n text
 fitted_short n text count short is =
@@ -35,7 +35,7 @@ text_written old text ys zs count is front behind =
     let short : length ys ≡ count = ap length front ∙ (length-take count text ∙ omega arith) in
     let all : length (ys ++ drop count old) ≡ length old = omega (arith, length-append ys (drop count old), length-drop count old) in
     let rest : length zs ≡ length old - count = ap length behind ∙ length-replicate (length old - count) 32 in
-    put_mid-written (ys ++ drop count old) zs count (length (ys ++ drop count old) - count) (omega arith)
+    put_mid_written (ys ++ drop count old) zs count (length (ys ++ drop count old) - count) (omega arith)
     ∙ (ap (λ xs. take count (ys ++ drop count old) ++ zs ++ xs) (drop_all (count + length zs) (ys ++ drop count old) (omega arith))
     ∙ (append-nil (take count (ys ++ drop count old) ++ zs)
     ∙ (ap (λ xs. xs ++ zs) (take_at ys (drop count old) count short ∙ front)

@@ -11,6 +11,8 @@ use Rattle.cob_data.specs.declared.layout.Item.{Item}
 use Rattle.cob_data.specs.declared.layout.Layout.{Layout}
 use Rattle.cob_data.specs.declared.layout.Sender.{Sender}
 use Rattle.cob_data.specs.declared.layout.Sender.TheVariants as sender
+use Rattle.cob_data.specs.Extents.{IsExtent, LiesWithin}
+use Rattle.cob_data.specs.Occurrences.{extent_of}
 use Rattle.num_bytes.specs.Reading.{HasNumber}
 use Rattle.cob_runs.specs.Contents.{form_at, length_at}
 use Rattle.cob_runs.specs.Moves.{takes_number}
@@ -65,7 +67,10 @@ IsConstant _ = Unit {0}
 -- ---- layouts
 
 pub record IsWellFormedItem (l : Layout) (i : Item) : Type 0 where
-  pub within : i.offset + i.length ≤ l.storage
+  -- each occurrence lies within storage, one behind the other
+  pub within : LiesWithin (extent_of i) l.storage
+  pub extent : IsExtent (extent_of i)
+  pub one : i.stride ≡ 0 → i.times ≡ 1
   pub form : IsWellFormedForm i.form i.length
   pub value : IfSome i.value (λ x. IsConstant x × CanMove l x i.form)
 

@@ -1,18 +1,43 @@
 //! Storage at the beginning of a run, and whether a run is over.
-ghost use Rattle.std.specs.Prelude.{◌≡◌, ◌↔◌, [], length, false, IfOk};
+ghost use Rattle.std.specs.Prelude.{◌≡◌, ◌≤◌, ◌+◌, ◌↔◌, [], length, false, IfOk};
 ghost use Rattle.std.specs.Result.{OnOk};
+ghost use Rattle.cob_data.specs.Extents.{start_of, LiesWithin};
+ghost use Rattle.cob_runs.specs.Contents.{written};
 ghost use Rattle.cob_runs.specs.Moves.{moved};
-ghost use Rattle.cob_runs.specs.Runs.{with_value, with_constant, with_values, first_storage};
+ghost use Rattle.cob_runs.specs.Runs.{with_occurrences, with_value, with_constant, with_values, first_storage};
 ghost use Rattle.cob_store.specs.WellFormed.{HasWellFormedItems, IsWellFormedItem, IsConstant, CanMove};
 
 use crate::end::MoveEnd;
 use crate::moves::{moved_in, room};
-use cob_data::{Item, Layout, Sender};
+use cob_data::{Extent, Item, Layout, Sender};
 use cob_program::Program;
 use cob_runs::Outcome;
 use std::alloc::{AllocError, Global};
 
-// Puts the constant of an item's VALUE.
+// Puts the bytes into an occurrence.
+#[tactic(auto, using(crate::proofs::Parts::put_mid_written))]
+fn fill_occurrence(extent: &Extent, number: u32, bytes: &[u8], storage: &mut [u8])
+    requires within { start_of extent.now number + extent.now.length ≤ length storage.old }
+    requires whole { length bytes.now ≡ extent.now.length }
+    ensures { storage.new ≡ written storage.old (start_of extent.now number) bytes.now }
+{
+    let from = extent.start(number) as usize;
+    let to = from + extent.length as usize;
+    storage[from..to].copy_from_slice(bytes);
+}
+
+// Puts the bytes into each occurrence.
+fn fill_occurrences(extent: &Extent, bytes: &[u8], storage: &mut [u8])
+    requires within { LiesWithin extent.now (length storage.old) }
+    requires whole { length bytes.now ≡ extent.now.length }
+    ensures { storage.new ≡ with_occurrences extent.now bytes.now extent.now.times storage.old }
+{
+    for number in 0..extent.times {
+        fill_occurrence(extent, number, bytes, storage);
+    }
+}
+
+// Puts the constant of an item's VALUE into each occurrence.
 fn put_constant(
     alloc: Global,
     layout: &Layout,
@@ -30,9 +55,7 @@ fn put_constant(
 {
     match moved_in(alloc, layout, &[], constant, item) {
         Ok(bytes) => {
-            let from = item.offset as usize;
-            let to = from + item.length as usize;
-            storage[from..to].copy_from_slice(bytes.get());
+            fill_occurrences(&item.extent(), bytes.get(), storage);
             Ok(())
         }
         Err(MoveEnd::Fault(_)) => Ok(()),
@@ -58,8 +81,8 @@ fn put_value(
     }
 }
 
-// Puts each VALUE, in the order of the items.
-fn put_values(alloc: Global, layout: &Layout, storage: &mut [u8]) -> Result<(), AllocError>
+/// Puts each VALUE, in the order of the items, over what stood in storage.
+pub fn put_values(alloc: Global, layout: &Layout, storage: &mut [u8]) -> Result<(), AllocError>
     requires sound { HasWellFormedItems layout.now }
     requires whole { length storage.old ≡ layout.now.storage }
     ensures { OnOk result (storage.new ≡ with_values layout.now layout.now.items storage.old) }

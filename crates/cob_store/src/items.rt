@@ -26,6 +26,7 @@ pub(crate) fn area(storage: &[u8], offset: u32, count: u32) -> &[u8]
 }
 
 /// The bytes of the item at a place; none where there is no item.
+#[tactic(auto, using(crate::proofs::Parts::first_within))]
 pub fn bytes_at<'a>(layout: &Layout, storage: &'a [u8], place: u32) -> &'a [u8]
     requires sound { HasWellFormedItems layout.now }
     requires whole { length storage.now ≡ layout.now.storage }

@@ -13,7 +13,7 @@ mod stores;
 mod texts;
 mod writes;
 
-pub use begin::{is_over, start};
+pub use begin::{is_over, put_values, start};
 pub use end::MoveEnd;
 pub use items::{bytes_at, form_at, item_at};
 pub use moves::after_move;

@@ -51,6 +51,7 @@ pub fn number_in(form: &Form, bytes: &[u8]) -> Option<Scaled>
 /// The number that the item at a place holds, if its contents are numeric; a text is read as a whole number, and has at
 /// most 18 bytes (ISO 1989:1985, "Class condition").
 #[inline(always)]
+#[tactic(auto, using(crate::proofs::Parts::first_within))]
 pub fn number_at(layout: &Layout, storage: &[u8], place: u32) -> Option<Scaled>
     requires sound { HasWellFormedItems layout.now }
     requires whole { length storage.now ≡ layout.now.storage }

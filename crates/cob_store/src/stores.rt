@@ -52,6 +52,7 @@ pub fn write_units(form: &Form, units: i64, bytes: &mut [u8])
 }
 
 /// Puts the bytes into the item at a place; they are as many as its own.
+#[tactic(auto, using(crate::proofs::Parts::first_within))]
 pub fn fill_bytes(layout: &Layout, storage: &mut [u8], place: u32, bytes: &[u8])
     requires sound { HasWellFormedItems layout.now }
     requires whole { length storage.old ≡ layout.now.storage }
@@ -66,6 +67,7 @@ pub fn fill_bytes(layout: &Layout, storage: &mut [u8], place: u32, bytes: &[u8])
 }
 
 // Puts the number into the item at a place.
+#[tactic(auto, using(crate::proofs::Parts::first_within))]
 fn fill_units(layout: &Layout, storage: &mut [u8], place: u32, units: i64)
     requires sound { HasWellFormedItems layout.now }
     requires whole { length storage.old ≡ layout.now.storage }

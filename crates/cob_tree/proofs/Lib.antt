@@ -1,4 +1,5 @@
 pub mod KeywordLemmas
+pub mod InitialLemmas
 pub mod PictureLemmas
 pub mod PictureLaws
 pub mod FormLaws

@@ -161,3 +161,7 @@ keyword_among name (k ∷ ks) = if bytes_eq (text_of k) name then Some k else ke
 -- the reserved word that is written so
 unfoldable pub keyword_of : List ℕ → Option Keyword
 keyword_of name = keyword_among name keywords
+
+-- a name with this first character is found among these words as it is among all
+abbrev pub Suffices : ℕ → List Keyword → Type 0
+Suffices first words = (rest : List ℕ) → keyword_among (first ∷ rest) words ≡ keyword_among (first ∷ rest) keywords

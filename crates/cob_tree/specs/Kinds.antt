@@ -1,18 +1,19 @@
 -- All kinds of faults, sets of them, and the words that name them. What speaks of each kind goes by these.
 use Rattle.std.specs.Prelude.{ℕ, ◌&&◌, if◌then◌else◌, Bool, true, false, List, [], ◌∷◌, codes}
 use Rattle.cob_tree.specs.declared.fault.Kind.{Kind}
-use Rattle.cob_tree.specs.declared.fault.Kind.TheVariants.{Size, Truncation, Zero, Class}
+use Rattle.cob_tree.specs.declared.fault.Kind.TheVariants.{Size, Truncation, Zero, Class, Subscript}
 use Rattle.cob_tree.specs.declared.kinds.Kinds.{Kinds}
 
 -- in the order in which a report tells them
 abbrev pub all_kinds : List Kind
-all_kinds = Size ∷ Truncation ∷ Zero ∷ Class ∷ []
+all_kinds = Size ∷ Truncation ∷ Zero ∷ Class ∷ Subscript ∷ []
 
 abbrev pub is_kind : Kind → Kind → Bool
 is_kind Size Size = true
 is_kind Truncation Truncation = true
 is_kind Zero Zero = true
 is_kind Class Class = true
+is_kind Subscript Subscript = true
 is_kind _ _ = false
 
 -- the word by which reports and refusals name a kind
@@ -21,6 +22,7 @@ kind_text Size = codes "SIZE"
 kind_text Truncation = codes "TRUNCATION"
 kind_text Zero = codes "ZERO"
 kind_text Class = codes "CLASS"
+kind_text Subscript = codes "SUBSCRIPT"
 
 -- ---- sets
 
@@ -29,10 +31,17 @@ has s Size = s.size
 has s Truncation = s.truncation
 has s Zero = s.zero
 has s Class = s.class
+has s Subscript = s.subscript
 
 -- the kinds of which a test is true
 abbrev pub kinds_of : (Kind → Bool) → Kinds
-kinds_of test = record { size = test Size; truncation = test Truncation; zero = test Zero; class = test Class }
+kinds_of test = record {
+  size = test Size;
+  truncation = test Truncation;
+  zero = test Zero;
+  class = test Class;
+  subscript = test Subscript;
+}
 
 abbrev pub every_kind : Kinds
 every_kind = kinds_of (λ kind. true)

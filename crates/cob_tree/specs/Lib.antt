@@ -5,6 +5,7 @@ pub mod CondView
 pub mod Stmt
 pub mod StmtView
 pub mod Keywords
+pub mod Words
 pub mod Symbols
 pub mod Items
 pub mod PrintExpr

@@ -1,6 +1,6 @@
 //! Faults that a run can meet.
 /// The kinds of fault that a statement without a phrase for them can meet (ISO 1989:1985, the rules on size
-/// errors, MOVE and class conditions).
+/// errors, MOVE, class conditions and subscripting).
 #[derive(Clone, Copy, PartialEq, Eq)]
 pub enum Kind {
     /// A result exceeds what its receiver can hold.
@@ -11,6 +11,8 @@ pub enum Kind {
     Zero,
     /// An operand that is read as a number isn't numeric.
     Class,
+    /// A subscript is no number of an occurrence of its table (OCCURS).
+    Subscript,
 }
 
 /// A statement that may meet a fault of this kind. Statements are numbered from 1 in source order.

@@ -1,7 +1,7 @@
 //! The reserved words.
-ghost use Rattle.std.specs.Prelude.{◌≡◌, IfSome, IsNone};
+ghost use Rattle.std.specs.Prelude.{◌≡◌, ◌+◌, ◌<◌, ◌&&◌, nat_le, ℕ, IfSome, IsNone};
 ghost use Rattle.cob_tree.specs.declared.keyword.Keyword.{Keyword};
-ghost use Rattle.cob_tree.specs.Keywords.{text_of, keyword_among, keyword_of, IsReserved};
+ghost use Rattle.cob_tree.specs.Keywords.{text_of, Suffices, keyword_among, keyword_of, IsReserved};
 
 /// A reserved word: one that stands in the grammar, or that is rewritten or dropped before the grammar is
 /// read. Some are own to this reader, as `ID`, `COMP-3` and `RECORDING`; some only stand for two words of the
@@ -449,13 +449,55 @@ fn keyword_among(name: &[u8], keywords: &[Keyword]) -> Option<Keyword>
     None
 }
 
+/// How many reserved words there are before those that begin with A, with B and so on; and how many in all.
+const STARTS: [usize; 27] = [
+    0, 8, 12, 23, 27, 45, 50, 53, 55, 63, 63, 63, 68, 71, 75, 84, 92, 94, 103, 117, 126, 128, 131,
+    135, 135, 135, 138,
+];
+
+/// The reserved words that begin with this letter, counted from A.
+fn with_letter(letter: usize) -> &'static [Keyword]
+    requires { letter < 26 }
+    ensures { (first : ℕ) → first ≡ 65 + letter → Suffices first result.now }
+{
+    &KEYWORDS[STARTS[letter]..STARTS[letter + 1]]
+}
+
+fn is_capital(ch: u8) -> bool
+    ensures { result ≡ (nat_le 65 ch && nat_le ch 90) }
+{
+    b'A' <= ch && ch <= b'Z'
+}
+
+/// The reserved words that may begin with this character.
+fn beginning_with(first: u8) -> &'static [Keyword]
+    ensures { Suffices first result.now }
+{
+    if is_capital(first) {
+        with_letter((first - b'A') as usize)
+    } else {
+        &KEYWORDS[..0]
+    }
+}
+
+#[tactic(auto, using(crate::proofs::InitialLemmas::found_among, crate::proofs::InitialLemmas::none_in_nothing))]
+fn looked_up(name: &[u8]) -> Option<Keyword>
+    ensures { result ≡ keyword_of name.now }
+{
+    if name.is_empty() {
+        None
+    } else {
+        keyword_among(name, beginning_with(name[0]))
+    }
+}
+
 /// The reserved word that a name in capitals is.
 pub fn keyword_of(name: &[u8]) -> Option<Keyword>
     ensures value { result ≡ keyword_of name.now }
     ensures reserved { IfSome result (λ keyword. text_of keyword ≡ name.now) }
     ensures free { IsNone result → IsReserved name.now → ⊥ }
 {
-    keyword_among(name, &KEYWORDS)
+    looked_up(name)
 }
 
 /// A law: no two reserved words are written alike.

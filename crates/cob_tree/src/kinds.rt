@@ -5,10 +5,16 @@ ghost use Rattle.cob_tree.specs.Kinds.{all_kinds, every_kind, both, has, kind_te
 use crate::fault::Kind;
 
 /// All kinds, in the order in which a report tells them.
-pub fn all_kinds() -> [Kind; 4]
+pub fn all_kinds() -> [Kind; 5]
     ensures { result ≡ all_kinds }
 {
-    [Kind::Size, Kind::Truncation, Kind::Zero, Kind::Class]
+    [
+        Kind::Size,
+        Kind::Truncation,
+        Kind::Zero,
+        Kind::Class,
+        Kind::Subscript,
+    ]
 }
 
 impl Kind {
@@ -21,6 +27,7 @@ impl Kind {
             Kind::Truncation => "TRUNCATION",
             Kind::Zero => "ZERO",
             Kind::Class => "CLASS",
+            Kind::Subscript => "SUBSCRIPT",
         }
     }
 }
@@ -32,6 +39,7 @@ pub struct Kinds {
     pub truncation: bool,
     pub zero: bool,
     pub class: bool,
+    pub subscript: bool,
 }
 
 impl Kinds {
@@ -44,6 +52,7 @@ impl Kinds {
             truncation: true,
             zero: true,
             class: true,
+            subscript: true,
         }
     }
 
@@ -55,6 +64,7 @@ impl Kinds {
             Kind::Truncation => self.truncation,
             Kind::Zero => self.zero,
             Kind::Class => self.class,
+            Kind::Subscript => self.subscript,
         }
     }
 
@@ -67,6 +77,7 @@ impl Kinds {
             truncation: self.truncation && other.truncation,
             zero: self.zero && other.zero,
             class: self.class && other.class,
+            subscript: self.subscript && other.subscript,
         }
     }
 
@@ -79,6 +90,7 @@ impl Kinds {
             Kind::Truncation => self.truncation = held,
             Kind::Zero => self.zero = held,
             Kind::Class => self.class = held,
+            Kind::Subscript => self.subscript = held,
         }
         self
     }

@@ -18,6 +18,7 @@ mod stmt;
 mod symbol;
 mod token;
 mod tree;
+mod word;
 
 pub use bytes::{Bytes, Name};
 pub use cond::{Cond, Conj, Neg, SignTest, Simple};
@@ -39,3 +40,4 @@ pub use stmt::{
 };
 pub use token::{Num, Rel, Tok, Token};
 pub use tree::{EndProgram, Paragraph, Sentence, Tree};
+pub use word::Word;

@@ -1,7 +1,8 @@
 //! Canonical tokens.
 ghost use Rattle.std.specs.Prelude.{◌≡◌, IfOk};
 
-use crate::bytes::{Bytes, Name};
+use crate::bytes::Bytes;
+use crate::word::Word;
 use std::alloc::{AllocError, Global};
 
 /// A numeric literal: its sign `+` or `-`, or 0 for none; its digits as written, without the point; and how many
@@ -39,8 +40,8 @@ pub enum Rel {
 /// A canonical token (ISO 1989:1985, character-strings and separators).
 #[derive(Drop)]
 pub enum Tok {
-    /// A word in capitals.
-    Word(Name),
+    /// A word in capitals, and which reserved word it is.
+    Word(Word),
     Number(Num),
     /// A nonnumeric literal without its quotation marks.
     Text(Bytes),

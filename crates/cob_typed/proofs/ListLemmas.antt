@@ -14,7 +14,7 @@ use Rattle.cob_typed.specs.Lists.{found_behind}
 use Rattle.cob_typed.specs.Statements.{typed_choices, typed_stmt, typed_stmts, typed_whens}
 use Rattle.cob_typed.specs.StatementSteps.{typed_when, typed_para}
 use Rattle.cob_typed.specs.Typing.{joined, typed_sentences, typed_paras}
-use Rattle.cob_typed_exprs.proofs.Loops.{item_step}
+use Rattle.cob_program.proofs.Loops.{item_step}
 use Rattle.cob_typed.proofs.FoundLemmas.{found_append}
 
 -- ---- lists put together

@@ -20,7 +20,7 @@ use Rattle.indexmap.specs.IndexMap.{IndexMap, get_by}
 use Rattle.cob_typed.specs.Lists.{found_behind}
 use Rattle.cob_typed.specs.Typing.{clashes, is_known, lines_among, rule_number}
 use Rattle.cob_typed.specs.Answer.{lines_in}
-use Rattle.cob_typed_exprs.proofs.Loops.{item_step}
+use Rattle.cob_program.proofs.Loops.{item_step}
 
 -- ---- places
 

@@ -5,7 +5,7 @@ use Rattle.cob_tree.specs.declared.cond.Conj as declared_conj
 use Rattle.cob_tree.specs.declared.cond.Neg as declared_neg
 use Rattle.cob_tree.specs.Cond.{Cond, MkCond, Conj, MkConj, Neg, Conjs, no_conjs, more_conjs, conjs_of, Negs, no_negs, more_negs, negs_of}
 use Rattle.cob_tree.specs.CondView.{plain_conj, plain_neg}
-use Rattle.cob_typed_exprs.proofs.Loops.{item_step}
+use Rattle.cob_program.proofs.Loops.{item_step}
 use Rattle.cob_program.specs.declared.logic.Logic as declared_logic
 use Rattle.cob_program.specs.LogicView.{plain_logic}
 use Rattle.cob_program.specs.Logic.{Logic, any_of, all_of, logics_of}

@@ -3,7 +3,7 @@ use Rattle.std.proofs.Common.{◌≡◌, ℕ, ◌+◌, ◌<◌, ◌≤◌, List,
 use Rattle.std.proofs.lemmas.List.{drop_all}
 use Rattle.cob_typed_exprs.specs.declared.finding.Finding.{Finding}
 use Rattle.cob_typed_exprs.specs.Judged.{Judged, both, each_of, noted}
-use Rattle.cob_typed_exprs.proofs.Loops.{item_step}
+use Rattle.cob_program.proofs.Loops.{item_step}
 
 module _ {A B : Type 0} (judge : A → Judged B) (xs : List A) where
   pub each_noted : (i line : ℕ) (x : A) (old new whole : List Finding) → i < length xs → x ≡ get_or xs i x → new ≡ noted line old (judge x).broken →

@@ -1,6 +1,6 @@
 -- Steps of the loops over the parts of an expression: what is left gives the whole.
 use Rattle.std.proofs.Common.{ℕ, ◌+◌, ◌≡◌, ◌<◌, ◌≤◌, ◌==◌, Bool, false, if◌then◌else◌, None, List, [], ◌∷◌, ◌++◌, length, map, drop, get_or, refl, sym, ap, ◌∙◌, rules}
-use Rattle.std.proofs.lemmas.List.{drop_more, drop_all, map_push, append_assoc}
+use Rattle.std.proofs.lemmas.List.{drop_all, map_push, append_assoc}
 use Rattle.cob_tree.specs.declared.expr.Sign.{Sign}
 use Rattle.cob_tree.specs.declared.expr.Scaling.{Scaling}
 use Rattle.cob_tree.specs.declared.expr.Expr as declared_expr
@@ -12,6 +12,7 @@ use Rattle.cob_tree.specs.declared.expr.Primary.TheFolds.{fold_out-Expr, fold_ou
 use Rattle.cob_tree.specs.Expr.{Expr, MkExpr, Term, MkTerm, Terms, no_terms, more_terms, Fact, Facts, no_facts, more_facts, terms_of, facts_of}
 use Rattle.cob_tree.specs.ExprView.{plain_expr, plain_term, plain_fact, added, multiplied}
 use Rattle.cob_program.specs.Sum.{MkSum, parts_of, Part, MkPart, factors_of, Factor}
+use Rattle.cob_program.proofs.Loops.{item_step}
 use Rattle.cob_typed_exprs.specs.declared.finding.Finding.{Finding}
 use Rattle.cob_typed_exprs.specs.Judged.{noted}
 use Rattle.cob_typed_exprs.specs.Scope.{Scope}
@@ -23,9 +24,6 @@ terms_from xs i = terms_of (map added (drop i xs))
 
 abbrev pub facts_from : List (Scaling × declared_fact.Fact) → ℕ → Facts
 facts_from xs i = facts_of (map multiplied (drop i xs))
-
-pub item_step : {A : Type 0} (xs : List A) (i : ℕ) (x : A) → i < length xs → x ≡ get_or xs i x → drop i xs ≡ x ∷ drop (i + 1) xs
-item_step xs i x within is = drop_more xs i x within ∙ ap (λ y. y ∷ drop (i + 1) xs) (sym is)
 
 pub term_step : (xs : List (Sign × declared_term.Term)) (i : ℕ) (x : Sign × declared_term.Term) → i < length xs → x ≡ get_or xs i x → terms_from xs i ≡ more_terms x.0 (plain_term x.1) (terms_from xs (i + 1))
 term_step xs i x within is = ap (λ ys. terms_of (map added ys)) (item_step xs i x within is)

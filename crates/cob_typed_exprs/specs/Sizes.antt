@@ -1,11 +1,7 @@
 -- Bounds of items, and bounds as the code holds them: what isn't below 10^37 counts as 10^37.
-use Rattle.std.specs.Prelude.{ℕ, ◌+◌, ◌-◌, ◌*◌, ◌/◌, ◌^◌, nat_le, min, if◌then◌else◌, Bool, true, false, List, map, Option, Some, None}
+use Rattle.std.specs.Prelude.{ℕ, ◌+◌, ◌-◌, ◌*◌, ◌/◌, ◌^◌, nat_le, min, if◌then◌else◌, Bool, true, false, Option, Some, None}
 use Rattle.cob_typed_exprs.specs.declared.bounds.Size as declared_size
-use Rattle.std.specs.Borrow.{Bor}
-use Rattle.cob_program.specs.declared.sum.Factor as declared_factor
-use Rattle.cob_program.specs.Sum.{Sum, Parts, Part, Factors, factors_of, Factor, MkFactor, Atom, item, number, group}
-use Rattle.cob_program.specs.SumView.{plain_factor}
-use Rattle.cob_program.specs.Values.{Root}
+use Rattle.cob_program.specs.Sum.{Sum, Parts, Part, Factors, Atom, item, number, group}
 use Rattle.cob_typed_exprs.specs.Scope.{Scope, form_at}
 use Rattle.cob_program.specs.Bounds.{Bound, form_bound, is_small, sum_most, sum_most_from, part_most, product_most_from, atom_most, is_small_sum, is_small_sum_from, is_small_part, is_small_product, is_small_atom}
 
@@ -31,13 +27,6 @@ bound_if small b = if small then Some b else None
 
 abbrev pub if_small : Bound → Option Bound
 if_small b = bound_if (is_small b) b
-
--- the factors before the last, and this one
-abbrev pub root_with : Factors → Factor → Root
-root_with above (MkFactor over minus atom) = record { above = above; minus = minus; below = atom }
-
-abbrev pub plain_root : Bor (List declared_factor.Factor) × Bor declared_factor.Factor → Root
-plain_root x = root_with (factors_of (map plain_factor x.0.now)) (plain_factor x.1.now)
 
 -- a bound, where each intermediate is small
 module _ (bound : ℕ → Bound) where

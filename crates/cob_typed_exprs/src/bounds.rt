@@ -1,10 +1,9 @@
 //! How great the intermediates of sums can be, whatever their items hold within their pictures.
 ghost use Rattle.std.specs.Prelude.{◌≡◌, true, ◌^◌, ◌*◌, ◌/◌, ◌-◌, ◌≤◌, min, map, option_map};
-ghost use Rattle.cob_program.specs.Sum.{MkSum, no_parts, more_parts, parts_of, factors_of};
+ghost use Rattle.cob_program.specs.Sum.{parts_of, factors_of};
 ghost use Rattle.cob_program.specs.SumView.{plain_sum, plain_part, plain_factor, plain_atom};
-ghost use Rattle.cob_program.specs.Values.{root_in, root_of};
 ghost use Rattle.cob_program.specs.Bounds.{form_bound, literal_bound, of_digits, exactly, atom_most, sum_bound, product_bound, quotient_bound, factor_bound, at_scale, is_small_stored, is_small_sides};
-ghost use Rattle.cob_typed_exprs.specs.Sizes.{bound_at, plain_size, plain_root, capped, if_small, small_sum, small_sum_from, small_part, small_product, small_atom, is_plain, quotient_at};
+ghost use Rattle.cob_typed_exprs.specs.Sizes.{bound_at, plain_size, capped, if_small, small_sum, small_sum_from, small_part, small_product, small_atom, is_plain, quotient_at};
 
 use crate::scope::Scope;
 use cob_program::{Atom, Factor, Part, Sum};
@@ -17,8 +16,6 @@ pub struct Size {
     pub most: u128,
     pub scale: u32,
 }
-
-const HUGE: u128 = SIZE_LIMIT;
 
 const ZERO: Size = Size { most: 0, scale: 0 };
 
@@ -36,7 +33,7 @@ fn ten(k: u64) -> u128
 fn times(a: u128, b: u128) -> u128
     ensures { result ≡ min (a * b) (10 ^ 37) }
 {
-    a.saturating_mul(b).min(HUGE)
+    a.saturating_mul(b).min(SIZE_LIMIT)
 }
 
 fn raised(most: u128, by: u64) -> u128
@@ -47,7 +44,7 @@ fn raised(most: u128, by: u64) -> u128
     } else if most == 0 {
         0
     } else {
-        HUGE
+        SIZE_LIMIT
     }
 }
 
@@ -57,7 +54,7 @@ fn raised(most: u128, by: u64) -> u128
 fn small(most: u128, scale: u32) -> Option<Size>
     ensures { option_map plain_size result ≡ if_small (record { most = most; scale = scale }) }
 {
-    if most < HUGE && scale <= 37 {
+    if most < SIZE_LIMIT && scale <= 37 {
         Some(Size { most, scale })
     } else {
         None
@@ -128,7 +125,11 @@ impl Size {
 fn of_digits(digits: u64, scale: u32) -> Size
     ensures { plain_size result ≡ capped (of_digits digits scale) }
 {
-    let most = if digits <= 37 { ten(digits) - 1 } else { HUGE };
+    let most = if digits <= 37 {
+        ten(digits) - 1
+    } else {
+        SIZE_LIMIT
+    };
     Size { most, scale }
 }
 
@@ -166,37 +167,6 @@ pub fn quotient_size(n: Size, d: Size, scale: u32) -> Option<Size>
 }
 
 // ---- sums
-
-/// What stands before the last factor, and this one, where it divides.
-fn quotient_of(factors: &[Factor]) -> Option<(&[Factor], &Factor)>
-    ensures { option_map plain_root result ≡ root_in (factors_of (map plain_factor factors.now)) }
-{
-    match factors.split_last() {
-        None => None,
-        Some((last, above)) => { if last.over { Some((above, last)) } else { None } }
-    }
-}
-
-fn quotient_of_part(part: &Part) -> Option<(&[Factor], &Factor)>
-    ensures { option_map plain_root result ≡ root_of (MkSum (more_parts (plain_part part.now) no_parts)) }
-{
-    if part.minus {
-        None
-    } else {
-        quotient_of(&part.factors)
-    }
-}
-
-/// The quotient that is the last operation of a sum, if one is.
-fn quotient_in(parts: &[Part]) -> Option<(&[Factor], &Factor)>
-    ensures { option_map plain_root result ≡ root_of (MkSum (parts_of (map plain_part parts.now))) }
-{
-    if parts.len() == 1 {
-        quotient_of_part(&parts[0])
-    } else {
-        None
-    }
-}
 
 impl<'a> Scope<'a> {
     /// How great an item can be.
@@ -278,24 +248,18 @@ impl<'a> Scope<'a> {
         self.small_parts(&sum.parts)
     }
 
-    /// Whether the rule of bounds is kept by parts that are stored.
-    fn are_small_stored(&self, parts: &[Part]) -> bool
-        ensures { result ≡ is_small_stored (bound_at self.now) (MkSum (parts_of (map plain_part parts.now))) }
-    {
-        match quotient_in(parts) {
-            None => self.small_parts(parts).is_some(),
-            Some((above, below)) => {
-                self.small_product(above).is_some() && self.small_atom(&below.atom).is_some()
-            }
-        }
-    }
-
     /// Whether the rule of bounds is kept by a sum that is stored. A quotient that is its last operation stays exact, and
     /// doesn't count.
     pub fn is_small_stored(&self, sum: &Sum) -> bool
         ensures { result ≡ is_small_stored (bound_at self.now) (plain_sum sum.now) }
     {
-        self.are_small_stored(&sum.parts)
+        match sum.root() {
+            None => self.small_sum(sum).is_some(),
+            Some(root) => {
+                self.small_product(root.dividend).is_some()
+                    && self.small_atom(&root.divisor.atom).is_some()
+            }
+        }
     }
 
     /// Whether the two sides of a comparison keep the rule of bounds.

@@ -7,7 +7,7 @@ use Rattle.cob_typed_exprs.specs.declared.finding.Finding.{Finding}
 use Rattle.cob_typed_exprs.specs.Judged.{Judged, each_of, noted}
 use Rattle.cob_typed_exprs.specs.Scope.{Scope}
 use Rattle.cob_typed_verbs.specs.Verbs.{some_of, all_openings, openings}
-use Rattle.cob_typed_exprs.proofs.Loops.{item_step}
+use Rattle.cob_program.proofs.Loops.{item_step}
 
 some_first : (o : Option ℕ) (os : List (Option ℕ)) → some_of (o ∷ []) ++ some_of os ≡ some_of (o ∷ os)
 some_first None os = refl

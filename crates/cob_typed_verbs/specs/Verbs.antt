@@ -1,5 +1,5 @@
 -- Statements that hold no statements, but for PERFORM and GO TO; and what stands before the lists of READ.
-use Rattle.std.specs.Prelude.{ℕ, ◌+◌, ◌&&◌, not, nat_lt, Bool, true, false, List, [], ◌∷◌, ◌++◌, map, slice_get, Option, Some, None, unwrap_or}
+use Rattle.std.specs.Prelude.{ℕ, not, Bool, true, false, List, [], ◌∷◌, ◌++◌, map, slice_get, Option, Some, None, unwrap_or}
 use Rattle.cob_tree.specs.declared.operand.Opnd.{Opnd}
 use Rattle.cob_tree.specs.declared.operand.Ref.{Ref}
 use Rattle.cob_tree.specs.declared.stmt.Mode.{Mode}
@@ -12,6 +12,8 @@ use Rattle.cob_data.specs.declared.layout.FileDecl.{FileDecl}
 use Rattle.cob_data.specs.declared.layout.Pair.{Pair}
 use Rattle.cob_data.specs.declared.layout.Sender.{Sender}
 use Rattle.cob_data.specs.declared.layout.Sender.TheVariants as sender
+use Rattle.cob_data.specs.Extents.{share_extents}
+use Rattle.cob_data.specs.Occurrences.{extent_of, area_of}
 use Rattle.cob_program.specs.declared.act.Opening.{Opening}
 use Rattle.cob_program.specs.Act.{Act, move, nothing, open_files, close_files, write, show}
 use Rattle.cob_typed_exprs.specs.Judged.{Judged, sound, demand, each_of, if_there, seen_as, ◌>>=◌}
@@ -40,9 +42,9 @@ is_output mode.Output = true
 abbrev pub opening : Bool → ℕ → Opening
 opening output file = record { file = file; output = output }
 
--- some byte lies in both
+-- no byte of the item lies in the file's record area
 abbrev pub lie_apart : Option FileDecl → Option Item → Bool
-lie_apart (Some f) (Some i) = not (nat_lt i.offset (f.offset + f.length) && nat_lt f.offset (i.offset + i.length))
+lie_apart (Some f) (Some i) = not (share_extents (area_of f) (extent_of i))
 lie_apart _ _ = true
 
 module _ (s : Scope) where

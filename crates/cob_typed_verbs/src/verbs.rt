@@ -8,7 +8,7 @@ ghost use Rattle.cob_typed_exprs.specs.Sums.{operand};
 ghost use Rattle.cob_typed_verbs.specs.Verbs.{receiver, move_act, first_value, set_flag, set_if, set_act, show_act, the_file, some_of, is_output, openings, open_act, close_act, lie_apart, into_of, read_parts, from_of, write_act};
 
 use crate::acts::{close_of, move_of, nothing, open_of, show_of, write_of};
-use cob_data::{FileDecl, Flag, Item, Pair, Rule, Sender};
+use cob_data::{FileDecl, Flag, Item, Pair, Rule, Sender, share_extents};
 use cob_program::{Act, Opening};
 use cob_tree::{Many, Mode, Name, OpenPhrase, Opnd, Ref};
 use cob_typed_exprs::{Finding, Scope, demand, one_of_kind};
@@ -67,22 +67,12 @@ fn is_output(mode: Mode) -> bool
     }
 }
 
-fn end_of(offset: u32, length: u32) -> u64
-    ensures { result ≡ offset + length }
-{
-    u64::from(offset) + u64::from(length)
-}
-
-/// Whether no byte lies in both.
+/// Whether no byte of the item lies in the file's record area.
 fn lie_apart(file: Option<&FileDecl>, item: Option<&Item>) -> bool
     ensures { result ≡ lie_apart (option_copied file.entry) (option_copied item.entry) }
 {
     match (file, item) {
-        (Some(file), Some(item)) => {
-            let file_end = end_of(file.offset, file.length);
-            let item_end = end_of(item.offset, item.length);
-            !(u64::from(item.offset) < file_end && u64::from(file.offset) < item_end)
-        }
+        (Some(file), Some(item)) => !share_extents(&file.area(), &item.extent()),
         _ => true,
     }
 }

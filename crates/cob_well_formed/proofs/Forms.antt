@@ -26,6 +26,8 @@ use Rattle.cob_data.specs.Values.{has_category, has_room, holds, holds_alone}
 use Rattle.cob_data.specs.ItemRules.{breaks_parts, breaks_pictures, breaks_values, may_begin_with, is_formless}
 use Rattle.cob_data.specs.Rules.{item_breaks}
 use Rattle.cob_data.specs.Layouts.{first_low, item_at}
+use Rattle.cob_data.specs.Occurrences.{extent_of}
+use Rattle.cob_data.proofs.OneOccurrence.{one_within, one_extent}
 use Rattle.cob_store.specs.WellFormed.{IsWellFormedForm, IsShortLiteral, CanMove, IsConstant, IsWellFormedItem}
 use Rattle.cob_well_formed.proofs.ShortValues.{IsShortConst, IsShortRange, IsShortClause, IsShortPlaced}
 use Rattle.cob_well_formed.proofs.Pairs.{HasOwnBytes}
@@ -198,7 +200,9 @@ pub item_is_sound : (l : Layout) (d : Description) (s : Spot) → IsFromEntry d 
     item_breaks L2 d s ≡ false → item_breaks L3 d s ≡ false → item_breaks L5 d s ≡ false →
     s.start + s.length ≤ l.storage → IsWellFormedItem l (item_at d s)
 item_is_sound l d s from own parts pictures values within = record {
-  within = within;
+  within = one_within (extent_of (item_at d s)) l.storage refl within;
+  extent = one_extent (extent_of (item_at d s)) refl;
+  one = λ flat. refl;
   form = form_is_sound d s s.group d.pictured refl refl from own parts pictures;
   value = value_is_sound l d s d.value refl values from.short;
 }

@@ -1,6 +1,4 @@
 pub mod Cutting
-pub mod Reading
-pub mod Rewriting
 pub mod ShortTokens
 pub mod ShortValues
 pub mod Pairs

@@ -1,5 +1,5 @@
 -- The numerals of a source's tree have at most 18 digits, since those among its tokens have.
-use Rattle.std.proofs.Common.{◌≡◌, ℕ, List, [], ◌∷◌, map, Option, None, Some, Result, Ok, Err, refl, subst}
+use Rattle.std.proofs.Common.{◌≡◌, ℕ, List, [], ◌∷◌, map, Option, None, Some, Result, Ok, Err, subst}
 use Rattle.std.specs.List.{AllByRecursion}
 use Rattle.cob_lex.specs.declared.text.Mark.{Mark}
 use Rattle.cob_lex.specs.declared.refusal.Place as text
@@ -15,9 +15,7 @@ use Rattle.cob_tree.specs.PrintStmt.{print_tree}
 use Rattle.cob_tree.specs.Stmt.{Tree}
 use Rattle.reading.specs.Printing.{Matches}
 use Rattle.cob_parse_expr.specs.LexemeClasses.{by_symbol}
-use Rattle.cob_lex.specs.declared.piece.Place as lex
-use Rattle.cob_lex.specs.Canonical.{canonical_tokens}
-use Rattle.cob_lex.specs.Scan.{Scan, BadLineAt, BadTokenAt, Tokens, lexed, joined, scan_of}
+use Rattle.cob_lex.specs.Scan.{BadLineAt, Tokens, ScansBy, Scans}
 use Rattle.cob_well_formed.specs.Tokens.{IsShortTok, IsShortToken}
 use Rattle.cob_well_formed.proofs.ShortTokens.{short_tokens}
 use Rattle.cob_well_formed.specs.Numerals.{IsShortSymbol, AreShort, HasShortNumerals}
@@ -28,22 +26,15 @@ use Rattle.cob_front.specs.Source.{StandsFor}
 abbrev AreShortTokens : List Token → Type 0
 AreShortTokens ts = AllByRecursion IsShortToken ts
 
-abbrev ScansShort : Scan → Type 0
-ScansShort (BadLineAt line column) = Unit {0}
-ScansShort (BadTokenAt line column) = Unit {0}
-ScansShort (Tokens ts) = AreShortTokens ts
+text_short : (r : Result (List Mark) text.Place) (ts : List Token) → ScansBy r (Tokens ts) → AreShortTokens ts
+text_short (Ok marks) ts are = short_tokens marks ts are
+text_short (Err bad) ts are = absurd (unlike ts bad.line bad.column are)
+  where
+    unlike : (ts : List Token) (line column : ℕ) → Tokens ts ≡ BadLineAt line column → ⊥
+    unlike ts line column e = cc
 
-lexed_short : (marks : List Mark) (r : Result (List Token) lex.Place) → canonical_tokens marks ≡ r →
-    ScansShort (lexed r)
-lexed_short marks (Ok ts) is = short_tokens marks ts is
-lexed_short marks (Err place) is = tt
-
-joined_short : (r : Result (List Mark) text.Place) → ScansShort (joined r)
-joined_short (Ok marks) = lexed_short marks (canonical_tokens marks) refl
-joined_short (Err place) = tt
-
-scanned_short : (bytes : List ℕ) (ts : List Token) → scan_of bytes ≡ Tokens ts → AreShortTokens ts
-scanned_short bytes ts scanned = subst ScansShort scanned (joined_short (source_text bytes))
+scanned_short : (bytes : List ℕ) (ts : List Token) → Scans bytes (Tokens ts) → AreShortTokens ts
+scanned_short bytes ts scanned = text_short (source_text bytes) ts scanned
 
 -- ---- from tokens to the tree that they spell
 

@@ -1,11 +1,11 @@
 -- Tokens whose numbers have at most 18 digits (ISO 1989:1985, "Numeric literals").
-use Rattle.std.specs.Prelude.{◌≡◌, List, Ok}
+use Rattle.std.specs.Prelude.{List}
 use Rattle.std.specs.List.{AllByRecursion}
 use Rattle.cob_lex.specs.declared.text.Mark.{Mark}
 use Rattle.cob_tree.specs.declared.token.Tok.{Tok}
 use Rattle.cob_tree.specs.declared.token.Tok.TheVariants as tok
 use Rattle.cob_tree.specs.declared.token.Token.{Token}
-use Rattle.cob_lex.specs.Canonical.{canonical_tokens}
+use Rattle.cob_lex.specs.Canonical.{AreTokensOf}
 use Rattle.cob_store.specs.WellFormed.{IsShortLiteral}
 
 abbrev pub IsShortTok : Tok → Type 0
@@ -18,4 +18,4 @@ IsShortToken t = IsShortTok t.tok
 -- the tokens of each text have such numbers
 abbrev pub NumeralsAreShort : Type 0
 NumeralsAreShort =
-    (text : List Mark) (tokens : List Token) → canonical_tokens text ≡ Ok tokens → AllByRecursion IsShortToken tokens
+    (text : List Mark) (tokens : List Token) → AreTokensOf text tokens → AllByRecursion IsShortToken tokens

@@ -4,7 +4,7 @@ use Rattle.std.proofs.lemmas.List.{take_all, take_at, take-take, drop_at, drop-d
 use lib.Seq.{paste}
 use borrow.Rule.Slice.PartMut.{put_mid}
 use Rattle.cob_runs.specs.Contents.{area, written, fitted}
-use Rattle.cob_store.proofs.Parts.{put_mid-written}
+use Rattle.cob_store.proofs.Parts.{put_mid_written}
 use Rattle.cob_store.proofs.TextLemmas.{fitted_is}
 
 -- bytes, as many of a text as are kept, and then spaces
@@ -52,7 +52,7 @@ module _ (s : List ℕ) (from count at wanted kept : ℕ) (is : kept ≡ min cou
       ap (λ xs. take (at + kept) xs ++ zs) as_
       ∙ (ap (λ xs. xs ++ zs) (take_at head (drop (at + kept) s) (at + kept) long)
       ∙ (ap (λ xs. head ++ xs) spaces ∙ append_assoc (take at s) (take kept (drop from s)) (replicate (wanted - kept) 32))) in
-      put_mid-written t zs (at + kept) (at + wanted - (at + kept)) (omega (arith, many))
+      put_mid_written t zs (at + kept) (at + wanted - (at + kept)) (omega (arith, many))
       ∙ (ap (λ xs. xs ++ drop (at + kept + length zs) t) begin
       ∙ (ap (λ xs. take at s ++ whole_part ++ xs) rest
       ∙ ap (written s at) part_is))

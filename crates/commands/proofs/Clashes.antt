@@ -5,8 +5,8 @@ use Rattle.std.proofs.lemmas.List.Folds.{list_any-append}
 use Rattle.std.specs.Cmp.Lexicographic.{bytes_decides}
 use Rattle.cob_data.specs.declared.layout.FileDecl.{FileDecl}
 use Rattle.cob_data.specs.Names.{stands_in}
-use Rattle.commands.specs.declared.paths.PathsEnd.{PathsEnd}
-use Rattle.commands.specs.declared.paths.PathsEnd.TheVariants as ends
+use Rattle.commands.specs.declared.running.paths.PathsEnd.{PathsEnd}
+use Rattle.commands.specs.declared.running.paths.PathsEnd.TheVariants as ends
 use Rattle.command_words.specs.Words.{texts}
 use Rattle.cob_interp.specs.Told.{AreDistinct}
 use Rattle.commands.specs.Paths.{path_of, blamed, clash, unless_clash, AnswersPaths, Blames}

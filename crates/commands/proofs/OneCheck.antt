@@ -20,7 +20,7 @@ use Rattle.commands.specs.Checker.Shape.TheVariants as shape
 use Rattle.commands.specs.Checker.Assignments.{leak}
 use Rattle.commands.specs.Checker.Claims.{leaks}
 use Rattle.commands.specs.Checker.Checking.{HasShape, Misfits, Accepts}
-use Rattle.commands.specs.declared.alarms.Alarm.{Alarm}
+use Rattle.commands.specs.declared.checking.alarms.Alarm.{Alarm}
 use Rattle.commands.specs.Alarms.{alarms_of}
 use Rattle.commands.specs.Answer.{Answer, Usage, Absent, Refused, CertificateLong, CertificateBad, CertificateMisfit, NotInductive, Report, AnswersSource}
 use Rattle.commands.specs.Profile.{IsProfileCause}

@@ -21,7 +21,7 @@ use Rattle.commands.specs.Answer.{Answer, Usage, Absent, Refused, CertificateLon
 use Rattle.commands.specs.Steps.{Reads, refused_by_fault, answer_to, IsLaid}
 use Rattle.commands.specs.View.{plain_answer, plain_result}
 use Rattle.commands.proofs.Found.{at_held}
-use Rattle.commands.specs.declared.task.Task.{Task}
+use Rattle.commands.specs.declared.running.task.Task.{Task}
 use Rattle.commands.specs.Runs.{BlamesWord, BlamesIfUsage, HoldsTask, AnswersRun}
 use Rattle.commands.specs.RunSteps.{IsReady, IsTask, IsNoTask}
 use Rattle.commands.specs.RunView.{plain_task}

@@ -14,7 +14,7 @@ use Rattle.commands.specs.declared.answer.Stop.TheVariants.{Memory}
 use Rattle.commands.specs.declared.source.Laid.{Laid}
 use Rattle.commands.specs.Call.{call}
 use Rattle.commands.specs.Steps.{Reads, HoldsLaid}
-use Rattle.commands.specs.declared.findings.Findings.{Findings}
+use Rattle.commands.specs.declared.analysing.findings.Findings.{Findings}
 use Rattle.commands.specs.Analysis.{Analysis, analysis, text_of}
 use Rattle.commands.specs.Endings.{EndsByAnalysis, EndsWithAnalysis, FailsToWrite, IsTooLong, LeavesFront, TellsAnalysis, TellsUnwritten}
 use Rattle.commands.specs.AnalysisSteps.{IsFinding, IsFindingFor, IsFindingOf}

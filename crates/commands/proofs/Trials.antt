@@ -17,7 +17,7 @@ use Rattle.commands.specs.Profile.{IsProfileCause}
 use Rattle.commands.specs.Steps.{IsLaid, answer_to}
 use Rattle.commands.specs.View.{plain_answer, plain_result}
 use Rattle.commands.proofs.Refusals.{answered, no_fault, not_memory}
-use Rattle.commands.specs.declared.findings.Findings.{Findings}
+use Rattle.commands.specs.declared.analysing.findings.Findings.{Findings}
 use Rattle.commands.specs.Analysis.{Analysis, analysis}
 use Rattle.commands.specs.Endings.{EndsWithAnalysis}
 use Rattle.commands.specs.AnalysisSteps.{IsFinding}

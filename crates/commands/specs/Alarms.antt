@@ -4,7 +4,7 @@ use Rattle.std.specs.Option.{option_map_or}
 use Rattle.cob_tree.specs.declared.fault.Open.{Open}
 use Rattle.cob_program.specs.Act.{Stmt, MkStmt, Program}
 use Rattle.cob_program.specs.Statements.{program_statements}
-use Rattle.commands.specs.declared.alarms.Alarm.{Alarm}
+use Rattle.commands.specs.declared.checking.alarms.Alarm.{Alarm}
 
 abbrev pub line_of : Stmt → ℕ
 line_of (MkStmt number line a) = line

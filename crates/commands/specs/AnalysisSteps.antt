@@ -5,7 +5,7 @@ use Rattle.cob_program.specs.ActView.{plain_program}
 use Rattle.cert_text.specs.View.{Certificate}
 use Rattle.commands.specs.declared.source.Laid.{Laid}
 use Rattle.commands.specs.Answer.{answer_text, status_of}
-use Rattle.commands.specs.declared.findings.Findings.{Findings}
+use Rattle.commands.specs.declared.analysing.findings.Findings.{Findings}
 use Rattle.commands.specs.Analysis.{Analysis, IsFound, analysis, report_of, text_of, IsAnalysisOf}
 
 -- the texts of what was found, the report's behind a heading, and the status of the report

@@ -9,7 +9,7 @@ use Rattle.cob_front.specs.declared.refusal.Refusal.{Refusal}
 use Rattle.cob_front.specs.declared.refusal.Refusal.TheVariants as end
 use Rattle.cert_text.specs.declared.gap.Gap.{Gap}
 use Rattle.cert_check.specs.declared.ends.Shape.{Shape}
-use Rattle.commands.specs.declared.alarms.Alarm.{Alarm}
+use Rattle.commands.specs.declared.checking.alarms.Alarm.{Alarm}
 use Rattle.commands.specs.ReportText.{line_end, report_text}
 use Rattle.commands.specs.Text.{at_line, leak_line, refusal_text, shape_line}
 use Rattle.commands.specs.Profile.{IsProgramOf, IsProfileCause}

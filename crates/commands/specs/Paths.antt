@@ -5,8 +5,8 @@ use Rattle.std.specs.List.{list_any, position_or_len, before_first, after_first}
 use Rattle.std.specs.Str.{str_eq_ignore_ascii_case}
 use Rattle.cob_data.specs.declared.layout.FileDecl.{FileDecl}
 use Rattle.cob_data.specs.Names.{stands_in}
-use Rattle.commands.specs.declared.paths.PathsEnd.{PathsEnd}
-use Rattle.commands.specs.declared.paths.PathsEnd.TheVariants as end
+use Rattle.commands.specs.declared.running.paths.PathsEnd.{PathsEnd}
+use Rattle.commands.specs.declared.running.paths.PathsEnd.TheVariants as end
 use Rattle.command_words.specs.Words.{texts}
 
 abbrev pub is_equals_sign : ℕ → Bool

@@ -10,7 +10,7 @@ use Rattle.commands.specs.declared.answer.Stop.{Stop}
 use Rattle.commands.specs.declared.answer.Stop.TheVariants.{Memory}
 use Rattle.commands.specs.Profile.{IsProfileCause}
 use Rattle.commands.specs.Answer.{Answer, Usage, Refused}
-use Rattle.commands.specs.declared.task.Task as code_task
+use Rattle.commands.specs.declared.running.task.Task as code_task
 use Rattle.commands.specs.Runs.{Makes, BlamesWord}
 use Rattle.commands.specs.RunView.{plain_task}
 

@@ -1,7 +1,7 @@
 -- The code's tasks as plain data.
 use Rattle.cob_program.specs.ActView.{plain_program}
 use Rattle.command_words.specs.Words.{texts}
-use Rattle.commands.specs.declared.task.Task as code_task
+use Rattle.commands.specs.declared.running.task.Task as code_task
 use Rattle.commands.specs.Runs.{Task, task}
 
 abbrev pub plain_task : code_task.Task → Task

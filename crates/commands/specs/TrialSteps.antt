@@ -3,7 +3,7 @@ use Rattle.std.specs.Prelude.{ℕ, length}
 use Rattle.cob_program.specs.ActView.{plain_program}
 use Rattle.cert_text.specs.View.{Certificate}
 use Rattle.commands.specs.declared.source.Laid.{Laid}
-use Rattle.commands.specs.declared.findings.Findings.{Findings}
+use Rattle.commands.specs.declared.analysing.findings.Findings.{Findings}
 use Rattle.commands.specs.Analysis.{Analysis, analysis}
 use Rattle.commands.specs.AnalysisSteps.{IsFinding}
 use Rattle.commands.specs.TrialEndings.{IsTrialOf, nodes_line}

@@ -1,5 +1,5 @@
 -- The items of a layout, and the numbers that storage holds in them.
-use Rattle.std.proofs.Common.{◌≡◌, ℕ, ◌+◌, ◌≤◌, zero, suc, List, [], ◌∷◌, length, drop, slice_get, Option, Some, None, ℤ, refl, ap, sym, subst, arith}
+use Rattle.std.proofs.Common.{◌≡◌, ℕ, ◌+◌, ◌<◌, ◌≤◌, zero, suc, List, [], ◌∷◌, length, drop, slice_get, Option, Some, None, ℤ, refl, ap, sym, subst, arith}
 use Rattle.std.specs.List.{AllByRecursion}
 use Rattle.std.specs.Option.{option_map, option_map_or}
 use Rattle.std.proofs.lemmas.Option.{same_Some}
@@ -12,7 +12,9 @@ use Rattle.cob_data.specs.declared.layout.Item.{Item}
 use Rattle.cob_data.specs.declared.layout.Layout.{Layout}
 use Rattle.num_bytes.specs.Reading.{contents_value}
 use Rattle.cob_store.specs.WellFormed.{IsWellFormedForm, IsWellFormedItem, HasWellFormedItems}
-use Rattle.cob_runs.specs.Contents.{area, item_at, form_at, bytes_at, scale_of, scaled_by}
+use Rattle.cob_data.specs.Extents.{start_of}
+use Rattle.cob_data.specs.Occurrences.{extent_of}
+use Rattle.cob_runs.specs.Contents.{area, item_at, form_at, times_at, occurrence_bytes, scale_of, scaled_by}
 use Rattle.graph_runs.specs.Sources.{HasSignIfSeparate, SeparateItemsHaveSigns}
 use Rattle.data_laws.specs.Items.{IsOwn, NumbersAreOwn}
 use Rattle.data_laws.proofs.Own.{read_is_own}
@@ -33,22 +35,27 @@ length-area : (storage : List ℕ) (offset count : ℕ) → offset + count ≤ l
 length-area storage offset count within = length-take-le count (drop offset storage) (omega (arith, length-drop offset storage))
 
 module _ (l : Layout) (sound : HasWellFormedItems l) (signs : SeparateItemsHaveSigns l) (bytes : List ℕ) (whole : length bytes ≡ l.storage) where
-  own_in : (place : ℕ) (z : ℤ) (o : Option Item) → item_at l place ≡ o →
-      contents_value (option_map_or (λ i. i.form) o Group) (option_map_or (λ i. area bytes i.offset i.length) o []) ≡ Some z →
+  own_in : (place n : ℕ) (z : ℤ) (o : Option Item) → item_at l place ≡ o → n < option_map_or (λ i. i.times) o 1 →
+      contents_value (option_map_or (λ i. i.form) o Group)
+      (option_map_or (λ i. area bytes (start_of (extent_of i) n) i.length) o []) ≡ Some z →
       IsOwn (option_map_or (λ i. i.form) o Group) z
-  own_in place z None at is = absurd (cc)
-  own_in place z (Some i) at is =
+  own_in place n z None at less is = absurd (cc)
+  own_in place n z (Some i) at less is =
       let held = item_sound l sound place i at in
-      let long : length (area bytes i.offset i.length) ≡ i.length = length-area bytes i.offset i.length (omega (arith, held.within, whole)) in
-      read_is_own i.form (area bytes i.offset i.length) z (subst (IsWellFormedForm i.form) (sym long) held.form) (item_sign l signs place i at) is
+      let from = start_of (extent_of i) n in
+      let long : length (area bytes from i.length) ≡ i.length =
+      length-area bytes from i.length (omega (arith, held.within n less, whole)) in
+      read_is_own i.form (area bytes from i.length) z (subst (IsWellFormedForm i.form) (sym long) held.form) (item_sign l signs place i at) is
 
-  pub own_at : (place : ℕ) (z : ℤ) → contents_value (form_at l place) (bytes_at l bytes place) ≡ Some z → IsOwn (form_at l place) z
-  own_at place z is = own_in place z (item_at l place) refl is
+  pub own_at : (place n : ℕ) (z : ℤ) → n < times_at l place →
+      contents_value (form_at l place) (occurrence_bytes l bytes place n) ≡ Some z → IsOwn (form_at l place) z
+  own_at place n z less is = own_in place n z (item_at l place) refl less is
 
 units_of : (f : Form) (o : Option ℤ) (v : Scaled) → option_map (scaled_by (scale_of f)) o ≡ Some v → o ≡ Some v.units
 units_of f None v is = absurd (cc)
 units_of f (Some z) v is = ap (λ (w : Scaled). Some w.units) (same_Some _ _ is)
 
 pub numbers_are_own : NumbersAreOwn
-numbers_are_own l bytes place v sound signs whole is =
-    own_at l sound signs bytes whole place v.units (units_of (form_at l place) (contents_value (form_at l place) (bytes_at l bytes place)) v is)
+numbers_are_own l bytes place n v sound signs whole less is =
+    own_at l sound signs bytes whole place n v.units less
+    (units_of (form_at l place) (contents_value (form_at l place) (occurrence_bytes l bytes place n)) v is)

@@ -262,7 +262,7 @@ values_can_be_put t has sound place i value =
     (put.0, record { has = value; put = put.1 })
 
 pub numbers_stand_at_first : TreesStoreNumbers
-numbers_stand_at_first t has sound first place i value digits scale signed usage v form number =
+numbers_stand_at_first t has sound first place i value digits scale signed usage v form number k less =
     let l = layout t in
     let x = value.value in
     let fits = value_of_tree t has place i value.at x value.given in
@@ -270,7 +270,7 @@ numbers_stand_at_first t has sound first place i value digits scale signed usage
     let held = number_held l digits scale signed usage i.length (subst (λ f. IsWellFormedForm f i.length) form formed) x v
     (subst (λ f. has_category f x ≡ true) form fits.0) (subst (λ f. has_room f x ≡ true) form fits.1) number in
     let begins : BeginsWith l place i held.bytes = record { has = value; put = ap (λ f. moved l [] f i.length x) form ∙ held.put } in
-    values_read_at_first l first place i held.bytes sound (values_stand_apart t has) begins
+    values_read_at_first l first place i held.bytes sound (values_stand_apart t has) begins k less
     ∙ (ap (λ f. number_in f held.bytes) form ∙ ap (option_map (scaled_by scale)) held.read)
 
 number_room : (digits scale : ℕ) (signed : Bool) (usage : Usage) (n : Num) → has_room (Number digits scale signed usage) (sender.Number n) ≡ true →
@@ -281,13 +281,13 @@ number_room digits scale signed usage n room =
     (and_parts front behind (and_parts (front && behind) (signed || not (is_negative n)) room).0).1
 
 pub literals_stand_at_first : TreesStoreLiterals
-literals_stand_at_first t has sound first place i value digits scale signed usage n form is proper =
+literals_stand_at_first t has sound first place i value digits scale signed usage n form is proper k less =
     let l = layout t in
     let room = (value_of_tree t has place i value.at value.value value.given).1 in
     let fits : has_room (Number digits scale signed usage) (sender.Number n) ≡ true =
     subst (λ x. has_room (Number digits scale signed usage) x ≡ true) is (subst (λ f. has_room f value.value ≡ true) form room) in
     record {
       number = scaled_by scale (near Trunc (value_of (literal n)) (pos scale));
-      read = numbers_stand_at_first t has sound first place i value digits scale signed usage (literal n) form (ap (number_of l []) is);
+      read = numbers_stand_at_first t has sound first place i value digits scale signed usage (literal n) form (ap (number_of l []) is) k less;
       same = literal_exact n scale proper (number_room digits scale signed usage n fits);
     }

@@ -1,5 +1,5 @@
 -- Items that begin with a value follow each other.
-use Rattle.std.proofs.Common.{◌≡◌, ℕ, ◌+◌, ◌<◌, ◌≤◌, zero, suc, Bool, true, false, not, cond, ◌&&◌, ◌||◌, List, [], ◌∷◌, slice_get, Option, Some, None, is_some, refl, ap, ◌∙◌, arith}
+use Rattle.std.proofs.Common.{◌≡◌, ℕ, ◌+◌, ◌<◌, ◌≤◌, zero, suc, Bool, true, false, not, cond, ◌&&◌, ◌||◌, List, [], ◌∷◌, slice_get, Option, Some, None, is_some, refl, ap, sym, ◌∙◌, arith}
 use Rattle.std.specs.Option.{option_and_then}
 use Rattle.std.proofs.lemmas.Bool.{not-false}
 use Rattle.std.proofs.lemmas.Option.{same_Some}
@@ -100,3 +100,24 @@ values_follow t has =
     let under = all_under_own f.items (seated f.items) rules.levels in
     let follow = all_follow f.items (rooms_kept f.items f.spots rules.redefinitions) in
     ends_before f.items f.spots follow (all_settled f.items f.spots under rules.parts rules.values)
+
+-- ---- each has one occurrence
+
+laid_once : (ds : List Description) (ss : List Spot) (place : ℕ) (i : Item) → slice_get (laid_items ds ss) place ≡ Some i → i.times ≡ 1
+laid_once [] ss place i at = absurd (cc)
+laid_once (d ∷ ds) [] place i at = absurd (cc)
+laid_once (d ∷ ds) (s ∷ ss) zero i at = ap (λ (x : Item). x.times) (sym (same_Some (item_at d s) i at))
+laid_once (d ∷ ds) (s ∷ ss) (suc place) i at = laid_once ds ss place i at
+
+pub items_once : (t : Tree) (place : ℕ) (i : Item) → slice_get (layout t).items place ≡ Some i → i.times ≡ 1
+items_once t = let f = facts_of t in laid_once f.items f.spots
+
+laid_plain : (ds : List Description) (ss : List Spot) (place : ℕ) (i : Item) → slice_get (laid_items ds ss) place ≡ Some i → i.stride ≡ 0
+laid_plain [] ss place i at = absurd (cc)
+laid_plain (d ∷ ds) [] place i at = absurd (cc)
+laid_plain (d ∷ ds) (s ∷ ss) zero i at = ap (λ (x : Item). x.stride) (sym (same_Some (item_at d s) i at))
+laid_plain (d ∷ ds) (s ∷ ss) (suc place) i at = laid_plain ds ss place i at
+
+-- and none is a table's
+pub items_plain : (t : Tree) (place : ℕ) (i : Item) → slice_get (layout t).items place ≡ Some i → i.stride ≡ 0
+items_plain t = let f = facts_of t in laid_plain f.items f.spots

@@ -7,7 +7,7 @@ use Rattle.cob_tree.specs.declared.form.Usage.{Usage}
 use Rattle.cob_data.specs.declared.layout.Layout.{Layout}
 use Rattle.num_bytes.specs.Reading.{is_own, contents_value}
 use Rattle.cob_store.specs.WellFormed.{IsWellFormedForm, HasWellFormedItems}
-use Rattle.cob_runs.specs.Contents.{form_at, number_at, bytes_of}
+use Rattle.cob_runs.specs.Contents.{form_at, times_at, occurrence_number, bytes_of}
 use Rattle.cob_runs.specs.Moves.{takes_number}
 use Rattle.graph_runs.specs.Sources.{SeparateItemsHaveSigns}
 
@@ -17,11 +17,12 @@ IsOwn (form.Number digits scale signed usage) z = is_own digits signed z ≡ tru
 IsOwn (form.Text n) z = is_own n false z ≡ true
 IsOwn _ z = ⊥
 
--- A number that is read is one of these, whatever storage holds.
+-- A number that is read of an occurrence is one of these, whatever storage holds.
 abbrev pub NumbersAreOwn : Type 0
 NumbersAreOwn =
-    (l : Layout) (bytes : List ℕ) (place : ℕ) (v : Scaled) → HasWellFormedItems l → SeparateItemsHaveSigns l →
-    length bytes ≡ l.storage → number_at l bytes place ≡ Some v → IsOwn (form_at l place) v.units
+    (l : Layout) (bytes : List ℕ) (place n : ℕ) (v : Scaled) → HasWellFormedItems l → SeparateItemsHaveSigns l →
+    length bytes ≡ l.storage → n < times_at l place → occurrence_number l bytes place n ≡ Some v →
+    IsOwn (form_at l place) v.units
 
 -- The bytes of a number are as many as the item's.
 abbrev pub NumbersFillItems : Type 0

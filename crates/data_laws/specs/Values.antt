@@ -1,9 +1,9 @@
 -- What storage holds at the beginning of a run (ISO 1989:1985, "VALUE clause").
-use Rattle.std.specs.Prelude.{◌≡◌, ℕ, List, [], length, Ok}
+use Rattle.std.specs.Prelude.{◌≡◌, ◌<◌, ℕ, List, [], length, Ok}
 use Rattle.cob_data.specs.declared.layout.Item.{Item}
 use Rattle.cob_data.specs.declared.layout.Layout.{Layout}
 use Rattle.cob_store.specs.WellFormed.{HasWellFormedItems}
-use Rattle.cob_runs.specs.Contents.{bytes_at, number_in, number_at}
+use Rattle.cob_runs.specs.Contents.{occurrence_bytes, number_in, occurrence_number}
 use Rattle.cob_runs.specs.Moves.{moved}
 use Rattle.cob_runs.specs.Runs.{first_storage}
 use Rattle.graph_runs.specs.Sources.{HasValue, ValuesStandApart}
@@ -17,14 +17,15 @@ pub record BeginsWith (l : Layout) (place : ℕ) (i : Item) (bytes : List ℕ) :
 abbrev pub FirstStorageIsWhole : Type 0
 FirstStorageIsWhole = (l : Layout) (first : List ℕ) → HasWellFormedItems l → length (first_storage l first) ≡ l.storage
 
--- In the first storage an item that begins with a value holds the value's bytes.
+-- In the first storage each occurrence of an item that begins with a value holds the value's bytes.
 abbrev pub ValuesStandAtFirst : Type 0
 ValuesStandAtFirst =
     (l : Layout) (first : List ℕ) (place : ℕ) (i : Item) (bytes : List ℕ) → HasWellFormedItems l → ValuesStandApart l →
-    BeginsWith l place i bytes → bytes_at l (first_storage l first) place ≡ bytes
+    BeginsWith l place i bytes → (n : ℕ) → n < i.times → occurrence_bytes l (first_storage l first) place n ≡ bytes
 
--- In the first storage an item that begins with a value reads as the number of the value's bytes, if they are one.
+-- And it reads as the number of the value's bytes, if they are one.
 abbrev pub ValuesReadAtFirst : Type 0
 ValuesReadAtFirst =
     (l : Layout) (first : List ℕ) (place : ℕ) (i : Item) (bytes : List ℕ) → HasWellFormedItems l → ValuesStandApart l →
-    BeginsWith l place i bytes → number_at l (first_storage l first) place ≡ number_in i.form bytes
+    BeginsWith l place i bytes → (n : ℕ) → n < i.times →
+    occurrence_number l (first_storage l first) place n ≡ number_in i.form bytes

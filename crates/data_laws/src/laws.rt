@@ -4,22 +4,23 @@ ghost use Rattle.data_laws.specs.Values.{FirstStorageIsWhole, ValuesReadAtFirst,
 ghost use Rattle.data_laws.specs.Statements.{FoundIsListed, ListedIsFound};
 ghost use Rattle.data_laws.specs.Trees.{TreesGiveSigns, TreesKeepValuesApart, TreesPutValues, TreesStoreLiterals, TreesStoreNumbers};
 
-/// A law: no two items that begin with a value have a byte in common, where the rules on data are kept (ISO 1989:1985,
-/// "VALUE clause").
+/// A law: no two items that begin with a value have a byte in common, in whichever of their occurrences, where the rules
+/// on data are kept (ISO 1989:1985, "VALUE clause").
 pub fn values_stand_apart()
     ensures { TreesKeepValuesApart }
 {}
 
-/// A law: storage at the beginning of a run is as long as the layout says. Each item that begins with a value holds the
-/// value's bytes there and reads as their number, whatever stood in storage before (ISO 1989:1985, "VALUE clause").
+/// A law: storage at the beginning of a run is as long as the layout says. Each occurrence of an item that begins with a
+/// value holds the value's bytes there and reads as their number, whatever stood in storage before (ISO 1989:1985, "VALUE
+/// clause").
 pub fn values_stand_at_first()
     ensures whole { FirstStorageIsWhole }
     ensures bytes { ValuesStandAtFirst }
     ensures number { ValuesReadAtFirst }
 {}
 
-/// A law: each VALUE can be put into its item, where the rules on data are kept, and a numeric item then reads as the
-/// value's number, whatever stood in storage before.
+/// A law: each VALUE can be put into its item, where the rules on data are kept, and each occurrence of a numeric item
+/// then reads as the value's number, whatever stood in storage before.
 pub fn values_can_be_put()
     ensures put { TreesPutValues }
     ensures numbers { TreesStoreNumbers }
@@ -32,8 +33,8 @@ pub fn separate_items_have_signs()
     ensures { TreesGiveSigns }
 {}
 
-/// A law: a number that is read of an item has no more digits than the item's picture, and is below 0 only where this
-/// has a sign.
+/// A law: a number that is read of an item's occurrence has no more digits than the item's picture, and is below 0 only
+/// where this has a sign.
 pub fn numbers_lie_in_own_ranges()
     ensures { NumbersAreOwn }
 {}

@@ -4,6 +4,7 @@ pub mod Exactness
 pub mod Near
 pub mod LongDivision
 pub mod Bounds
+pub mod Shifting
 pub mod Quotients
 pub mod Summed
 pub mod Fitted

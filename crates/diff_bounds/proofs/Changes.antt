@@ -5,7 +5,7 @@ use Rattle.std.proofs.lemmas.Bool.{cases_eq, eq-eqb, ne_eqb}
 use Rattle.std.proofs.lemmas.List.{get_or-set_other}
 use Rattle.std.proofs.lemmas.Grind.{get_or-set_at}
 use Rattle.interval_domain.specs.Bounds.{IsSmall}
-use Rattle.diff_bounds.specs.declared.form.Lin.{Lin}
+use Rattle.diff_bounds.specs.declared.form.lin.Lin.{Lin}
 use Rattle.diff_bounds.specs.Forms.{coef, is_small, IsSmallConstant, IsSmallForm}
 use Rattle.diff_bounds.specs.Results.{multiple_of, scaled_coefs}
 use Rattle.diff_bounds.proofs.Coefs.{coef-coefs_of}

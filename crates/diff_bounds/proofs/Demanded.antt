@@ -6,7 +6,7 @@ use Rattle.std.proofs.lemmas.Int.{ints, clamps, by_lt_z}
 use Rattle.std.proofs.lemmas.Nat.{mod_below, div-add-mod'}
 use Rattle.std.proofs.lemmas.Bool.{cases_eq, cases_Bool, eq-eqb, ne_eqb, eqb-true}
 use borrow.Author.Differences.{up, down}
-use Rattle.diff_bounds.specs.declared.form.Lin.{Lin}
+use Rattle.diff_bounds.specs.declared.form.lin.Lin.{Lin}
 use Rattle.diff_bounds.specs.Forms.{dot}
 use Rattle.diff_bounds.specs.Matrix.{none, IsBound}
 use Rattle.diff_bounds.specs.Storages.{value_at, DifferBy, StandsIn}

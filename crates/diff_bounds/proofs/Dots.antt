@@ -11,7 +11,7 @@ sum_times x y v =
     omega (arith, ints, (product_is (x +ℤ y) v).0, (product_is (x +ℤ y) v).1, (product_is x v).0, (product_is x v).1, (product_is y v).0, (product_is y v).1, ap (λ (n : ℕ). n * up v) parts, ap (λ (n : ℕ). n * down v) parts)
 
 -- the factors in another order
-times_exchanged : (x y v : ℤ) → (x *ℤ y) *ℤ v ≡ (x *ℤ v) *ℤ y
+pub times_exchanged : (x y v : ℤ) → (x *ℤ y) *ℤ v ≡ (x *ℤ v) *ℤ y
 times_exchanged x y v =
     let one = product_is x y in
     let other = product_is x v in

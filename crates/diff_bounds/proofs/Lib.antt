@@ -28,7 +28,7 @@ pub mod Walks
 pub mod Places
 pub mod Tightness
 pub mod Steps
-pub mod Rows
+pub mod RowsThrough
 pub mod Ends
 pub mod Standing
 pub mod WordByWord

@@ -6,7 +6,7 @@ use Rattle.interval_domain.specs.declared.bounds.Interval.{Interval}
 use Rattle.interval_domain.specs.Bounds.{Holds, IsSmall}
 use Rattle.interval_domain.proofs.IntervalEnds.{low_held, high_held}
 use Rattle.diff_bounds.proofs.SmallNumbers.{small_between}
-use Rattle.diff_bounds.specs.declared.form.Lin.{Lin}
+use Rattle.diff_bounds.specs.declared.form.lin.Lin.{Lin}
 use Rattle.diff_bounds.specs.Forms.{coef, coefs_of, AreSmallCoefs, IsSmallConstant, IsSmallForm}
 use Rattle.diff_bounds.specs.Results.{added_coefs, added_constant, sum_of, scaled_coefs, scaled_constant, multiple_of, IsNarrower}
 use Rattle.diff_bounds.proofs.Values.{between_multiples}

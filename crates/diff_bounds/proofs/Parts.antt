@@ -7,7 +7,7 @@ use Rattle.interval_domain.specs.declared.bounds.Interval.{Interval}
 use Rattle.interval_domain.specs.Bounds.{IsSmall}
 use Rattle.interval_domain.specs.Corners.{span}
 use Rattle.interval_domain.proofs.IntervalEnds.{min_is_one, max_is_one}
-use Rattle.diff_bounds.specs.declared.form.Lin.{Lin}
+use Rattle.diff_bounds.specs.declared.form.lin.Lin.{Lin}
 use Rattle.diff_bounds.specs.Forms.{coefs_of, form_of, together, AreSmallCoefs, IsSmallConstant, IsSmallForm}
 use Rattle.diff_bounds.specs.Results.{scaled_coefs, scaled_constant, multiple_of}
 use Rattle.diff_bounds.proofs.Coefs.{coef-coefs_of}

@@ -16,7 +16,7 @@ use Rattle.dec_num.proofs.Near.{rounded_whole}
 use Rattle.dec_num.proofs.Powers.{ten_positive}
 use Rattle.interval_domain.specs.declared.bounds.Interval.{Interval}
 use Rattle.interval_domain.specs.Corners.{interval}
-use Rattle.diff_bounds.specs.declared.known.Known.{Known}
+use Rattle.diff_bounds.specs.declared.form.known.Known.{Known}
 use Rattle.diff_bounds.specs.Errors.{one_sided, error_in, stored_units, AreSure, IsWithin}
 
 -- ---- of natural numbers

@@ -1,7 +1,7 @@
 -- Bounds of forms whose coefficients are the same, and of changed forms.
 use Rattle.std.proofs.Common.{◌≡◌, ℕ, zero, suc, ◌+◌, ◌-◌, ◌<◌, ◌≤◌, true, cond, eqb, List, ℤ, pos, negsuc, neg_ℤ, ◌*ℤ◌, ◌≤ℤ◌, Option, Some, None, refl, ap, ◌∙◌, arith}
 use Rattle.std.proofs.lemmas.Int.{ints, clamps}
-use Rattle.diff_bounds.specs.declared.form.Lin.{Lin}
+use Rattle.diff_bounds.specs.declared.form.lin.Lin.{Lin}
 use Rattle.diff_bounds.specs.Forms.{coef, is_small}
 use Rattle.diff_bounds.specs.Results.{multiple_of, scaled_coefs}
 use Rattle.diff_bounds.proofs.Coefs.{coef-coefs_of}

@@ -6,7 +6,7 @@ use Rattle.dec_num.specs.declared.types.Mode.{Mode}
 use Rattle.dec_num.specs.declared.types.Mode.TheVariants.{Trunc, Round}
 use Rattle.interval_domain.specs.declared.bounds.Interval.{Interval}
 use Rattle.interval_domain.specs.Corners.{interval}
-use Rattle.diff_bounds.specs.declared.known.Known.{Known}
+use Rattle.diff_bounds.specs.declared.form.known.Known.{Known}
 use Rattle.diff_bounds.specs.Errors.{one_sided, error_in, IsInside, IsSurer}
 
 same_inside : (a b : Interval) → a.low ≡ b.low → a.high ≡ b.high → IsInside a b

@@ -7,7 +7,7 @@ use Rattle.interval_domain.specs.Bounds.{Holds, IsLeast}
 use Rattle.interval_domain.specs.Results.{IsSum}
 use Rattle.interval_domain.specs.Corners.{interval, span}
 use Rattle.interval_domain.proofs.IntervalEnds.{min_is_one, max_is_one, low_held, high_held, times_grows, times_falls}
-use Rattle.diff_bounds.specs.declared.form.Lin.{Lin}
+use Rattle.diff_bounds.specs.declared.form.lin.Lin.{Lin}
 use Rattle.diff_bounds.specs.Forms.{coef, dot, values}
 use Rattle.diff_bounds.specs.Results.{added_coefs, added_constant, sum_of, scaled_coefs, scaled_constant, multiple_of, IsMultiple, IsExactly}
 use Rattle.diff_bounds.proofs.Coefs.{coef-coefs_of}

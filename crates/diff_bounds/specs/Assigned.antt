@@ -1,7 +1,7 @@
 -- What the assignment of a linear form to a cell makes of a matrix.
 use Rattle.std.specs.Prelude.{◌≡◌, ◌≢◌, ℕ, zero, suc, ◌<◌, ◌≤◌, nat_eq, if◌then◌else◌, ℤ, pos, neg_ℤ, ◌-ℤ◌, Option, Some, None}
 use Rattle.interval_domain.specs.Bounds.{Holds}
-use Rattle.diff_bounds.specs.declared.form.Lin.{Lin}
+use Rattle.diff_bounds.specs.declared.form.lin.Lin.{Lin}
 use Rattle.diff_bounds.specs.Forms.{is_small}
 use Rattle.diff_bounds.specs.Numbers.{word_of}
 use Rattle.diff_bounds.specs.Upper.{upper, coef_at}

@@ -1,6 +1,6 @@
 -- Forms whose coefficients are changed at one or two places.
 use Rattle.std.specs.Prelude.{◌≡◌, ℕ, ◌-◌, ◌<◌, ◌≤◌, ℤ, length, slice_set}
-use Rattle.diff_bounds.specs.declared.form.Lin.{Lin}
+use Rattle.diff_bounds.specs.declared.form.lin.Lin.{Lin}
 use Rattle.diff_bounds.specs.Forms.{IsSmallForm}
 use Rattle.diff_bounds.specs.Upper.{coef_at, without}
 use Rattle.diff_bounds.specs.Assigned.{less_place}

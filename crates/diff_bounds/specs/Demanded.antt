@@ -1,7 +1,7 @@
 -- What the demand that a linear form is at most 0 makes of a matrix.
 use Rattle.std.specs.Prelude.{◌≡◌, ℕ, zero, suc, ◌≤◌, nat_eq, if◌then◌else◌, ℤ, pos, negsuc, neg_ℤ, ◌≤ℤ◌, Option, Some, None}
 use Rattle.std.specs.Int.{int_min, int_div_euclid}
-use Rattle.diff_bounds.specs.declared.form.Lin.{Lin}
+use Rattle.diff_bounds.specs.declared.form.lin.Lin.{Lin}
 use Rattle.diff_bounds.specs.Numbers.{word_of}
 use Rattle.diff_bounds.specs.Upper.{without, upper, coef_at}
 use Rattle.diff_bounds.specs.Values.{values_in}

@@ -7,7 +7,7 @@ use Rattle.dec_num.specs.Exact.{near}
 use Rattle.dec_num.specs.Scaled.{value_of}
 use Rattle.interval_domain.specs.declared.bounds.Interval.{Interval}
 use Rattle.interval_domain.specs.Corners.{interval}
-use Rattle.diff_bounds.specs.declared.known.Known.{Known}
+use Rattle.diff_bounds.specs.declared.form.known.Known.{Known}
 
 -- where something is cut off: at most the unit, towards zero, or in either direction where it is rounded
 abbrev pub one_sided : Mode → Bool → Bool → ℤ → Interval

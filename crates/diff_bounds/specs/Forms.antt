@@ -4,7 +4,7 @@ use Rattle.std.specs.List.{range_with_len, list_all}
 use Rattle.interval_domain.specs.declared.bounds.Interval.{Interval}
 use Rattle.interval_domain.specs.Bounds.{IsSmall}
 use Rattle.interval_domain.specs.Corners.{interval}
-use Rattle.diff_bounds.specs.declared.form.Lin.{Lin}
+use Rattle.diff_bounds.specs.declared.form.lin.Lin.{Lin}
 
 -- the coefficient of a cell of the pack, counted from 0
 abbrev pub coef : Lin → ℕ → ℤ

@@ -1,6 +1,6 @@
 -- The least bound that a matrix shows of a linear form.
 use Rattle.std.specs.Prelude.{ℕ, zero, suc, ◌+◌, ◌-◌, nat_eq, if◌then◌else◌, List, ℤ, pos, negsuc, slice_index_or, Option, Some, None}
-use Rattle.diff_bounds.specs.declared.form.Lin.{Lin}
+use Rattle.diff_bounds.specs.declared.form.lin.Lin.{Lin}
 use Rattle.diff_bounds.specs.Matrix.{word}
 use Rattle.diff_bounds.specs.Numbers.{number_of, added, lesser, cut, times}
 

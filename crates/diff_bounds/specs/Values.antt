@@ -1,7 +1,7 @@
 -- What bounds of forms are compared with: values of forms where the cells hold values, and other matrices.
 use Rattle.std.specs.Prelude.{◌≡◌, ℕ, suc, ◌<◌, ◌≤◌, ℤ, pos, ◌≤ℤ◌, Option, Some, None}
 use Rattle.interval_domain.specs.declared.bounds.Interval.{Interval}
-use Rattle.diff_bounds.specs.declared.form.Lin.{Lin}
+use Rattle.diff_bounds.specs.declared.form.lin.Lin.{Lin}
 use Rattle.diff_bounds.specs.Forms.{coef, dot, values}
 use Rattle.diff_bounds.specs.Storages.{value_at}
 

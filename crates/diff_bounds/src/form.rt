@@ -1,13 +1,18 @@
-//! Linear forms.
-use interval_domain::Interval;
+//! Linear forms: what they are, what a store may cut off, what a matrix shows of them, and how they change a matrix.
 
-/// How many cells a pack has at most.
-pub(crate) const CELLS: usize = 8;
-
-/// The sum of each coefficient times its cell, plus some number of the constant.
-#[derive(Clone, Copy, PartialEq, Eq)]
-pub struct Lin {
-    /// A coefficient for each cell of the pack in turn, and 0 for one that doesn't count or isn't there.
-    pub coefs: [i128; 8],
-    pub constant: Interval,
-}
+pub(crate) mod altered;
+pub(crate) mod arithmetic;
+pub(crate) mod assignment;
+pub(crate) mod bound_laws;
+pub(crate) mod bounds;
+pub(crate) mod demands;
+pub(crate) mod error_laws;
+pub(crate) mod errors;
+pub(crate) mod forgetting;
+pub(crate) mod form_laws;
+pub(crate) mod image_laws;
+pub(crate) mod known;
+pub(crate) mod lin;
+pub(crate) mod small;
+pub(crate) mod sums;
+pub(crate) mod terms;

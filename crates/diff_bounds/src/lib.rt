@@ -23,72 +23,48 @@
 //! form to a cell, the demand that a form is at most 0, and the forgetting of a cell change the matrix.
 #![tactic(auto)]
 
-mod altered;
-mod arithmetic;
-mod assignment;
-mod bound_laws;
-mod bounds;
-mod closing;
-mod closure_laws;
-mod demands;
-mod error_laws;
-mod errors;
-mod forgetting;
 mod form;
-mod form_laws;
-mod image_laws;
-mod joining;
-mod known;
-mod lattice;
-mod laws;
-mod least;
-mod one_row;
-mod order;
-mod row_laws;
-mod settling;
-mod sizes;
-mod small;
-mod sums;
-mod terms;
-mod widening;
-mod words;
+mod matrix;
+mod rows;
 
-pub use altered::negated;
-pub use arithmetic::{lin_add, lin_scale};
-pub use assignment::assign;
-pub use bound_laws::{lower_matrices_show_lower_bounds, no_value_is_above_its_bound};
-pub use bounds::upper;
-pub use closing::close;
-pub use closure_laws::{
+pub use form::altered::negated;
+pub use form::arithmetic::{lin_add, lin_scale};
+pub use form::assignment::assign;
+pub use form::bound_laws::{lower_matrices_show_lower_bounds, no_value_is_above_its_bound};
+pub use form::bounds::upper;
+pub use form::demands::demand;
+pub use form::error_laws::{
+    errors_are_sound, stores_lie_between, sums_span_at_greater_scales, surer_errors_are_narrower,
+};
+pub use form::errors::error_of;
+pub use form::forgetting::forget;
+pub use form::form_laws::{
+    narrower_forms_have_narrower_multiples, narrower_forms_have_narrower_sums,
+};
+pub use form::image_laws::{
+    assigned_matrices_are_monotone, demanded_matrices_are_monotone, forgotten_matrices_are_monotone,
+};
+pub use form::known::Known;
+pub use form::lin::Lin;
+pub use matrix::closing::close;
+pub use matrix::closure_laws::{
     closed_words_are_tight, closing_is_the_closure, closures_are_closings, closures_are_one,
     matrices_stay_tight_beside_a_row,
 };
-pub use demands::demand;
-pub use error_laws::{
-    errors_are_sound, stores_lie_between, sums_span_at_greater_scales, surer_errors_are_narrower,
-};
-pub use errors::error_of;
-pub use forgetting::forget;
-pub use form::Lin;
-pub use form_laws::{narrower_forms_have_narrower_multiples, narrower_forms_have_narrower_sums};
-pub use image_laws::{
-    assigned_matrices_are_monotone, demanded_matrices_are_monotone, forgotten_matrices_are_monotone,
-};
-pub use joining::join_rows;
-pub use known::Known;
-pub use lattice::{add_bound, join, leq, widen};
-pub use laws::{
+pub use matrix::lattice::{add_bound, join, leq, widen};
+pub use matrix::laws::{
     close_is_monotone, closed_words_are_least_sums, growth_is_bounded, matrices_are_a_lattice,
     stands_above,
 };
-pub use least::{is_least, set_least, set_least_matrix};
-pub use one_row::close_row;
-pub use order::leq_rows;
-pub use row_laws::rows_are_a_lattice;
-pub use settling::settled;
-pub use sizes::{height_of, width_of, words_of};
-pub use widening::widen_rows;
-pub use words::{LARGEST, NONE};
+pub use matrix::one_row::close_row;
+pub use matrix::settling::settled;
+pub use matrix::words::{LARGEST, NONE};
+pub use rows::joining::join_rows;
+pub use rows::least::{is_least, set_least, set_least_matrix};
+pub use rows::order::leq_rows;
+pub use rows::row_laws::rows_are_a_lattice;
+pub use rows::sizes::{height_of, width_of, words_of};
+pub use rows::widening::widen_rows;
 
 /// Cells whose differences are tracked together, by their places from 1, in rising order.
 #[derive(PartialEq, Eq, Drop)]

@@ -1,5 +1,6 @@
 -- The forms that the code works out are those of the amounts.
 use Rattle.std.proofs.Common.{◌≡◌, ◌||◌, ℕ, Bool, true, false, if◌then◌else◌, List, Option, Some, None, is_some, ℤ, refl, sym, ap, ◌∙◌}
+use Rattle.cob_data.specs.declared.extent.Extent.{Extent}
 use Rattle.cob_data.specs.declared.layout.Sender.{Sender}
 use Rattle.cob_data.specs.declared.layout.Sender.TheVariants as sender
 use Rattle.cob_program.specs.declared.act.How.{How}
@@ -8,7 +9,7 @@ use Rattle.cob_program.specs.Sum.{Sum}
 use Rattle.cob_program.specs.Act.{Program}
 use Rattle.cob_runs.specs.Computing.{items_in}
 use Rattle.cob_edge_parts.specs.Parts.{Amount, moved, computed, remaining, augmented}
-use Rattle.diff_bounds.specs.declared.form.Lin.{Lin}
+use Rattle.diff_bounds.specs.declared.form.lin.Lin.{Lin}
 use Rattle.sum_ranges.specs.declared.ranged.Ranged.{Ranged}
 use Rattle.sum_ranges.specs.SumRanges.{sum_range}
 use Rattle.sum_forms.specs.Constants.{item_form}
@@ -18,7 +19,7 @@ use Rattle.cob_graph.specs.declared.homes.Home.TheVariants.{Item as of_item}
 use Rattle.cell_steps.specs.Seen.{Seen}
 use Rattle.cell_steps.specs.Stores.{range_at}
 use Rattle.diff_steps.specs.Packs.{Pack, cell_of, pack_decimals}
-use Rattle.diff_steps.specs.Moments.{Bytes, is_written}
+use Rattle.diff_steps.specs.Moments.{is_written}
 use Rattle.diff_steps.specs.Forms.{whole_sum, added_forms, turned_if, kept_form, taken_form, operands_form, item_sent, sender_form, multiplied_form, computed_form, amount_form, own_form, is_whole_sender, set_form, lowered_form, has_operands}
 use Rattle.diff_layer.specs.Views.{taken_at}
 use Rattle.diff_layer.specs.Working.{settled_if, kept_by, taken_by, item_by, sender_by, read_by, multiplied_by, operands_by, computed_by, amount_by}
@@ -28,7 +29,7 @@ or_none : (b : Bool) → (b || false) ≡ b
 or_none true = refl
 or_none false = refl
 
-module _ (p : Program) (pack : Pack) (seen : Seen) (wrote : List Bytes) where
+module _ (p : Program) (pack : Pack) (seen : Seen) (wrote : List Extent) where
   abbrev common : Option Taken
   common = seen.common
 
@@ -99,7 +100,7 @@ module _ (p : Program) (pack : Pack) (seen : Seen) (wrote : List Bytes) where
   set_same x written e = ap (λ (o : Option Lin). if is_whole_sender p.layout x then o else None) (sender_is x written e)
 
 -- both definitions give an amount one form in the pack's unit where operands are taken
-pub amount_is : (p : Program) (pack : Pack) (cells : List Known) (common : Option Taken) (wrote : List Bytes) (place : ℕ) (y : Amount) (written : Bool) (d : ℕ) (o : Option Lin) →
+pub amount_is : (p : Program) (pack : Pack) (cells : List Known) (common : Option Taken) (wrote : List Extent) (place : ℕ) (y : Amount) (written : Bool) (d : ℕ) (o : Option Lin) →
     d ≡ pack_decimals p.layout pack → written ≡ are_written p.layout wrote (amount_items y) →
     o ≡ amount_by d (λ k. cell_of pack (of_item k)) (range_at p cells) common written place y → o ≡ amount_form p pack (taken_at cells common) wrote place y
 amount_is p pack cells common wrote place y written d o unit e is =
@@ -108,7 +109,7 @@ amount_is p pack cells common wrote place y written d o unit e is =
 
 -- ---- moments at which the same is known of cells, and of operands when they were taken
 
-module _ (p : Program) (pack : Pack) (t : Seen) (cells : List Known) (common : Option Taken) (wrote : List Bytes) where
+module _ (p : Program) (pack : Pack) (t : Seen) (cells : List Known) (common : Option Taken) (wrote : List Extent) where
   abbrev item_cell : ℕ → Option ℕ
   item_cell place = cell_of pack (of_item place)
 

@@ -2,12 +2,13 @@
 use Rattle.std.proofs.Common.{◌≡◌, ℕ, suc, Bool, true, false, if◌then◌else◌, List, ℤ, Option, Some, None, refl, sym, ap, ◌∙◌}
 use Rattle.std.specs.Option.{option_map}
 use Rattle.dec_num.specs.declared.types.Mode.{Mode}
+use Rattle.cob_data.specs.declared.extent.Extent.{Extent}
 use Rattle.cob_program.specs.Logic.{Test, numbers, texts, member, numeric, always}
 use Rattle.cob_program.specs.Act.{Act, Program}
 use Rattle.cob_runs.specs.declared.action.Action.{Action}
 use Rattle.cob_runs.specs.Contents.{form_at}
-use Rattle.cob_edge_parts.specs.Parts.{Amount, Part, read, unread, divide, store, bytes_in, guard, read_count, set_count, count_down, guard_count}
-use Rattle.diff_bounds.specs.declared.form.Lin.{Lin}
+use Rattle.cob_edge_parts.specs.Parts.{Amount, Part, read, unread, subscript, index, divide, store, bytes_in, guard, read_count, set_count, count_down, guard_count}
+use Rattle.diff_bounds.specs.declared.form.lin.Lin.{Lin}
 use Rattle.transfer_ranges.specs.declared.amounts.Taken.{Taken}
 use Rattle.transfer_ranges.specs.declared.amounts.Receiver.{Receiver}
 use Rattle.transfer_ranges.specs.declared.amounts.AmountRange.{AmountRange}
@@ -25,7 +26,6 @@ use Rattle.cell_layer.specs.Walks.{with_taken_small, step_small}
 use Rattle.cell_layer.proofs.SmallEdges.{all_is_taken}
 use Rattle.diff_steps.specs.Packs.{Pack, size_of, cell_of, pack_decimals, unit_of}
 use Rattle.diff_steps.specs.Matrices.{bottom}
-use Rattle.diff_steps.specs.Moments.{Bytes}
 use Rattle.diff_steps.specs.Forms.{amount_form, set_form}
 use Rattle.diff_steps.specs.Stores.{known_of_amount, forgotten_cells}
 use Rattle.diff_steps.specs.Steps.{by_outcome, is_other, form_at_cell, stored_cell, stored_pack, lost_pack, pack_behind_store, counter_stored, guarded_pack, changed_pack}
@@ -63,7 +63,7 @@ module _ (p : Program) (a : Act) (x : Action) where
 
   -- ---- stores
 
-  module _ (t : Seen) (known : List Known) (common : Option Taken) (cells : known ≡ t.cells) (same : common ≡ t.common) (wrote : List Bytes) (pack : Pack) where
+  module _ (t : Seen) (known : List Known) (common : Option Taken) (cells : known ≡ t.cells) (same : common ≡ t.common) (wrote : List Extent) (pack : Pack) where
     cell_is : (place : ℕ) (mode : Mode) (y : Amount) (o : Option ℕ) (m : List ℤ) →
         cell_stored (size_of pack) (receiver_of (form_at p.layout place)) mode (unit_of p.layout pack (of_item place)) (decimal_in (option_map ranges_of (amount_at p a x t place y)))
         (amount_form p pack (taken_at known common) wrote place y) o m
@@ -111,10 +111,12 @@ module _ (p : Program) (a : Act) (x : Action) where
   IsKept (set_count n y) s common latest = common ≡ (with_taken p a x s).common
   IsKept _ s common latest = Unit {0}
 
-  pub part_is : (y : Part) (s : Seen) (common : Option Taken) (latest : Latest) (wrote : List Bytes) (pack : Pack) (m : List ℤ) → IsKept y s common latest →
+  pub part_is : (y : Part) (s : Seen) (common : Option Taken) (latest : Latest) (wrote : List Extent) (pack : Pack) (m : List ℤ) → IsKept y s common latest →
       plan_changed p s.cells common latest wrote y pack m ≡ changed_pack p a x y s wrote pack m
   part_is (read place) s common latest wrote pack m kept = refl
   part_is unread s common latest wrote pack m kept = refl
+  part_is (subscript last k) s common latest wrote pack m kept = refl
+  part_is (index last k count) s common latest wrote pack m kept = refl
   part_is (divide d) s common latest wrote pack m kept = refl
   part_is (store place mode y) s common latest wrote pack m kept = store_is (with_taken p a x s) s.cells common (taken_cells s) kept.0 wrote pack latest place mode y m kept.1
   part_is (bytes_in offset count) s common latest wrote pack m kept = refl
@@ -148,6 +150,8 @@ module _ (p : Program) (a : Act) (x : Action) where
       IsKept y s t.common latest
   kept_behind (read place) s t latest before small e told = tt
   kept_behind unread s t latest before small e told = tt
+  kept_behind (subscript last k) s t latest before small e told = tt
+  kept_behind (index last k count) s t latest before small e told = tt
   kept_behind (divide d) s t latest before small e told = tt
   kept_behind (store place mode y) s t latest before small e told =
       (stored_common (with_taken_small p a x s) t _ _ e ∙ ap (λ (u : Seen). u.common) (all_is_taken p a x small.sender s), told)

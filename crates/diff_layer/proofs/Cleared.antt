@@ -1,5 +1,5 @@
 -- What both layers clear, where the first one does and where it doesn't.
-use Rattle.std.proofs.Common.{◌≡◌, ℕ, Bool, true, false, ◌||◌, ◌&&◌, not, if◌then◌else◌, List, [], ◌∷◌, ℤ, neg_ℤ, Option, Some, None, is_some, refl, sym, ap, subst, ◌∙◌, arith}
+use Rattle.std.proofs.Common.{◌≡◌, ℕ, Bool, true, false, ◌||◌, ◌&&◌, not, if◌then◌else◌, List, [], ◌∷◌, ℤ, pos, neg_ℤ, Option, Some, None, is_some, refl, sym, ap, subst, ◌∙◌, arith}
 use Rattle.std.specs.Prelude.{int_le, int_lt}
 use Rattle.std.specs.Option.{option_map, option_map_or}
 use Rattle.std.specs.List.{list_any}
@@ -7,6 +7,7 @@ use Rattle.std.proofs.lemmas.Int.{ints}
 use Rattle.std.proofs.Props.{props}
 use Rattle.std.proofs.Math.Logic.{∥∥₁_elim}
 use Rattle.dec_num.specs.declared.types.Mode.{Mode}
+use Rattle.cob_data.specs.declared.extent.Extent.{Extent}
 use Rattle.cob_data.specs.declared.layout.Sender.{Sender}
 use Rattle.dec_num.specs.declared.types.Mode.TheVariants.{Trunc}
 use Rattle.interval_domain.specs.declared.bounds.Interval.{Interval}
@@ -19,8 +20,8 @@ use Rattle.cob_program.specs.Act.{Act, Program}
 use Rattle.cob_runs.specs.declared.action.Action.{Action}
 use Rattle.cob_runs.specs.Contents.{form_at}
 use Rattle.cob_runs.specs.Computing.{items_in}
-use Rattle.cob_edge_parts.specs.Parts.{Amount, moved, computed, remaining, augmented, Part, read, unread, divide, store, bytes_in, guard, read_count, set_count, count_down, guard_count, has_phrase}
-use Rattle.diff_bounds.specs.declared.form.Lin.{Lin}
+use Rattle.cob_edge_parts.specs.Parts.{Amount, moved, computed, remaining, augmented, Part, read, unread, subscript, index, divide, store, bytes_in, guard, read_count, set_count, count_down, guard_count, has_phrase}
+use Rattle.diff_bounds.specs.declared.form.lin.Lin.{Lin}
 use Rattle.diff_bounds.specs.Upper.{upper_of}
 use Rattle.sum_forms.specs.Constants.{range_form}
 use Rattle.sum_forms.specs.SumForms.{sum_form}
@@ -34,13 +35,13 @@ use Rattle.transfer_ranges.specs.Operands.{alone, taken_from, whole_range}
 use Rattle.transfer_ranges.specs.Stores.{operands, amount_range}
 use Rattle.transfer_ranges.specs.Receivers.{receiver_of, counter}
 use Rattle.transfer_ranges.specs.ResultRanges.{most, exceeds, amount_units, may_fail, near_range, lowered, count_may_fail}
-use Rattle.edge_amounts.specs.Working.{amount_from}
+use Rattle.transfer_ranges.specs.Working.{amount_from}
 use Rattle.interval_domain.specs.Known.{Known}
-use Rattle.cob_graph.specs.declared.homes.Home.TheVariants.{Count as of_count}
+use Rattle.cob_graph.specs.declared.homes.Home.TheVariants.{Item as of_item, Count as of_count}
 use Rattle.cob_graph.specs.Homes.{homes_of}
 use Rattle.cell_steps.specs.Cells.{units_of}
 use Rattle.cell_steps.specs.Agreeing.{of_operands}
-use Rattle.cell_steps.specs.Operands.{edge_amount, edge_operands, settled, amount_of}
+use Rattle.transfer_ranges.specs.EdgeOperands.{edge_amount, edge_operands, settled, amount_of}
 use Rattle.cell_steps.specs.Seen.{Seen}
 use Rattle.cell_steps.specs.Stores.{range_at, with_taken}
 use Rattle.cell_steps.specs.Clearing.{is_misfit, has_quotient, all_fit_of, all_fit, all_count, clears_part}
@@ -49,10 +50,10 @@ use Rattle.cell_layer.specs.Walks.{if_sent_small, with_taken_small, clears_small
 use Rattle.cell_layer.proofs.SmallEdges.{all_is_taken}
 use Rattle.cell_layer.proofs.Stepping.{taken_can, taken_written}
 use Rattle.diff_steps.specs.Packs.{Pack, size_of, pack_decimals}
-use Rattle.diff_steps.specs.Moments.{Bytes, is_written}
-use Rattle.diff_steps.specs.Forms.{amount_form, set_form, lowered_form, has_operands, kept_form, cell_at}
+use Rattle.diff_steps.specs.Moments.{is_written}
+use Rattle.diff_steps.specs.Forms.{amount_form, set_form, subscript_form, lowered_form, has_operands, kept_form, cell_at}
 use Rattle.diff_steps.specs.Stores.{upper_negated}
-use Rattle.diff_steps.specs.Clearing.{some_pack, high_fits, low_fits, ends_fit, high_shown, low_shown, is_apart_in, amounts_fit, store_fits, clears_part2}
+use Rattle.diff_steps.specs.Clearing.{some_pack, high_fits, low_fits, ends_fit, high_found, low_found, high_shown, low_shown, is_apart_in, amounts_fit, store_fits, clears_part2}
 use Rattle.diff_layer.proofs.AmountsAgree.{same_amount_form, same_set_form, same_operands, same_lowered_form}
 use Rattle.diff_layer.specs.Ends.{part_form, shows_end}
 use Rattle.diff_layer.specs.Clears.{range_shown, amount_shown, store_shown, count_shown, store_cleared, set_cleared, part_cleared}
@@ -67,14 +68,27 @@ module _ (p : Program) (a : Act) (x : Action) where
   small_clears (read place) s kind.Size h = refl
   small_clears (read place) s kind.Zero h = refl
   small_clears (read place) s kind.Truncation h = refl
+  small_clears (read place) s kind.Subscript h = refl
   small_clears unread s kind.Class h = refl
   small_clears unread s kind.Size h = refl
   small_clears unread s kind.Zero h = refl
   small_clears unread s kind.Truncation h = refl
+  small_clears unread s kind.Subscript h = refl
+  small_clears (subscript last k) s kind.Class h = refl
+  small_clears (subscript last k) s kind.Size h = refl
+  small_clears (subscript last k) s kind.Zero h = refl
+  small_clears (subscript last k) s kind.Truncation h = refl
+  small_clears (subscript last k) s kind.Subscript h = refl
+  small_clears (index last k count) s kind.Class h = refl
+  small_clears (index last k count) s kind.Size h = refl
+  small_clears (index last k count) s kind.Zero h = refl
+  small_clears (index last k count) s kind.Truncation h = refl
+  small_clears (index last k count) s kind.Subscript h = refl
   small_clears (divide d) s kind.Class h = refl
   small_clears (divide d) s kind.Size h = refl
   small_clears (divide d) s kind.Zero h = refl
   small_clears (divide d) s kind.Truncation h = refl
+  small_clears (divide d) s kind.Subscript h = refl
   small_clears (store place mode y) s fault h =
       ap (λ (t : Seen). has_phrase a || (not (is_misfit y fault) || all_fit p a x t place mode y)) (all_is_taken p a x h.sender s)
   small_clears (bytes_in offset count) s fault h = refl
@@ -83,17 +97,25 @@ module _ (p : Program) (a : Act) (x : Action) where
   small_clears (read_count n) s kind.Size h = refl
   small_clears (read_count n) s kind.Zero h = refl
   small_clears (read_count n) s kind.Truncation h = refl
+  small_clears (read_count n) s kind.Subscript h = refl
   small_clears (set_count n y) s kind.Size h = ap (all_count p a x) (all_is_taken p a x h.1 s)
   small_clears (set_count n y) s kind.Class h = refl
   small_clears (set_count n y) s kind.Zero h = refl
   small_clears (set_count n y) s kind.Truncation h = refl
+  small_clears (set_count n y) s kind.Subscript h = refl
   small_clears (count_down n) s kind.Size h = refl
   small_clears (count_down n) s kind.Class h = refl
   small_clears (count_down n) s kind.Zero h = refl
   small_clears (count_down n) s kind.Truncation h = refl
+  small_clears (count_down n) s kind.Subscript h = refl
   small_clears (guard_count n wanted) s fault h = refl
 
 -- ---- ends
+
+both_too : (low high more_high more_low : Bool) → (low && high) ≡ true → ((high || more_high) && (low || more_low)) ≡ true
+both_too true true h l e = refl
+both_too true false h l e = absurd cc
+both_too false high h l e = absurd cc
 
 not_less : (x y : ℤ) → int_lt x y ≡ not (int_le y x)
 not_less x y = grind (arith, ints)
@@ -131,7 +153,7 @@ some_none f none (pack ∷ packs) (m ∷ ms) = ap (λ b. b || some_pack f packs 
 
 module _ (p : Program) (packs : List Pack) (ms : List (List ℤ)) (form : Pack → Option Lin) (mode : Mode) (r : Receiver) where
   -- a range is shown by the ends of the forms of a part
-  pub range_is : (known : List Known) (common : Option Taken) (wrote : List Bytes) (y : Part) → ((pack : Pack) → part_form p known common wrote y pack ≡ form pack) → (i : Interval) →
+  pub range_is : (known : List Known) (common : Option Taken) (wrote : List Extent) (y : Part) → ((pack : Pack) → part_form p known common wrote y pack ≡ form pack) → (i : Interval) →
       range_shown p known common wrote y mode r packs ms i ≡ ends_fit p packs ms form mode r i
   range_is known common wrote y same i =
       (λ k. (int_le i.high (most r.digits) || high k) && (int_le (neg_ℤ (most r.digits)) i.low || low k))
@@ -231,7 +253,7 @@ module _ (p : Program) (a : Act) (x : Action) (t : Seen) where
   rooted (remaining s scale) can w sent of_edge = tt
   rooted (augmented z) can w sent of_edge = tt
 
-module _ (p : Program) (t : Seen) (wrote : List Bytes) (place : ℕ) where
+module _ (p : Program) (t : Seen) (wrote : List Extent) (place : ℕ) where
   abbrev own : Ranged
   own = range_at p t.cells place
 
@@ -320,7 +342,7 @@ or_more true b c d more e = refl
 or_more false true c d more e = refl
 or_more false false c d more e = more e
 
-module _ (p : Program) (packs : List Pack) (a : Act) (x : Action) (t : Seen) (wrote : List Bytes) (ms : List (List ℤ)) (place : ℕ) (mode : Mode) where
+module _ (p : Program) (packs : List Pack) (a : Act) (x : Action) (t : Seen) (wrote : List Extent) (ms : List (List ℤ)) (place : ℕ) (mode : Mode) where
   abbrev receives : Receiver
   receives = receiver_of (form_at p.layout place)
 
@@ -394,7 +416,7 @@ module _ (p : Program) (packs : List Pack) (a : Act) (x : Action) (t : Seen) (wr
 
 -- ---- parts
 
-module _ (p : Program) (packs : List Pack) (a : Act) (x : Action) (s : Seen) (wrote : List Bytes) (ms : List (List ℤ)) where
+module _ (p : Program) (packs : List Pack) (a : Act) (x : Action) (s : Seen) (wrote : List Extent) (ms : List (List ℤ)) where
   abbrev moment : Seen
   moment = with_taken p a x s
 
@@ -433,14 +455,27 @@ module _ (p : Program) (packs : List Pack) (a : Act) (x : Action) (s : Seen) (wr
   part_cleared_is (read place) kind.Size small of_edge can e = absurd cc
   part_cleared_is (read place) kind.Zero small of_edge can e = absurd cc
   part_cleared_is (read place) kind.Truncation small of_edge can e = absurd cc
+  part_cleared_is (read place) kind.Subscript small of_edge can e = absurd cc
   part_cleared_is unread kind.Class small of_edge can e = refl
   part_cleared_is unread kind.Size small of_edge can e = absurd cc
   part_cleared_is unread kind.Zero small of_edge can e = absurd cc
   part_cleared_is unread kind.Truncation small of_edge can e = absurd cc
+  part_cleared_is unread kind.Subscript small of_edge can e = absurd cc
+  part_cleared_is (subscript last k) kind.Class small of_edge can e = sym e
+  part_cleared_is (subscript last k) kind.Size small of_edge can e = absurd cc
+  part_cleared_is (subscript last k) kind.Zero small of_edge can e = absurd cc
+  part_cleared_is (subscript last k) kind.Truncation small of_edge can e = absurd cc
+  part_cleared_is (subscript last k) kind.Subscript small of_edge can e = absurd cc
+  part_cleared_is (index last k count) kind.Class small of_edge can e = absurd cc
+  part_cleared_is (index last k count) kind.Size small of_edge can e = absurd cc
+  part_cleared_is (index last k count) kind.Zero small of_edge can e = absurd cc
+  part_cleared_is (index last k count) kind.Truncation small of_edge can e = absurd cc
+  part_cleared_is (index last k count) kind.Subscript small of_edge can e = refl
   part_cleared_is (divide d) kind.Zero small of_edge can e = sym (ap (λ b. b || some_pack (is_apart_in p s d) packs ms) e)
   part_cleared_is (divide d) kind.Class small of_edge can e = absurd cc
   part_cleared_is (divide d) kind.Size small of_edge can e = absurd cc
   part_cleared_is (divide d) kind.Truncation small of_edge can e = absurd cc
+  part_cleared_is (divide d) kind.Subscript small of_edge can e = absurd cc
   part_cleared_is (store place mode y) fault small of_edge can e = store_cleared_is place mode y fault small of_edge can e
   part_cleared_is (bytes_in offset count) fault small of_edge can e = absurd cc
   part_cleared_is (guard t wanted) fault small of_edge can e = absurd cc
@@ -448,16 +483,19 @@ module _ (p : Program) (packs : List Pack) (a : Act) (x : Action) (s : Seen) (wr
   part_cleared_is (read_count n) kind.Size small of_edge can e = absurd cc
   part_cleared_is (read_count n) kind.Zero small of_edge can e = absurd cc
   part_cleared_is (read_count n) kind.Truncation small of_edge can e = absurd cc
+  part_cleared_is (read_count n) kind.Subscript small of_edge can e = absurd cc
   part_cleared_is (set_count n z) kind.Size small of_edge can e = set_is n z (all_is_taken p a x small.1 s)
   part_cleared_is (set_count n z) kind.Class small of_edge can e = absurd cc
   part_cleared_is (set_count n z) kind.Zero small of_edge can e = absurd cc
   part_cleared_is (set_count n z) kind.Truncation small of_edge can e = absurd cc
+  part_cleared_is (set_count n z) kind.Subscript small of_edge can e = absurd cc
   part_cleared_is (count_down n) kind.Size small of_edge can e =
       range_is p packs ms (λ pack. lowered_form p pack s wrote n) Trunc counter s.cells s.common wrote (count_down n) (λ pack. same_lowered_form p pack s s.cells s.common wrote n refl)
       (lowered (units_of p.layout (homes_of p) s.cells (of_count n)))
   part_cleared_is (count_down n) kind.Class small of_edge can e = absurd cc
   part_cleared_is (count_down n) kind.Zero small of_edge can e = absurd cc
   part_cleared_is (count_down n) kind.Truncation small of_edge can e = absurd cc
+  part_cleared_is (count_down n) kind.Subscript small of_edge can e = absurd cc
   part_cleared_is (guard_count n wanted) fault small of_edge can e = absurd cc
 
   -- both layers clear what the first layer clears
@@ -466,14 +504,30 @@ module _ (p : Program) (packs : List Pack) (a : Act) (x : Action) (s : Seen) (wr
   cleared_too (read place) kind.Size e = refl
   cleared_too (read place) kind.Zero e = refl
   cleared_too (read place) kind.Truncation e = refl
+  cleared_too (read place) kind.Subscript e = refl
   cleared_too unread kind.Class e = absurd cc
   cleared_too unread kind.Size e = refl
   cleared_too unread kind.Zero e = refl
   cleared_too unread kind.Truncation e = refl
+  cleared_too unread kind.Subscript e = refl
+  cleared_too (subscript last k) kind.Class e = e
+  cleared_too (subscript last k) kind.Size e = refl
+  cleared_too (subscript last k) kind.Zero e = refl
+  cleared_too (subscript last k) kind.Truncation e = refl
+  cleared_too (subscript last k) kind.Subscript e = refl
+  cleared_too (index last k count) kind.Class e = refl
+  cleared_too (index last k count) kind.Size e = refl
+  cleared_too (index last k count) kind.Zero e = refl
+  cleared_too (index last k count) kind.Truncation e = refl
+  cleared_too (index last k count) kind.Subscript e =
+      let i = units_of p.layout (homes_of p) s.cells (of_item k) in
+      both_too (int_le (pos 1) i.low) (int_le i.high (pos count)) (high_found p packs ms (λ pack. subscript_form p pack s [] k) count)
+      (low_found p packs ms (λ pack. subscript_form p pack s [] k)) e
   cleared_too (divide d) kind.Zero e = ap (λ b. b || some_pack (is_apart_in p s d) packs ms) e
   cleared_too (divide d) kind.Class e = refl
   cleared_too (divide d) kind.Size e = refl
   cleared_too (divide d) kind.Truncation e = refl
+  cleared_too (divide d) kind.Subscript e = refl
   cleared_too (store place mode y) fault e =
       or_more (has_phrase a) (not (is_misfit y fault)) (all_fit p a x moment place mode y) (store_fits p packs a x moment (seen2 wrote ms) place mode y)
       (store_too p packs a x moment wrote ms place mode y) e
@@ -483,6 +537,7 @@ module _ (p : Program) (packs : List Pack) (a : Act) (x : Action) (s : Seen) (wr
   cleared_too (read_count n) kind.Size e = refl
   cleared_too (read_count n) kind.Zero e = refl
   cleared_too (read_count n) kind.Truncation e = refl
+  cleared_too (read_count n) kind.Subscript e = refl
   cleared_too (set_count n z) kind.Size e = go moment.common e
     where
       go : (o : Option Taken) → option_map_or (λ c. not (count_may_fail c.top.units)) o true ≡ true → option_map_or (λ c. ends_fit p packs ms (λ pack. set_form p pack moment wrote z) Trunc counter c.top.units) o true ≡ true
@@ -491,9 +546,11 @@ module _ (p : Program) (packs : List Pack) (a : Act) (x : Action) (s : Seen) (wr
   cleared_too (set_count n z) kind.Class e = refl
   cleared_too (set_count n z) kind.Zero e = refl
   cleared_too (set_count n z) kind.Truncation e = refl
+  cleared_too (set_count n z) kind.Subscript e = refl
   cleared_too (count_down n) kind.Size e =
       more_fit p packs ms (λ pack. lowered_form p pack s wrote n) Trunc counter (lowered (units_of p.layout (homes_of p) s.cells (of_count n))) e
   cleared_too (count_down n) kind.Class e = refl
   cleared_too (count_down n) kind.Zero e = refl
   cleared_too (count_down n) kind.Truncation e = refl
+  cleared_too (count_down n) kind.Subscript e = refl
   cleared_too (guard_count n wanted) fault e = refl

@@ -2,7 +2,7 @@
 use Rattle.std.proofs.Common.{◌≡◌, List, length, ℤ, Option, ap, ◌∙◌}
 use Rattle.cob_program.specs.Sum.{Atom}
 use Rattle.cob_program.specs.Act.{Program}
-use Rattle.diff_bounds.specs.declared.form.Lin.{Lin}
+use Rattle.diff_bounds.specs.declared.form.lin.Lin.{Lin}
 use Rattle.sum_forms.specs.SumForms.{atom_form}
 use Rattle.interval_domain.specs.Known.{Known}
 use Rattle.cob_graph.specs.declared.homes.Home.TheVariants.{Item as of_item}

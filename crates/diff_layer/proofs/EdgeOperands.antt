@@ -6,8 +6,8 @@ use Rattle.cob_program.specs.Act.{Stmt, MkStmt, Program}
 use Rattle.cob_runs.specs.declared.action.Action.{Action}
 use Rattle.cob_graph.specs.declared.graph.Edge.{Edge}
 use Rattle.cob_graph.specs.declared.graph.Graph.{Graph}
-use Rattle.edge_amounts.specs.PartView.{edge_parts}
-use Rattle.edge_amounts.specs.declared.work.EdgeWork.{EdgeWork}
+use Rattle.edge_parts.specs.PartView.{edge_parts}
+use Rattle.edge_parts.specs.declared.work.EdgeWork.{EdgeWork}
 use Rattle.graph_runs.specs.Sources.{IsSourceGraph}
 use Rattle.cell_laws.specs.Layer.{left}
 use Rattle.cell_layer.specs.NumberedStatements.{act_in}

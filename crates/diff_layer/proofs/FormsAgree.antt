@@ -7,7 +7,7 @@ use Rattle.cob_program.specs.Bounds.{Bound, exactly, sum_bound, factor_bound, pa
 use Rattle.cob_program.specs.Act.{Program}
 use Rattle.cob_program.proofs.Steps.{both}
 use Rattle.cob_calc.specs.Contents.{bound_at}
-use Rattle.diff_bounds.specs.declared.form.Lin.{Lin}
+use Rattle.diff_bounds.specs.declared.form.lin.Lin.{Lin}
 use Rattle.diff_bounds.specs.Forms.{if_small}
 use Rattle.diff_bounds.specs.Results.{sum_of}
 use Rattle.sum_ranges.specs.declared.ranged.Ranged.{Ranged}

@@ -8,7 +8,7 @@ use Rattle.sum_ranges.specs.SumRanges.{sum_range}
 use Rattle.transfer_ranges.specs.declared.amounts.Taken.{Taken}
 use Rattle.transfer_ranges.specs.Operands.{alone, taken_sum}
 use Rattle.cell_laws.proofs.Roots.{settled_is}
-use Rattle.cell_steps.specs.Operands.{settled}
+use Rattle.transfer_ranges.specs.EdgeOperands.{settled}
 
 alone_there : (o : Option Ranged) → is_some (option_map alone o) ≡ is_some o
 alone_there None = refl

@@ -17,7 +17,7 @@ use Rattle.interval_domain.specs.Known.{Known}
 use Rattle.interval_domain.specs.Elements.{Element}
 use Rattle.interval_domain.specs.Rows.{IsRow, is_reached, cells_of, element_of}
 use Rattle.cell_steps.specs.OwnRanges.{owns}
-use Rattle.cell_layer.specs.declared.works.EdgeWorks.{EdgeWorks}
+use Rattle.cell_layer.specs.declared.layer.works.EdgeWorks.{EdgeWorks}
 use Rattle.cell_layer.specs.Held.{IsHeld}
 use Rattle.diff_steps.specs.Packs.{Pack}
 use Rattle.diff_layer.specs.declared.pack.plans.PackPlan.{PackPlan}

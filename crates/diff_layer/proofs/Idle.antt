@@ -1,24 +1,26 @@
 -- Parts that change no matrix.
 use Rattle.std.proofs.Common.{◌≡◌, List, [], ◌∷◌, length, get_or, take, drop, ◌-◌, ◌≤◌, ℤ, Option, Some, refl, sym, ap, subst, ◌∙◌}
 use Rattle.std.specs.List.{AllByRecursion}
+use Rattle.cob_data.specs.declared.extent.Extent.{Extent}
 use Rattle.cob_program.specs.Values.{◌>>=◌}
 use Rattle.cob_program.specs.Act.{Program}
-use Rattle.cob_edge_parts.specs.Parts.{Part, read, unread, divide, store, bytes_in, guard, read_count, set_count, count_down, guard_count}
+use Rattle.cob_edge_parts.specs.Parts.{Part, read, unread, subscript, index, divide, store, bytes_in, guard, read_count, set_count, count_down, guard_count}
 use Rattle.transfer_ranges.specs.declared.amounts.Taken.{Taken}
 use Rattle.interval_domain.specs.Known.{Known}
 use Rattle.cob_graph.specs.declared.homes.Home.{Home}
 use Rattle.cell_layer.specs.Latest.{Latest}
-use Rattle.diff_steps.specs.Moments.{Bytes}
 use Rattle.diff_steps.specs.Packs.{Pack}
 use Rattle.diff_steps.specs.Steps.{each_pack, all_closed}
 use Rattle.diff_layer.specs.Closed.{AreClosedBy, IsIdle}
 use Rattle.diff_layer.specs.Parts.{plan_changed}
 use Rattle.diff_layer.proofs.PackRows.{split_is}
 
-module _ (p : Program) (before known : List Known) (common : Option Taken) (latest : Latest) (wrote : List Bytes) where
+module _ (p : Program) (before known : List Known) (common : Option Taken) (latest : Latest) (wrote : List Extent) where
   nothing_changed : (y : Part) → IsIdle y → (pack : Pack) (m : List ℤ) → plan_changed p before common latest wrote y pack m ≡ m
   nothing_changed (read place) idle pack m = refl
   nothing_changed unread idle pack m = refl
+  nothing_changed (subscript last k) idle pack m = refl
+  nothing_changed (index last k count) idle pack m = refl
   nothing_changed (divide d) idle pack m = refl
   nothing_changed (store place mode y) idle pack m = absurd idle
   nothing_changed (bytes_in offset count) idle pack m = absurd idle

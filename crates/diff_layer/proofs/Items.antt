@@ -3,8 +3,11 @@ use Rattle.std.proofs.Common.{◌≡◌, ℕ, ◌+◌, ◌<◌, Bool, true, fals
 use Rattle.std.specs.List.{list_any}
 use Rattle.std.specs.Option.{option_map_or}
 use Rattle.std.proofs.lemmas.List.Folds.{list_any-append}
+use Rattle.cob_data.specs.declared.extent.Extent.{Extent}
 use Rattle.cob_data.specs.declared.layout.Item.{Item}
 use Rattle.cob_data.specs.declared.layout.Layout.{Layout}
+use Rattle.cob_data.specs.Extents.{share_extents}
+use Rattle.cob_data.specs.Occurrences.{extent_of}
 use Rattle.cob_program.specs.declared.sum.Part as declared_part
 use Rattle.cob_program.specs.declared.sum.Factor as declared_factor
 use Rattle.cob_program.specs.declared.sum.Factor.{out-Factor}
@@ -14,11 +17,10 @@ use Rattle.cob_program.specs.SumView.{plain_part, plain_factor, plain_atom}
 use Rattle.cob_program.proofs.Loops.{item_step}
 use Rattle.cob_runs.specs.Contents.{item_at}
 use Rattle.cob_runs.specs.Computing.{items_in_parts, items_in_factors, items_in_atom}
-use Rattle.edge_amounts.proofs.SumLoops.{factors_from, products_from}
-use Rattle.cell_steps.specs.Cells.{share_bytes}
-use Rattle.diff_steps.specs.Moments.{Bytes, is_written, item_bytes}
+use Rattle.edge_parts.proofs.SumLoops.{factors_from, products_from}
+use Rattle.diff_steps.specs.Moments.{is_written, item_bytes}
 use Rattle.diff_layer.specs.PackWriting.{are_written}
-use Rattle.diff_layer.specs.Writing.{bytes, product_items}
+use Rattle.diff_layer.specs.Writing.{product_items}
 
 -- ---- items
 
@@ -39,7 +41,7 @@ product_items_first xs i x within is =
 
 -- ---- what was written to
 
-module _ (l : Layout) (wrote : List Bytes) where
+module _ (l : Layout) (wrote : List Extent) where
   pub met_first : (all here rest : List ℕ) (first : Bool) → all ≡ here ++ rest → first ≡ are_written l wrote here → first ≡ true → are_written l wrote all ≡ true
   met_first all here rest first cut is e =
       ap (are_written l wrote) cut ∙ (list_any-append (is_written l wrote) here rest ∙ ap (λ b. b || are_written l wrote rest) (sym is ∙ e))
@@ -52,18 +54,18 @@ pub nothing_written : (l : Layout) (places : List ℕ) → false ≡ are_written
 nothing_written l [] = refl
 nothing_written l (place ∷ places) = here (item_at l place) ∙ ap (λ b. is_written l [] place || b) (nothing_written l places)
   where
-    here : (o : Option Item) → false ≡ (option_map_or (λ i. list_any (λ (b : Bytes). share_bytes b.offset b.count i.offset i.length) []) o false || false)
+    here : (o : Option Item) → false ≡ (option_map_or (λ i. list_any (λ (e : Extent). share_extents e (extent_of i)) []) o false || false)
     here None = refl
     here (Some i) = refl
 
 pub missing_item : (l : Layout) (place : ℕ) (places : List ℕ) → item_at l place ≡ None → false ≡ are_written l (item_bytes l place) places
 missing_item l place places e =
     nothing_written l places
-    ∙ ap (λ o. are_written l (option_map_or (λ (i : Item). bytes i.offset i.length ∷ []) o []) places) (sym e)
+    ∙ ap (λ o. are_written l (option_map_or (λ (i : Item). extent_of i ∷ []) o []) places) (sym e)
 
 -- ---- what was written to by more parts
 
-or_swapped : (a b : Bool) → (a || b) ≡ (b || a)
+pub or_swapped : (a b : Bool) → (a || b) ≡ (b || a)
 or_swapped true true = refl
 or_swapped true false = refl
 or_swapped false true = refl
@@ -75,12 +77,12 @@ or_parted false true true d = refl
 or_parted false true false d = refl
 or_parted false false c d = refl
 
-module _ (l : Layout) (bs wrote : List Bytes) where
+module _ (l : Layout) (bs wrote : List Extent) where
   item_more : (place : ℕ) → is_written l (bs ++ wrote) place ≡ (is_written l wrote place || is_written l bs place)
   item_more place = at (item_at l place)
     where
-      shares : Item → Bytes → Bool
-      shares i b = share_bytes b.offset b.count i.offset i.length
+      shares : Item → Extent → Bool
+      shares i e = share_extents e (extent_of i)
 
       at : (o : Option Item) → option_map_or (λ i. list_any (shares i) (bs ++ wrote)) o false ≡ (option_map_or (λ i. list_any (shares i) wrote) o false || option_map_or (λ i. list_any (shares i) bs) o false)
       at None = refl

@@ -20,9 +20,9 @@ use Rattle.transfer_ranges.specs.declared.amounts.Taken.{Taken}
 use Rattle.transfer_ranges.specs.Operands.{alone, whole_range, taken_sum}
 use Rattle.transfer_ranges.specs.Stores.{operands}
 use Rattle.transfer_ranges.specs.Sizes.{IsSmallAmount}
-use Rattle.edge_amounts.specs.Small.{is_small_amount, has_small_sum}
-use Rattle.edge_amounts.specs.Working.{amount_from}
-use Rattle.cell_steps.specs.Operands.{edge_amount, edge_operands}
+use Rattle.transfer_ranges.specs.SmallAmounts.{is_small_amount, has_small_sum}
+use Rattle.transfer_ranges.specs.Working.{amount_from}
+use Rattle.transfer_ranges.specs.EdgeOperands.{edge_amount, edge_operands}
 use Rattle.cell_steps.specs.Seen.{Seen}
 use Rattle.cell_laws.specs.Sizes.{sends_small}
 use Rattle.cell_laws.proofs.Senders.{moved_small}

@@ -21,6 +21,7 @@ pub mod AmountsAgree
 pub mod Over
 pub mod KeptSmall
 pub mod Items
+pub mod Sharing
 pub mod KnownEnds
 pub mod Filling
 pub mod PackRows

@@ -10,7 +10,7 @@ use Rattle.cob_program.specs.Sum.{Sum}
 use Rattle.cob_program.specs.Values.{◌>>=◌}
 use Rattle.cob_edge_parts.specs.Parts.{Amount, moved, computed, remaining, augmented}
 use Rattle.interval_domain.specs.declared.bounds.Interval.{Interval}
-use Rattle.diff_bounds.specs.declared.form.Lin.{Lin}
+use Rattle.diff_bounds.specs.declared.form.lin.Lin.{Lin}
 use Rattle.diff_bounds.specs.Forms.{if_small}
 use Rattle.diff_bounds.specs.Results.{sum_of}
 use Rattle.sum_ranges.specs.declared.ranged.Ranged.{Ranged}
@@ -64,7 +64,7 @@ module _ (size f : ℕ) (cell : ℕ → Option ℕ) (few : (place k : ℕ) → c
   sender_over sender.Zero = kept_over size f common
 
   module _ (range : ℕ → Ranged) where
-    own_over : (place : ℕ) → IfSome (own_by f cell range place) (IsWithin size)
+    pub own_over : (place : ℕ) → IfSome (own_by f cell range place) (IsWithin size)
     own_over place = item_within f cell range size few place (cell place) refl
 
     operands_over : (whole : Bool) (s : Sum) → IfSome (operands_by f cell range common written whole s) (IsWithin size)

@@ -3,7 +3,7 @@ use Rattle.std.proofs.Common.{◌≡◌, ℕ, List, ℤ, pos, ◌+ℤ◌, ◌*�
 use Rattle.std.specs.Prelude.{SomeIff, IfSome}
 use Rattle.std.proofs.Math.IntN.{zero-*ℤ}
 use Rattle.interval_domain.specs.declared.bounds.Interval.{Interval}
-use Rattle.diff_bounds.specs.declared.form.Lin.{Lin}
+use Rattle.diff_bounds.specs.declared.form.lin.Lin.{Lin}
 use Rattle.diff_bounds.specs.Forms.{coef, IsSmallForm}
 use Rattle.diff_bounds.specs.Results.{added_coefs, scaled_coefs, sum_of, multiple_of}
 use Rattle.diff_bounds.proofs.Coefs.{coef-coefs_of}

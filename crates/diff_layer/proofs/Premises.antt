@@ -16,7 +16,7 @@ use Rattle.sum_forms.proofs.Loops.{short_atom}
 use Rattle.transfer_ranges.specs.declared.amounts.Taken.{Taken}
 use Rattle.transfer_ranges.specs.Operands.{is_whole}
 use Rattle.transfer_ranges.proofs.Working.{product_small}
-use Rattle.edge_amounts.specs.Working.{CanSettle, CanWork}
+use Rattle.transfer_ranges.specs.Working.{CanSettle, CanWork}
 use Rattle.diff_layer.specs.Sizes.{is_short_whole}
 use Rattle.diff_layer.specs.Working.{settled_if}
 

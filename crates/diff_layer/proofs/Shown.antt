@@ -1,7 +1,7 @@
 -- Bounds that a matrix shows of forms.
 use Rattle.std.proofs.Common.{◌≡◌, ℕ, List, ℤ, negsuc, ◌≤ℤ◌, Option, Some, None, refl, ap, subst, ◌∙◌, arith}
 use Rattle.std.proofs.lemmas.Int.{ints}
-use Rattle.diff_bounds.specs.declared.form.Lin.{Lin}
+use Rattle.diff_bounds.specs.declared.form.lin.Lin.{Lin}
 use Rattle.diff_bounds.specs.Forms.{IsSmallForm, if_small}
 use Rattle.diff_bounds.specs.Results.{scaled_coefs, multiple_of}
 use Rattle.diff_bounds.proofs.Coefs.{length-coefs_of}

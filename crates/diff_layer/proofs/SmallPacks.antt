@@ -4,11 +4,12 @@ use Rattle.std.specs.List.{AllByRecursion}
 use Rattle.std.specs.Option.{option_map, option_map_or}
 use Rattle.cob_tree.specs.declared.fault.Kind.{Kind}
 use Rattle.cob_tree.specs.declared.fault.Kind.TheVariants as kind
+use Rattle.cob_data.specs.declared.extent.Extent.{Extent}
 use Rattle.cob_program.specs.Values.{◌>>=◌}
 use Rattle.cob_program.specs.Logic.{Test, numbers, texts, member, numeric, always}
 use Rattle.cob_program.specs.Act.{Act, Program}
 use Rattle.cob_runs.specs.declared.action.Action.{Action}
-use Rattle.cob_edge_parts.specs.Parts.{Part, read, unread, divide, store, bytes_in, guard, read_count, set_count, count_down, guard_count}
+use Rattle.cob_edge_parts.specs.Parts.{Part, read, unread, subscript, index, divide, store, bytes_in, guard, read_count, set_count, count_down, guard_count}
 use Rattle.transfer_ranges.specs.declared.amounts.Taken.{Taken}
 use Rattle.interval_domain.specs.Known.{Known}
 use Rattle.cell_steps.specs.Seen.{Seen, beginning}
@@ -17,7 +18,7 @@ use Rattle.cell_laws.specs.Sizes.{sends_small, IsSmallPart}
 use Rattle.cell_layer.specs.Walks.{with_common, trimmed}
 use Rattle.cell_layer.proofs.SmallEdges.{step_same}
 use Rattle.diff_steps.specs.Packs.{Pack}
-use Rattle.diff_steps.specs.Moments.{Bytes, Seen2, with_packs}
+use Rattle.diff_steps.specs.Moments.{Seen2, with_packs}
 use Rattle.diff_steps.specs.Steps.{each_pack, all_closed, guarded_pack, changed_pack, changed, written_by, step2}
 use Rattle.diff_steps.specs.Edges.{steps2, finished2}
 use Rattle.diff_steps.specs.Clearing.{clears_part2, clears_parts2}
@@ -50,9 +51,11 @@ module _ (p : Program) (a : Act) (x : Action) where
   guard_same s (numeric place) wanted pack m = refl
   guard_same s always wanted pack m = refl
 
-  change_same : (y : Part) (s : Seen) (wrote : List Bytes) (pack : Pack) (m : List ℤ) → IsSmallPart p a x y → changed_pack p a x y (trim s) wrote pack m ≡ changed_pack p a x y s wrote pack m
+  change_same : (y : Part) (s : Seen) (wrote : List Extent) (pack : Pack) (m : List ℤ) → IsSmallPart p a x y → changed_pack p a x y (trim s) wrote pack m ≡ changed_pack p a x y s wrote pack m
   change_same (read place) s wrote pack m h = refl
   change_same unread s wrote pack m h = refl
+  change_same (subscript last k) s wrote pack m h = refl
+  change_same (index last k count) s wrote pack m h = refl
   change_same (divide d) s wrote pack m h = refl
   change_same (store place mode y) s wrote pack m h = ap (λ (t : Seen). changed_pack p a x (store place mode y) t wrote pack m) (all_kept p a x h.sender s)
   change_same (bytes_in offset count) s wrote pack m h = refl
@@ -91,14 +94,27 @@ module _ (p : Program) (a : Act) (x : Action) where
     clear_same (read place) s r kind.Size h = refl
     clear_same (read place) s r kind.Zero h = refl
     clear_same (read place) s r kind.Truncation h = refl
+    clear_same (read place) s r kind.Subscript h = refl
     clear_same unread s r kind.Class h = refl
     clear_same unread s r kind.Size h = refl
     clear_same unread s r kind.Zero h = refl
     clear_same unread s r kind.Truncation h = refl
+    clear_same unread s r kind.Subscript h = refl
+    clear_same (subscript last k) s r kind.Class h = refl
+    clear_same (subscript last k) s r kind.Size h = refl
+    clear_same (subscript last k) s r kind.Zero h = refl
+    clear_same (subscript last k) s r kind.Truncation h = refl
+    clear_same (subscript last k) s r kind.Subscript h = refl
+    clear_same (index last k count) s r kind.Class h = refl
+    clear_same (index last k count) s r kind.Size h = refl
+    clear_same (index last k count) s r kind.Zero h = refl
+    clear_same (index last k count) s r kind.Truncation h = refl
+    clear_same (index last k count) s r kind.Subscript h = refl
     clear_same (divide d) s r kind.Class h = refl
     clear_same (divide d) s r kind.Size h = refl
     clear_same (divide d) s r kind.Zero h = refl
     clear_same (divide d) s r kind.Truncation h = refl
+    clear_same (divide d) s r kind.Subscript h = refl
     clear_same (store place mode y) s r fault h = ap (λ (t : Seen). clears_part2 p packs a x (store place mode y) t r fault) (all_kept p a x h.sender s)
     clear_same (bytes_in offset count) s r fault h = refl
     clear_same (guard t wanted) s r fault h = refl
@@ -106,14 +122,17 @@ module _ (p : Program) (a : Act) (x : Action) where
     clear_same (read_count n) s r kind.Size h = refl
     clear_same (read_count n) s r kind.Zero h = refl
     clear_same (read_count n) s r kind.Truncation h = refl
+    clear_same (read_count n) s r kind.Subscript h = refl
     clear_same (set_count n y) s r kind.Size h = ap (λ (t : Seen). clears_part2 p packs a x (set_count n y) t r kind.Size) (all_kept p a x h.1 s)
     clear_same (set_count n y) s r kind.Class h = refl
     clear_same (set_count n y) s r kind.Zero h = refl
     clear_same (set_count n y) s r kind.Truncation h = refl
+    clear_same (set_count n y) s r kind.Subscript h = refl
     clear_same (count_down n) s r kind.Size h = refl
     clear_same (count_down n) s r kind.Class h = refl
     clear_same (count_down n) s r kind.Zero h = refl
     clear_same (count_down n) s r kind.Truncation h = refl
+    clear_same (count_down n) s r kind.Subscript h = refl
     clear_same (guard_count n wanted) s r fault h = refl
 
     -- ---- all parts

@@ -14,7 +14,7 @@ use Rattle.cob_runs.specs.Moves.{takes_number}
 use Rattle.cob_store.specs.WellFormed.{HasWellFormedItems}
 use Rattle.cob_calc.specs.Contents.{bound_at}
 use Rattle.cob_calc.specs.Arithmetic.{is_small_result}
-use Rattle.cob_edge_parts.specs.Parts.{Amount, moved, computed, remaining, augmented, Part, read, unread, divide, store, bytes_in, guard, read_count, set_count, count_down, guard_count, parts_of}
+use Rattle.cob_edge_parts.specs.Parts.{Amount, moved, computed, remaining, augmented, Part, read, unread, subscript, index, divide, store, bytes_in, guard, read_count, set_count, count_down, guard_count, parts_of}
 use Rattle.cob_graph.specs.declared.graph.Graph.{Graph}
 use Rattle.graph_runs.specs.Sources.{IsSourceGraph}
 use Rattle.sum_ranges.specs.Taking.{is_small_taken}
@@ -41,6 +41,8 @@ module _ (p : Program) (sound : HasWellFormedItems p.layout) (a : Act) (x : Acti
   part_of : (y : Part) → IsSourcePart p.layout a x y → IsOfEdge p a x y
   part_of (read place) kept = tt
   part_of unread kept = tt
+  part_of (subscript last k) kept = tt
+  part_of (index last k count) kept = tt
   part_of (divide d) kept = tt
   part_of (store place mode y) kept = store_of place y kept.0 kept.1
   part_of (bytes_in offset count) kept = tt

@@ -3,12 +3,13 @@ use Rattle.std.proofs.Common.{◌≡◌, Bool, true, false, if◌then◌else◌,
 use Rattle.std.specs.Prelude.{IfSome}
 use Rattle.std.proofs.Props.{props}
 use Rattle.std.proofs.Math.Logic.{∥∥₁_elim}
+use Rattle.cob_data.specs.declared.extent.Extent.{Extent}
 use Rattle.cob_program.specs.Values.{◌>>=◌}
 use Rattle.cob_program.specs.Act.{Act, Program}
 use Rattle.cob_runs.specs.declared.action.Action.{Action}
-use Rattle.cob_edge_parts.specs.Parts.{Amount, moved, computed, remaining, augmented, Part, read, unread, divide, store, bytes_in, guard, read_count, set_count, count_down, guard_count}
+use Rattle.cob_edge_parts.specs.Parts.{Amount, moved, computed, remaining, augmented, Part, read, unread, subscript, index, divide, store, bytes_in, guard, read_count, set_count, count_down, guard_count}
 use Rattle.transfer_ranges.specs.declared.amounts.Taken.{Taken}
-use Rattle.edge_amounts.specs.Working.{CanWork}
+use Rattle.transfer_ranges.specs.Working.{CanWork}
 use Rattle.interval_domain.specs.Known.{Known}
 use Rattle.cell_steps.specs.Agreeing.{of_operands}
 use Rattle.cell_steps.specs.Seen.{Seen}
@@ -18,7 +19,7 @@ use Rattle.cell_layer.specs.Latest.{Latest, latest_behind}
 use Rattle.cell_layer.specs.Walks.{trimmed, with_taken_small, step_small, CanStep}
 use Rattle.cell_layer.proofs.Stepping.{taken_can, taken_written, can_work}
 use Rattle.diff_steps.specs.Packs.{Pack}
-use Rattle.diff_steps.specs.Moments.{Bytes, Seen2, with_packs}
+use Rattle.diff_steps.specs.Moments.{Seen2, with_packs}
 use Rattle.diff_steps.specs.Steps.{each_pack, all_closed, changed_pack, changed, written_by}
 use Rattle.diff_layer.specs.Sizes.{HasSmallTop}
 use Rattle.diff_layer.specs.PackWriting.{amount_items, are_written}
@@ -39,9 +40,11 @@ module _ (p : Program) (a : Act) (x : Action) where
   operand_items (remaining s scale) = refl
   operand_items (augmented z) = refl
 
-  pub written_to : (y : Part) (wrote : List Bytes) (written : Bool) → IsOfEdge p a x y → written ≡ are_written p.layout wrote (edge_items a x) → IsWrittenTo p.layout wrote written y
+  pub written_to : (y : Part) (wrote : List Extent) (written : Bool) → IsOfEdge p a x y → written ≡ are_written p.layout wrote (edge_items a x) → IsWrittenTo p.layout wrote written y
   written_to (read place) wrote written of_edge e = tt
   written_to unread wrote written of_edge e = tt
+  written_to (subscript last k) wrote written of_edge e = tt
+  written_to (index last k count) wrote written of_edge e = tt
   written_to (divide d) wrote written of_edge e = tt
   written_to (store place mode y) wrote written of_edge e =
       e ∙ ∥∥₁_elim of_edge.operands (hlevel props) (λ same. ap (are_written p.layout wrote) (ap items_of_amount same ∙ operand_items y))
@@ -65,6 +68,8 @@ module _ (p : Program) (a : Act) (x : Action) where
   pub can_change : (y : Part) (s t : Seen) → IsSmallPart p a x y → IsOfEdge p a x y → CanStep p a x s → step_small p a x y s ≡ Some t → CanChange p s.cells t.common y
   can_change (read place) s t small of_edge can e = tt
   can_change unread s t small of_edge can e = tt
+  can_change (subscript last k) s t small of_edge can e = tt
+  can_change (index last k count) s t small of_edge can e = tt
   can_change (divide d) s t small of_edge can e = tt
   can_change (store place mode y) s t small of_edge can e =
       let w = with_taken_small p a x s in
@@ -92,6 +97,8 @@ module _ (p : Program) (a : Act) (x : Action) where
   bytes_same : (y : Part) → written_by p a x y ≡ part_bytes (keeps_receiver a x) p.layout y
   bytes_same (read place) = refl
   bytes_same unread = refl
+  bytes_same (subscript last k) = refl
+  bytes_same (index last k count) = refl
   bytes_same (divide d) = refl
   bytes_same (store place mode y) = refl
   bytes_same (bytes_in offset count) = refl
@@ -102,7 +109,7 @@ module _ (p : Program) (a : Act) (x : Action) where
   bytes_same (guard_count n wanted) = refl
 
   module _ (packs : List Pack) where
-    pub stepped : (y : Part) (s t : Seen) (known : List Known) (latest before : Latest) (wrote : List Bytes) (ms out : List (List ℤ)) (b : Bool) →
+    pub stepped : (y : Part) (s t : Seen) (known : List Known) (latest before : Latest) (wrote : List Extent) (ms out : List (List ℤ)) (b : Bool) →
         IsSmallPart p a x y → step_small p a x y s ≡ Some t → latest ≡ latest_behind p a x y s before → known ≡ s.cells →
         all_closed p t.cells packs (each_pack (plan_changed p known t.common latest wrote y) packs ms) ≡ (if b then Some out else None) →
         step2_small p packs a x y s (seen2 wrote ms) ≡ passed_to b t (seen2 (part_bytes (keeps_receiver a x) p.layout y ++ wrote) out)
@@ -129,6 +136,8 @@ pub set_can : (p : Program) (known : List Known) (common : Option Taken) (y : Pa
 set_can p known common (set_count n z) is top = top
 set_can p known common (read place) is top = absurd is
 set_can p known common unread is top = absurd is
+set_can p known common (subscript last k) is top = absurd is
+set_can p known common (index last k count) is top = absurd is
 set_can p known common (divide d) is top = absurd is
 set_can p known common (store place mode y) is top = absurd is
 set_can p known common (bytes_in offset count) is top = absurd is

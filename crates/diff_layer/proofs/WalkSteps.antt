@@ -5,23 +5,24 @@ use Rattle.std.proofs.Math.Logic.{∥∥₁_elim}
 use Rattle.cob_tree.specs.declared.fault.Kind.{Kind}
 use Rattle.cob_tree.specs.declared.kinds.Kinds.{Kinds}
 use Rattle.cob_tree.specs.Kinds.{kinds_of, every_kind, both}
+use Rattle.cob_data.specs.declared.extent.Extent.{Extent}
 use Rattle.cob_program.specs.Act.{Act, Program}
 use Rattle.cob_runs.specs.declared.action.Action.{Action}
 use Rattle.cob_runs.specs.declared.action.Cell.{Cell}
 use Rattle.cob_edge_parts.specs.Parts.{Part, is_handled}
-use Rattle.edge_amounts.specs.PartView.{plain_part}
-use Rattle.edge_amounts.specs.declared.part.EdgePart.{EdgePart}
-use Rattle.edge_amounts.specs.declared.work.EdgeWork.{EdgeWork}
+use Rattle.edge_parts.specs.PartView.{plain_part}
+use Rattle.edge_parts.specs.declared.part.EdgePart.{EdgePart}
+use Rattle.edge_parts.specs.declared.work.EdgeWork.{EdgeWork}
 use Rattle.interval_domain.specs.Known.{Known}
 use Rattle.interval_domain.specs.Rows.{cells_of}
 use Rattle.interval_domain.specs.Elements.{CellsFit}
 use Rattle.cell_steps.specs.OwnRanges.{owns}
 use Rattle.cell_steps.specs.Seen.{Seen, beginning}
-use Rattle.cell_layer.specs.declared.kept.Kept.{Kept}
+use Rattle.cell_layer.specs.declared.edge.kept.Kept.{Kept}
 use Rattle.cell_layer.specs.Kept.{seen}
 use Rattle.cell_layer.specs.ProgramRows.{IsRowOf}
 use Rattle.cell_layer.specs.Walks.{CanStep}
-use Rattle.diff_steps.specs.Moments.{Bytes, Seen2}
+use Rattle.diff_steps.specs.Moments.{Seen2}
 use Rattle.diff_steps.specs.Edges.{beginning2, finished2}
 use Rattle.diff_steps.specs.Clearing.{clears_part2}
 use Rattle.diff_layer.specs.PackWriting.{are_written}
@@ -68,7 +69,7 @@ module _ (edge : PackEdge) where
     pub can : CanStep p a x (seen row state.kept)
     pub matrices : IsClosedRow p (cells_of row) plans out
     -- the bytes that were written to
-    pub wrote : List Bytes
+    pub wrote : List Extent
     pub told : state.written ≡ are_written p.layout wrote items
 
   module _ (first : List Known) (firsts : List (List ℤ)) where
@@ -123,11 +124,11 @@ module _ (edge : PackEdge) where
     y = plain_part part
 
     abbrev StepsTo : Type 0
-    StepsTo = (wrote : List Bytes) → state.written ≡ are_written p.layout wrote items →
+    StepsTo = (wrote : List Extent) → state.written ≡ are_written p.layout wrote items →
         step2_small p (plain_plans plans) a x y (seen row state.kept) (seen2 wrote (matrices_for plans out)) ≡ passed_to b (seen row2 state2.kept) (seen2 (bytes_of work y ++ wrote) (matrices_for plans out2))
 
     abbrev WritesTo : Type 0
-    WritesTo = (wrote : List Bytes) → state.written ≡ are_written p.layout wrote items → state2.written ≡ are_written p.layout (bytes_of work y ++ wrote) items
+    WritesTo = (wrote : List Extent) → state.written ≡ are_written p.layout wrote items → state2.written ≡ are_written p.layout (bytes_of work y ++ wrote) items
 
     module _ (steps : StepsTo) where
       step_is : (at : IsAt row before state out) → b ≡ true →

@@ -10,8 +10,8 @@ use Rattle.cob_program.proofs.Loops.{item_step}
 use Rattle.cob_program.specs.Values.{◌>>=◌}
 use Rattle.cob_runs.specs.declared.action.Action.{Action}
 use Rattle.cob_edge_parts.specs.Parts.{Part}
-use Rattle.edge_amounts.specs.PartView.{plain_part}
-use Rattle.edge_amounts.specs.declared.part.EdgePart.{EdgePart}
+use Rattle.edge_parts.specs.PartView.{plain_part}
+use Rattle.edge_parts.specs.declared.part.EdgePart.{EdgePart}
 use Rattle.cell_steps.specs.Seen.{Seen}
 use Rattle.diff_steps.specs.Packs.{Pack}
 use Rattle.diff_steps.specs.Moments.{Seen2}

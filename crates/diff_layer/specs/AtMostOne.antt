@@ -8,7 +8,7 @@ use Rattle.cob_data.specs.declared.layout.Layout.{Layout}
 use Rattle.cob_program.specs.Act.{Act, Program}
 use Rattle.cob_runs.specs.declared.action.Action.{Action}
 use Rattle.cob_graph.specs.declared.homes.Home.{Home}
-use Rattle.cob_edge_parts.specs.Parts.{Part, read, unread, divide, store, bytes_in, guard, read_count, set_count, count_down, guard_count}
+use Rattle.cob_edge_parts.specs.Parts.{Part, read, unread, subscript, index, divide, store, bytes_in, guard, read_count, set_count, count_down, guard_count}
 use Rattle.interval_domain.specs.declared.bounds.Interval.{Interval}
 use Rattle.interval_domain.specs.Known.{Known, KnownFits}
 use Rattle.interval_domain.specs.Elements.{CellsFit}
@@ -37,6 +37,8 @@ of_edge_prop p a x (store place mode y) = hlevel props
 of_edge_prop p a x (set_count n y) = ∥∥₁_prop
 of_edge_prop p a x (read place) = Unit-prop
 of_edge_prop p a x unread = Unit-prop
+of_edge_prop p a x (subscript last k) = Unit-prop
+of_edge_prop p a x (index last k count) = Unit-prop
 of_edge_prop p a x (divide d) = Unit-prop
 of_edge_prop p a x (bytes_in offset count) = Unit-prop
 of_edge_prop p a x (guard t wanted) = Unit-prop

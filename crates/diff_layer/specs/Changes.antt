@@ -2,11 +2,12 @@
 -- they were taken, and by what the latest store may do.
 use Rattle.std.specs.Prelude.{ℕ, suc, ◌-◌, ◌^◌, if◌then◌else◌, Bool, List, [], ℤ, Option, Some, None}
 use Rattle.dec_num.specs.declared.types.Mode.{Mode}
+use Rattle.cob_data.specs.declared.extent.Extent.{Extent}
 use Rattle.cob_program.specs.Act.{Program}
 use Rattle.cob_program.specs.Logic.{Test, numbers}
 use Rattle.cob_runs.specs.Contents.{form_at}
 use Rattle.cob_edge_parts.specs.Parts.{Amount, Part, store, bytes_in, guard, set_count, count_down}
-use Rattle.diff_bounds.specs.declared.form.Lin.{Lin}
+use Rattle.diff_bounds.specs.declared.form.lin.Lin.{Lin}
 use Rattle.transfer_ranges.specs.declared.amounts.Taken.{Taken}
 use Rattle.transfer_ranges.specs.declared.amounts.Receiver.{Receiver}
 use Rattle.transfer_ranges.specs.declared.amounts.AmountRange.{AmountRange}
@@ -15,11 +16,11 @@ use Rattle.transfer_ranges.specs.Receivers.{receiver_of}
 use Rattle.sum_ranges.specs.declared.ranged.Ranged.{Ranged}
 use Rattle.interval_domain.specs.Known.{Known}
 use Rattle.cob_graph.specs.declared.homes.Home.TheVariants.{Item as of_item, Count as of_count}
+use Rattle.cell_steps.specs.Cells.{bytes_from}
 use Rattle.cell_steps.specs.Stores.{range_at}
 use Rattle.cell_layer.specs.Latest.{Latest}
 use Rattle.diff_steps.specs.Packs.{Pack, cell_of, decimals_of}
 use Rattle.diff_steps.specs.Matrices.{bottom}
-use Rattle.diff_steps.specs.Moments.{Bytes}
 use Rattle.diff_steps.specs.Forms.{amount_form, set_form, lowered_form, has_operands, cell_at}
 use Rattle.diff_steps.specs.Stores.{assigned_or_forgotten, forgotten_cells}
 use Rattle.diff_steps.specs.Guards.{related}
@@ -52,7 +53,7 @@ cell_assigned size form (Some k) m = assigned_or_forgotten size (suc k) form m
 -- ---- parts
 
 module _ (p : Program) (known : List Known) (common : Option Taken) where
-  abbrev pub fitting_stored : Option AmountRange → List Bytes → Pack → ℕ → ℕ → ℕ → Mode → Amount → List ℤ → List ℤ
+  abbrev pub fitting_stored : Option AmountRange → List Extent → Pack → ℕ → ℕ → ℕ → Mode → Amount → List ℤ → List ℤ
   fitting_stored amount wrote pack size decimals place mode y m =
       if has_operands p (taken_at known common) wrote y
       then forgotten_cells size (is_gone p.layout (gone.Others place)) 1 pack
@@ -60,7 +61,7 @@ module _ (p : Program) (known : List Known) (common : Option Taken) where
       (amount_form p pack (taken_at known common) wrote place y) (cell_of pack (of_item place)) m)
       else bottom size
 
-  abbrev pub store_changed : Latest → List Bytes → Pack → ℕ → ℕ → ℕ → Mode → Amount → List ℤ → List ℤ
+  abbrev pub store_changed : Latest → List Extent → Pack → ℕ → ℕ → ℕ → Mode → Amount → List ℤ → List ℤ
   store_changed latest wrote pack size decimals place mode y m =
       by_outcome latest.may_fail latest.may_fit (fitting_stored (decimal_in latest.result) wrote pack size decimals place mode y m)
       (forgotten_cells size (is_gone p.layout (gone.Lost place)) 1 pack m) m
@@ -71,9 +72,10 @@ module _ (p : Program) (known : List Known) (common : Option Taken) where
   guard_changed pack size decimals t wanted m = m
 
   -- the matrix behind a part, in units of so many decimals
-  abbrev pub part_changed : Latest → List Bytes → Pack → ℕ → ℕ → Part → List ℤ → List ℤ
+  abbrev pub part_changed : Latest → List Extent → Pack → ℕ → ℕ → Part → List ℤ → List ℤ
   part_changed latest wrote pack size decimals (store place mode y) m = store_changed latest wrote pack size decimals place mode y m
-  part_changed latest wrote pack size decimals (bytes_in offset count) m = forgotten_cells size (is_gone p.layout (gone.Bytes offset count)) 1 pack m
+  part_changed latest wrote pack size decimals (bytes_in offset count) m =
+      forgotten_cells size (is_gone p.layout (gone.Bytes (bytes_from offset count))) 1 pack m
   part_changed latest wrote pack size decimals (guard t wanted) m = guard_changed pack size decimals t wanted m
   part_changed latest wrote pack size decimals (set_count statement y) m =
       cell_assigned size (set_form p pack (taken_at known common) wrote y) (cell_of pack (of_count statement)) m

@@ -3,6 +3,7 @@ use Rattle.std.specs.Prelude.{ℕ, ◌||◌, ◌&&◌, not, if◌then◌else◌,
 use Rattle.std.specs.Option.{option_map_or}
 use Rattle.dec_num.specs.declared.types.Mode.{Mode}
 use Rattle.dec_num.specs.declared.types.Mode.TheVariants.{Trunc}
+use Rattle.cob_data.specs.declared.extent.Extent.{Extent}
 use Rattle.interval_domain.specs.declared.bounds.Interval.{Interval}
 use Rattle.cob_tree.specs.declared.fault.Kind.{Kind}
 use Rattle.cob_tree.specs.declared.fault.Kind.TheVariants as kind
@@ -10,28 +11,29 @@ use Rattle.cob_program.specs.Sum.{Atom}
 use Rattle.cob_program.specs.Act.{Act, Program}
 use Rattle.cob_runs.specs.declared.action.Action.{Action}
 use Rattle.cob_runs.specs.Contents.{form_at}
-use Rattle.cob_edge_parts.specs.Parts.{Amount, Part, divide, store, set_count, count_down}
+use Rattle.cob_edge_parts.specs.Parts.{Amount, Part, index, divide, store, set_count, count_down}
 use Rattle.transfer_ranges.specs.declared.amounts.Taken.{Taken}
 use Rattle.transfer_ranges.specs.declared.amounts.Receiver.{Receiver}
 use Rattle.transfer_ranges.specs.declared.amounts.AmountRange.{AmountRange}
 use Rattle.transfer_ranges.specs.declared.amounts.AmountRange.TheVariants as range
 use Rattle.transfer_ranges.specs.Receivers.{receiver_of, counter}
 use Rattle.transfer_ranges.specs.ResultRanges.{most, near_range, lowered}
-use Rattle.edge_amounts.specs.Working.{amount_from}
+use Rattle.transfer_ranges.specs.Working.{amount_from}
 use Rattle.interval_domain.specs.Known.{Known}
-use Rattle.cob_graph.specs.declared.homes.Home.TheVariants.{Count as of_count}
+use Rattle.cob_graph.specs.declared.homes.Home.TheVariants.{Item as of_item, Count as of_count}
 use Rattle.cob_graph.specs.Homes.{homes_of}
 use Rattle.cell_steps.specs.Cells.{units_of}
-use Rattle.cell_steps.specs.Operands.{is_remainder}
+use Rattle.transfer_ranges.specs.EdgeOperands.{is_remainder}
 use Rattle.cell_steps.specs.Seen.{Seen}
 use Rattle.cell_steps.specs.Stores.{range_at}
 use Rattle.cell_layer.specs.Walks.{with_taken_small}
 use Rattle.diff_steps.specs.Clearing.{some_pack, is_apart_in}
 use Rattle.diff_steps.specs.Forms.{has_operands}
-use Rattle.diff_steps.specs.Moments.{Bytes, Seen2}
+use Rattle.diff_steps.specs.Moments.{Seen2}
 use Rattle.diff_steps.specs.Packs.{Pack}
 use Rattle.diff_layer.specs.Views.{taken_at}
 use Rattle.diff_layer.specs.Ends.{some_end}
+use Rattle.diff_layer.specs.Indexes.{index_shown}
 
 -- what is known of cells shows the divisor not to be 0
 abbrev pub divisor_apart : Program → List Known → Atom → Pack → List ℤ → Bool
@@ -39,7 +41,7 @@ divisor_apart p known d pack m = is_apart_in p (taken_at known None) d pack m
 
 -- ---- ends
 
-module _ (p : Program) (known : List Known) (common : Option Taken) (wrote : List Bytes) (y : Part) (mode : Mode) (r : Receiver) where
+module _ (p : Program) (known : List Known) (common : Option Taken) (wrote : List Extent) (y : Part) (mode : Mode) (r : Receiver) where
   -- each end fits by what the first layer shows or by a matrix
   abbrev pub both_shown : Bool → Bool → List Pack → List (List ℤ) → Bool
   both_shown high low packs ms =
@@ -54,7 +56,7 @@ module _ (p : Program) (known : List Known) (common : Option Taken) (wrote : Lis
   amount_shown packs ms (Some (range.Decimal i)) = range_shown packs ms (near_range mode r.scale i)
   amount_shown packs ms _ = false
 
-module _ (p : Program) (known : List Known) (common : Option Taken) (wrote : List Bytes) where
+module _ (p : Program) (known : List Known) (common : Option Taken) (wrote : List Extent) where
   abbrev pub store_shown : ℕ → Mode → Amount → List Pack → List (List ℤ) → Bool
   store_shown place mode y packs ms =
       not (has_operands p (taken_at known common) wrote y)
@@ -82,9 +84,15 @@ module _ (p : Program) (packs : List Pack) where
   down_cleared n s r =
       range_shown p s.cells s.common r.wrote (count_down n) Trunc counter packs r.packs (lowered (units_of p.layout (homes_of p) s.cells (of_count n)))
 
+  abbrev pub index_cleared : ℕ → ℕ → Seen → Seen2 → Kind → Bool
+  index_cleared k count s r kind.Subscript =
+      index_shown p s.cells k count packs r.packs (units_of p.layout (homes_of p) s.cells (of_item k))
+  index_cleared k count s r _ = false
+
 module _ (p : Program) (packs : List Pack) (a : Act) (x : Action) where
   -- the fault of a part that the first layer doesn't clear
   abbrev pub part_cleared : Part → Seen → Seen2 → Kind → Bool
+  part_cleared (index last k count) s r fault = index_cleared p packs k count s r fault
   part_cleared (divide d) s r kind.Zero = some_pack (divisor_apart p s.cells d) packs r.packs
   part_cleared (store place mode y) s r fault = store_cleared p packs a x place mode y s r
   part_cleared (set_count n y) s r kind.Size = set_cleared p packs a x (set_count n y) s r

@@ -1,6 +1,6 @@
 -- Forms over the cells of a pack.
 use Rattle.std.specs.Prelude.{ℕ, ◌≤ℤ◌}
-use Rattle.diff_bounds.specs.declared.form.Lin.{Lin}
+use Rattle.diff_bounds.specs.declared.form.lin.Lin.{Lin}
 use Rattle.diff_bounds.specs.Forms.{IsSmallForm}
 use Rattle.diff_bounds.specs.Values.{IsOver}
 

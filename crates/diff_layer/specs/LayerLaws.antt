@@ -17,7 +17,7 @@ use Rattle.interval_domain.specs.Elements.{Element, ElementFits}
 use Rattle.interval_domain.specs.Rows.{IsRow}
 use Rattle.cob_graph.specs.Homes.{homes_of}
 use Rattle.cell_layer.proofs.FirstCells.{homes_many}
-use Rattle.cell_layer.specs.declared.works.EdgeWorks.{EdgeWorks}
+use Rattle.cell_layer.specs.declared.layer.works.EdgeWorks.{EdgeWorks}
 use Rattle.cell_layer.specs.Held.{IsHeld}
 use Rattle.diff_bounds.specs.declared.Pack as declared
 use Rattle.diff_bounds.specs.Widening.{AreThresholds}
@@ -28,8 +28,8 @@ use Rattle.pack_laws.specs.Layer.{Facts, AreFacts, ArePacks, sizes_of, diff_latt
 use Rattle.pack_laws.proofs.Flow.{packs_flow}
 use Rattle.pack_laws.proofs.Meaning.{packs_mean}
 use Rattle.pack_laws.specs.Packs.{packs_of, AreRisingNumbers, ArePacksOfCells}
-use Rattle.pack_laws.proofs.Distinct.{homes_of_sources_are_distinct}
-use Rattle.pack_laws.proofs.Packed.{HasDistinctHomes, are_packs}
+use Rattle.pack_laws.proofs.Distinct.{homes_of_sources_are_distinct, sources_have_no_tables}
+use Rattle.pack_laws.proofs.Packed.{HasDistinctHomes, HasPlainItems, are_packs}
 use Rattle.diff_layer.specs.AtMostOne.{cells_prop}
 
 -- ---- what has one proof at most
@@ -78,13 +78,16 @@ module _ (p : Program) (g : Graph) (works : EdgeWorks) (held : ∥ IsHeld p g wo
   distinct_homes j k h e f =
       ∥∥₁_elim held (hlevel props) (λ s. homes_of_sources_are_distinct p g s.source j k h e f)
 
+  plain_items : HasPlainItems p.layout
+  plain_items place = ∥∥₁_elim held (hlevel props) (λ s. sources_have_no_tables p g s.source place)
+
   pub cells_for_homes : length g.cells ≡ length (homes_of p)
   cells_for_homes = ∥∥₁_elim held (hlevel props) (λ h. ap length h.source.graph.cells ∙ sym (homes_many p))
 
   module _ (packs : List declared.Pack) (cells : ∥ ArePacksOfCells (length g.cells) packs ∥₁) where
     pub packs_are : (lists : List (List ℤ)) → length lists ≡ length packs → ArePacks p (packs_of p packs) lists
     packs_are lists listed =
-        are_packs p (length g.cells) cells_for_homes distinct_homes packs lists
+        are_packs p (length g.cells) cells_for_homes distinct_homes plain_items packs lists
         (∥∥₁_elim cells (packs_prop (length g.cells) packs) (λ a. a)) listed
 
     module _ (thresholds : List (Vec ℤ Global)) (listed : length thresholds ≡ length packs) where

@@ -18,6 +18,7 @@ pub mod AtMostOne
 pub mod Passed
 pub mod Moments
 pub mod Ends
+pub mod Indexes
 pub mod Clears
 pub mod Closed
 pub mod Walks

@@ -8,7 +8,7 @@ use Rattle.interval_domain.specs.Known.{Known}
 use Rattle.interval_domain.specs.Rows.{cells_of}
 use Rattle.cob_graph.specs.declared.homes.Home.TheVariants.{Item as of_item}
 use Rattle.cell_steps.specs.Seen.{Seen}
-use Rattle.cell_layer.specs.declared.items.KnownItems.{KnownItems}
+use Rattle.cell_layer.specs.declared.row.items.KnownItems.{KnownItems}
 use Rattle.diff_steps.specs.Packs.{Pack, cell_of, pack_decimals}
 use Rattle.diff_layer.specs.declared.forms.view.PackView.{PackView}
 

@@ -2,22 +2,23 @@
 use Rattle.std.specs.Prelude.{◌&&◌, if◌then◌else◌, Bool, true, List, [], ◌∷◌, ℤ, Option, Some, None}
 use Rattle.std.specs.Option.{option_map_or}
 use Rattle.cob_tree.specs.declared.fault.Kind.{Kind}
+use Rattle.cob_data.specs.declared.extent.Extent.{Extent}
 use Rattle.cob_program.specs.Values.{◌>>=◌}
 use Rattle.cob_program.specs.Act.{Stmt, Act, Program}
 use Rattle.cob_runs.specs.declared.action.Action.{Action}
 use Rattle.cob_edge_parts.specs.Parts.{Part}
-use Rattle.edge_amounts.specs.PartView.{edge_parts}
+use Rattle.edge_parts.specs.PartView.{edge_parts}
 use Rattle.interval_domain.specs.Known.{Known}
 use Rattle.cell_steps.specs.Seen.{Seen, beginning}
 use Rattle.cell_layer.specs.NumberedStatements.{act_in}
 use Rattle.cell_layer.specs.Walks.{step_small}
 use Rattle.diff_steps.specs.Packs.{Pack}
-use Rattle.diff_steps.specs.Moments.{Bytes, Seen2, with_packs}
+use Rattle.diff_steps.specs.Moments.{Seen2, with_packs}
 use Rattle.diff_steps.specs.Steps.{all_closed, changed}
 use Rattle.diff_steps.specs.Edges.{beginning2, steps2, finished2}
 use Rattle.diff_steps.specs.Clearing.{clears_part2, clears_parts2}
 
-abbrev pub seen2 : List Bytes → List (List ℤ) → Seen2
+abbrev pub seen2 : List Extent → List (List ℤ) → Seen2
 seen2 wrote ms = record { wrote = wrote; packs = ms }
 
 -- what is seen behind a part, if it is passed

@@ -1,22 +1,21 @@
 -- The bytes that parts write to, and the items that an edge's operands are read of.
 use Rattle.std.specs.Prelude.{ℕ, Bool, if◌then◌else◌, List, [], ◌∷◌, Option, Some, None}
+use Rattle.cob_data.specs.declared.extent.Extent.{Extent}
 use Rattle.cob_data.specs.declared.layout.Layout.{Layout}
 use Rattle.cob_program.specs.Sum.{Part as Product, MkPart}
 use Rattle.cob_program.specs.Act.{Act}
 use Rattle.cob_runs.specs.declared.action.Action.{Action}
 use Rattle.cob_runs.specs.Computing.{items_in_factors}
 use Rattle.cob_edge_parts.specs.Parts.{Amount, Part, store, bytes_in}
-use Rattle.cell_steps.specs.Operands.{edge_amount}
-use Rattle.diff_steps.specs.Moments.{Bytes, item_bytes}
+use Rattle.transfer_ranges.specs.EdgeOperands.{edge_amount}
+use Rattle.cell_steps.specs.Cells.{bytes_from}
+use Rattle.diff_steps.specs.Moments.{item_bytes}
 use Rattle.diff_layer.specs.PackWriting.{amount_items}
 
-abbrev pub bytes : ℕ → ℕ → Bytes
-bytes offset count = record { offset = offset; count = count }
-
 -- The bytes that a part writes to. A store writes to none on an edge that keeps its receiver, which the first argument tells.
-abbrev pub part_bytes : Bool → Layout → Part → List Bytes
+abbrev pub part_bytes : Bool → Layout → Part → List Extent
 part_bytes keeps l (store place mode y) = if keeps then [] else item_bytes l place
-part_bytes keeps l (bytes_in offset count) = bytes offset count ∷ []
+part_bytes keeps l (bytes_in offset count) = bytes_from offset count ∷ []
 part_bytes keeps l _ = []
 
 -- the items of a product

@@ -3,6 +3,7 @@
 pub(crate) mod amounts;
 pub(crate) mod bounded_forms;
 pub(crate) mod cells;
+pub(crate) mod indexes;
 pub(crate) mod literals;
 pub(crate) mod lowered;
 pub(crate) mod operands;

@@ -8,6 +8,7 @@ pub(crate) mod ends;
 pub(crate) mod faults;
 pub(crate) mod gone;
 pub(crate) mod guards;
+pub(crate) mod indexing;
 pub(crate) mod matrix_bounds;
 pub(crate) mod matrix_changes;
 pub(crate) mod matrix_closing;

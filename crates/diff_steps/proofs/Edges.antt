@@ -37,7 +37,7 @@ use Rattle.diff_steps.specs.Clearing.{clears_edge2}
 
 abbrev item_of : ℕ → ℕ → Form → Item
 item_of offset length f =
-    record { name = Some (65 ∷ []); offset = offset; length = length; form = f; parent = None; line = 5; value = None }
+    record { name = Some (65 ∷ []); offset = offset; length = length; times = 1; stride = 0; form = f; parent = None; line = 5; value = None }
 
 abbrev loop : Act
 loop = perform (range 0 0) (times (sender.Item 0))

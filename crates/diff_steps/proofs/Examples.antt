@@ -1,5 +1,5 @@
 -- Edges of a small program, worked by hand: what is known of differences before and after, and what is cleared.
-use Rattle.std.specs.Prelude.{◌≡◌, ℕ, true, false, List, [], ◌∷◌, Some, None, ℤ, pos, neg_ℤ}
+use Rattle.std.specs.Prelude.{◌≡◌, ℕ, Bool, true, false, List, [], ◌∷◌, Some, None, ℤ, pos, neg_ℤ}
 use Rattle.std.proofs.Common.{refl}
 use Rattle.dec_num.specs.declared.types.Mode.{Mode}
 use Rattle.dec_num.specs.declared.types.Mode.TheVariants.{Trunc}
@@ -15,7 +15,7 @@ use Rattle.cob_program.specs.declared.act.How.{How}
 use Rattle.cob_program.specs.declared.act.How.TheVariants as how
 use Rattle.cob_program.specs.Sum.{Sum, MkSum, no_parts, more_parts, MkPart, Atom, no_factors, more_factors, MkFactor, item, number}
 use Rattle.cob_program.specs.Logic.{Test, numbers, test}
-use Rattle.cob_program.specs.Act.{MkStmt, no_stmts, more_stmts, Phrase, left_out, given, Act, arith, if_, Program}
+use Rattle.cob_program.specs.Act.{no_stmts, Phrase, left_out, given, Act, arith, if_, Program}
 use Rattle.cob_program.specs.Act as act
 use Rattle.cob_runs.specs.declared.action.Action.TheVariants as action
 use Rattle.interval_domain.specs.Corners.{interval}
@@ -24,16 +24,18 @@ use Rattle.diff_bounds.specs.Matrix.{none}
 use Rattle.diff_bounds.specs.Closed.{sums_through}
 use Rattle.interval_domain.specs.Known.{Known}
 use Rattle.cob_graph.specs.declared.homes.Home.TheVariants.{Item as of_item}
+use Rattle.cob_edge_parts.specs.Parts.{index}
+use Rattle.cell_steps.specs.Seen.{beginning}
 use Rattle.cell_steps.specs.Edges.{clears_edge}
 use Rattle.diff_steps.specs.Packs.{Pack}
-use Rattle.diff_steps.specs.Edges.{entry_packs, post_packs, bottoms}
-use Rattle.diff_steps.specs.Clearing.{clears_edge2}
+use Rattle.diff_steps.specs.Edges.{beginning2, entry_packs, post_packs, bottoms}
+use Rattle.diff_steps.specs.Clearing.{clears_edge2, clears_part2}
 
 -- ---- A PIC S999, B PIC S999, C PIC 99V9, X PIC XXX over A
 
 abbrev item_of : ℕ → ℕ → Form → Item
 item_of offset length f =
-    record { name = Some (65 ∷ []); offset = offset; length = length; form = f; parent = None; line = 5; value = None }
+    record { name = Some (65 ∷ []); offset = offset; length = length; times = 1; stride = 0; form = f; parent = None; line = 5; value = None }
 
 abbrev program : Program
 program = record {
@@ -121,6 +123,31 @@ overlapped : post_packs program (whole ∷ []) 1 (act.move (sender.Text (65 ∷ 
     ≡ words none (minus 2) none none (pos 20) none ∷ []
 unfolding sums_through if_small coefs_of
 overlapped = refl
+
+-- A PIC S999 over the second of three occurrences of T PIC S999, and B PIC S999 behind them
+abbrev table_of : ℕ → ℕ → ℕ → ℕ → Form → Item
+table_of offset length times stride f =
+    record { name = Some (65 ∷ []); offset = offset; length = length; times = times; stride = stride; form = f; parent = None; line = 5; value = None }
+
+abbrev with_table : Program
+with_table = record {
+  layout = record {
+    items = item_of 3 3 (form.Number 3 0 true usage.Display) ∷ item_of 9 3 (form.Number 3 0 true usage.Display)
+        ∷ table_of 0 3 3 3 (form.Number 3 0 true usage.Display) ∷ [];
+    flags = [];
+    files = [];
+    storage = 12;
+  };
+  paras = [];
+  statements = 1;
+}
+
+-- MOVE B TO T, of which an occurrence has A's bytes: A is forgotten, and B stays.
+table_overlapped : post_packs with_table (whole ∷ []) 1 (act.move (sender.Item 1) (2 ∷ [])) action.Assign
+    (Some (to (pos 0) (pos 10) ∷ to (pos 0) (pos 20) ∷ any ∷ [])) (words none none none (minus 2) none none ∷ [])
+    ≡ words none (minus 2) none none (pos 20) none ∷ []
+unfolding sums_through if_small coefs_of
+table_overlapped = refl
 
 -- MOVE C TO A cuts a decimal off a number that isn't negative: in tenths A is at most C, and C at most A + 10. A is then
 -- 0 to 99.
@@ -211,3 +238,42 @@ not_cleared_alone : clears_edge program 1 (worked one (target 0 how.Plus Trunc �
     (cells (to (minus 999) (pos 999)) (to (pos 0) (pos 999)) any any) kind.Size
     ≡ false
 not_cleared_alone = refl
+
+-- ---- subscripts
+
+-- whether a pack shows that A names one of five occurrences, beside what is known of A
+abbrev a_is_shown : Pack → Known → List ℤ → Bool
+a_is_shown pack a m =
+    clears_part2 program (pack ∷ []) (worked one (target 0 how.Plus Trunc ∷ []) left_out) action.Done (index false 0 5) (beginning (cells a any any any))
+    (beginning2 (m ∷ [])) kind.Subscript
+
+-- A is 1 at least, and 5 at most
+by_matrix : a_is_shown whole any (words (minus 1) none (pos 5) none none none) ≡ true
+unfolding sums_through if_small coefs_of
+by_matrix = refl
+
+low_unknown : a_is_shown whole any (words none none (pos 5) none none none) ≡ false
+unfolding sums_through if_small coefs_of
+low_unknown = refl
+
+may_be_none : a_is_shown whole any (words (pos 0) none (pos 5) none none none) ≡ false
+unfolding sums_through if_small coefs_of
+may_be_none = refl
+
+high_unknown : a_is_shown whole any (words (minus 1) none none none none none) ≡ false
+unfolding sums_through if_small coefs_of
+high_unknown = refl
+
+-- one end by the interval, the other by the matrix
+by_both : a_is_shown whole (to (pos 1) (pos 999)) (words none none (pos 5) none none none) ≡ true
+unfolding sums_through if_small coefs_of
+by_both = refl
+
+-- in tenths, bounds are compared as they stand
+in_tenths : a_is_shown tenths any (words (minus 10) none (pos 50) none none none) ≡ true
+unfolding sums_through if_small coefs_of
+in_tenths = refl
+
+a_tenth_beyond : a_is_shown tenths any (words (minus 10) none (pos 51) none none none) ≡ false
+unfolding sums_through if_small coefs_of
+a_tenth_beyond = refl

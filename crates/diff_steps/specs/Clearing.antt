@@ -1,5 +1,5 @@
 -- Which faults both layers show not to be met at a part. Of a store each end of the result may be shown by either.
-use Rattle.std.specs.Prelude.{ℕ, ◌||◌, ◌&&◌, not, Bool, true, false, List, [], ◌∷◌, ℤ, pos, neg_ℤ, int_le, int_lt, Option, Some, None}
+use Rattle.std.specs.Prelude.{ℕ, ◌*◌, ◌^◌, ◌||◌, ◌&&◌, not, Bool, true, false, List, [], ◌∷◌, ℤ, pos, neg_ℤ, int_le, int_lt, Option, Some, None}
 use Rattle.std.specs.Option.{option_map_or}
 use Rattle.dec_num.specs.declared.types.Mode.{Mode}
 use Rattle.dec_num.specs.declared.types.Mode.TheVariants.{Trunc}
@@ -13,8 +13,8 @@ use Rattle.cob_program.specs.Values.{◌>>=◌}
 use Rattle.cob_program.specs.Act.{Act, Program}
 use Rattle.cob_runs.specs.declared.action.Action.{Action}
 use Rattle.cob_runs.specs.Contents.{form_at}
-use Rattle.cob_edge_parts.specs.Parts.{Amount, Part, divide, store, set_count, count_down, has_phrase, parts_of}
-use Rattle.diff_bounds.specs.declared.form.Lin.{Lin}
+use Rattle.cob_edge_parts.specs.Parts.{Amount, Part, index, divide, store, set_count, count_down, has_phrase, parts_of}
+use Rattle.diff_bounds.specs.declared.form.lin.Lin.{Lin}
 use Rattle.diff_bounds.specs.Upper.{upper_of}
 use Rattle.sum_ranges.specs.Ranged.{decimal}
 use Rattle.sum_forms.specs.SumForms.{atom_form}
@@ -23,16 +23,16 @@ use Rattle.transfer_ranges.specs.declared.amounts.Taken.{Taken}
 use Rattle.transfer_ranges.specs.Receivers.{receiver_of, counter}
 use Rattle.transfer_ranges.specs.ResultRanges.{amount_units, most, lowered}
 use Rattle.interval_domain.specs.Known.{Known}
-use Rattle.cob_graph.specs.declared.homes.Home.TheVariants.{Count as of_count}
+use Rattle.cob_graph.specs.declared.homes.Home.TheVariants.{Item as of_item, Count as of_count}
 use Rattle.cob_graph.specs.Homes.{homes_of}
 use Rattle.cell_steps.specs.Cells.{units_of}
-use Rattle.cell_steps.specs.Operands.{amount_of}
+use Rattle.transfer_ranges.specs.EdgeOperands.{amount_of}
 use Rattle.cell_steps.specs.Seen.{Seen, beginning}
 use Rattle.cell_steps.specs.Stores.{range_at, with_taken}
 use Rattle.cell_steps.specs.Clearing.{is_misfit, has_quotient, clears_part}
 use Rattle.diff_steps.specs.Packs.{Pack, size_of, pack_decimals}
 use Rattle.diff_steps.specs.Moments.{Seen2}
-use Rattle.diff_steps.specs.Forms.{cell_at, amount_form, set_form, lowered_form, has_operands}
+use Rattle.diff_steps.specs.Forms.{cell_at, amount_form, set_form, subscript_form, lowered_form, has_operands}
 use Rattle.diff_steps.specs.Stores.{upper_negated}
 use Rattle.diff_steps.specs.Steps.{all_closed, step2}
 use Rattle.diff_steps.specs.Edges.{beginning2}
@@ -69,6 +69,33 @@ module _ (p : Program) (packs : List Pack) (ms : List (List ℤ)) (form : Pack �
   ends_fit mode r i =
       (int_le i.high (most r.digits) || high_shown mode r) && (int_le (neg_ℤ (most r.digits)) i.low || low_shown mode r)
 
+-- ---- subscripts
+
+-- the bound is at most a number
+abbrev pub is_at_most : ℤ → Option ℤ → Bool
+is_at_most most None = false
+is_at_most most (Some u) = int_le u most
+
+-- Bounds are compared as they stand, in the pack's unit: of a number with the last occurrence's,
+abbrev pub high_in_table : ℕ → ℕ → Option ℤ → Bool
+high_in_table count f bound = is_at_most (pos (count * 10 ^ f)) bound
+
+-- and of its negative with the first occurrence's.
+abbrev pub low_in_table : ℕ → Option ℤ → Bool
+low_in_table f bound = is_at_most (neg_ℤ (pos (10 ^ f))) bound
+
+module _ (p : Program) (packs : List Pack) (ms : List (List ℤ)) (form : Pack → Option Lin) where
+  abbrev pub high_found : ℕ → Bool
+  high_found count =
+      some_pack (λ pack m. high_in_table count (pack_decimals p.layout pack) (form pack >>= upper_of (size_of pack) m)) packs ms
+
+  abbrev pub low_found : Bool
+  low_found = some_pack (λ pack m. low_in_table (pack_decimals p.layout pack) (form pack >>= upper_negated (size_of pack) m)) packs ms
+
+  -- each end is an occurrence's by the interval or by a pack
+  abbrev pub ends_in_table : ℕ → Interval → Bool
+  ends_in_table count i = (int_le i.high (pos count) || high_found count) && (int_le (pos 1) i.low || low_found)
+
 -- ---- divisors
 
 abbrev pub is_negative : Option ℤ → Bool
@@ -95,6 +122,8 @@ module _ (p : Program) (packs : List Pack) (a : Act) (x : Action) where
 
   abbrev pub clears_part2 : Part → Seen → Seen2 → Kind → Bool
   clears_part2 (divide d) s r kind.Zero = clears_part p a x (divide d) s kind.Zero || some_pack (is_apart_in p s d) packs r.packs
+  clears_part2 (index last k count) s r kind.Subscript =
+      ends_in_table p packs r.packs (λ pack. subscript_form p pack s [] k) count (units_of p.layout (homes_of p) s.cells (of_item k))
   clears_part2 (store place mode y) s r fault =
       has_phrase a || (not (is_misfit y fault) || store_fits (with_taken p a x s) r place mode y)
   clears_part2 (set_count statement y) s r kind.Size =

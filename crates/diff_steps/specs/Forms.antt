@@ -3,6 +3,7 @@ use Rattle.std.specs.Prelude.{ℕ, ◌==◌, ◌||◌, ◌&&◌, if◌then◌els
 use Rattle.std.specs.List.{list_any}
 use Rattle.std.specs.Option.{option_map}
 use Rattle.interval_domain.specs.Corners.{interval}
+use Rattle.cob_data.specs.declared.extent.Extent.{Extent}
 use Rattle.cob_data.specs.declared.layout.Layout.{Layout}
 use Rattle.cob_data.specs.declared.layout.Sender.{Sender}
 use Rattle.cob_data.specs.declared.layout.Sender.TheVariants as sender
@@ -14,7 +15,7 @@ use Rattle.cob_program.specs.Act.{Program}
 use Rattle.cob_runs.specs.Contents.{form_at, scale_of}
 use Rattle.cob_runs.specs.Computing.{items_in}
 use Rattle.cob_edge_parts.specs.Parts.{Amount, moved, computed, remaining, augmented}
-use Rattle.diff_bounds.specs.declared.form.Lin.{Lin}
+use Rattle.diff_bounds.specs.declared.form.lin.Lin.{Lin}
 use Rattle.diff_bounds.specs.Forms.{if_small}
 use Rattle.diff_bounds.specs.Results.{sum_of}
 use Rattle.sum_ranges.specs.Ranged.{ranged}
@@ -26,11 +27,11 @@ use Rattle.transfer_ranges.specs.declared.amounts.Taken.{Taken}
 use Rattle.cob_graph.specs.declared.homes.Home.TheVariants.{Item as of_item, Count as of_count}
 use Rattle.cob_graph.specs.Homes.{homes_of}
 use Rattle.cell_steps.specs.Cells.{units_of}
-use Rattle.cell_steps.specs.Operands.{settled}
+use Rattle.transfer_ranges.specs.EdgeOperands.{settled}
 use Rattle.cell_steps.specs.Seen.{Seen}
 use Rattle.cell_steps.specs.Stores.{range_at}
 use Rattle.diff_steps.specs.Packs.{Pack, cell_of, pack_decimals}
-use Rattle.diff_steps.specs.Moments.{Bytes, is_written}
+use Rattle.diff_steps.specs.Moments.{is_written}
 
 -- ---- literals
 
@@ -63,12 +64,12 @@ is_whole_sender l x = true
 -- ---- amounts
 
 -- Operands that are read off their items have a range. No run comes to a store that can't fail where they have none.
-abbrev pub has_operands : Program → Seen → List Bytes → Amount → Bool
+abbrev pub has_operands : Program → Seen → List Extent → Amount → Bool
 has_operands p t wrote (computed s h) = list_any (is_written p.layout wrote) (items_in s) || is_some (sum_range (range_at p t.cells) s)
 has_operands p t wrote y = true
 
 -- Where operands were taken, by what was known of cells right before the store, and by what the edge had written to.
-module _ (p : Program) (pack : Pack) (t : Seen) (wrote : List Bytes) where
+module _ (p : Program) (pack : Pack) (t : Seen) (wrote : List Extent) where
   abbrev pub decimals : ℕ
   decimals = pack_decimals p.layout pack
 
@@ -78,6 +79,10 @@ module _ (p : Program) (pack : Pack) (t : Seen) (wrote : List Bytes) where
   -- the receiver's own number
   abbrev pub own_form : ℕ → Option Lin
   own_form place = item_form decimals (cell_at place) (range_at p t.cells place)
+
+  -- What a subscript is: the units of its item, which are its number where it has no decimals.
+  abbrev pub subscript_form : ℕ → Option Lin
+  subscript_form k = if is_whole_sender p.layout (sender.Item k) then own_form k else None
 
   abbrev pub counter_form : ℕ → Option Lin
   counter_form statement =

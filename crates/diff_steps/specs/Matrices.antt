@@ -2,7 +2,7 @@
 use Rattle.std.specs.Prelude.{ℕ, zero, suc, ◌+◌, ◌/◌, ◌%◌, nat_eq, ◌||◌, if◌then◌else◌, List, ℤ, pos, neg_ℤ, ◌*ℤ◌, slice_get, Option, Some, None}
 use Rattle.std.specs.Int.{int_min}
 use Rattle.cob_data.specs.declared.layout.Layout.{Layout}
-use Rattle.diff_bounds.specs.declared.form.Lin.{Lin}
+use Rattle.diff_bounds.specs.declared.form.lin.Lin.{Lin}
 use Rattle.diff_bounds.specs.Matrix.{word, none}
 use Rattle.diff_bounds.specs.Lattice.{matrix_of, bottom_word}
 use Rattle.diff_bounds.specs.Closed.{closed}

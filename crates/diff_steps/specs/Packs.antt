@@ -42,10 +42,10 @@ unit_of l pack h = 10 ^ (pack_decimals l pack - decimals_of l h)
 
 -- ---- what a row is true of
 
--- a cell's value in the pack's unit, if it has one; cells from place 1 on
+-- a cell's value in the pack's unit, if it has one; cells from place 1 on. None is a table's, so that each has one occurrence.
 abbrev pub cells_in : Layout → Pack → Storage → ℕ → Option ℤ
 cells_in l pack s zero = None
-cells_in l pack s (suc k) = slice_get pack k >>= λ h. option_map (λ v. v *ℤ pos (unit_of l pack h)) (value_at l s h)
+cells_in l pack s (suc k) = slice_get pack k >>= λ h. option_map (λ v. v *ℤ pos (unit_of l pack h)) (value_at l s h 0)
 
 abbrev pub PackStands : Layout → Pack → List ℤ → Storage → Type 0
 PackStands l pack m s = StandsIn (size_of pack + 1) (word (size_of pack + 1) m) (cells_in l pack s)

@@ -1,25 +1,26 @@
 -- What each part of an edge makes of what is known of differences before it (Miné 2001).
 use Rattle.std.specs.Prelude.{ℕ, suc, ◌&&◌, ◌||◌, not, if◌then◌else◌, Bool, true, false, List, [], ◌∷◌, ◌++◌, ℤ, Option, Some, None}
 use Rattle.dec_num.specs.declared.types.Mode.{Mode}
+use Rattle.cob_data.specs.declared.extent.Extent.{Extent}
 use Rattle.cob_program.specs.Values.{◌>>=◌}
 use Rattle.cob_program.specs.Logic.{Test, numbers}
 use Rattle.cob_program.specs.Act.{Act, Program}
 use Rattle.cob_runs.specs.declared.action.Action.{Action}
 use Rattle.cob_runs.specs.Contents.{form_at}
 use Rattle.cob_edge_parts.specs.Parts.{Amount, Part, store, bytes_in, guard, set_count, count_down}
-use Rattle.diff_bounds.specs.declared.form.Lin.{Lin}
+use Rattle.diff_bounds.specs.declared.form.lin.Lin.{Lin}
 use Rattle.transfer_ranges.specs.Receivers.{receiver_of}
 use Rattle.interval_domain.specs.Known.{Known}
 use Rattle.cob_graph.specs.declared.homes.Home.{Home}
 use Rattle.cob_graph.specs.declared.homes.Home.TheVariants.{Item as of_item, Count as of_count}
 use Rattle.cob_graph.specs.Homes.{is_home, homes_of}
-use Rattle.cell_steps.specs.Cells.{is_in_bytes, is_beside}
+use Rattle.cell_steps.specs.Cells.{is_in_extent, bytes_from, is_beside}
 use Rattle.cell_steps.specs.Seen.{Seen}
 use Rattle.cell_steps.specs.Stores.{range_at, keeps_receiver, with_taken, amount_at, may_fail, may_fit}
 use Rattle.cell_steps.specs.Steps.{step}
 use Rattle.diff_steps.specs.Packs.{Pack, size_of, cell_of, pack_decimals, unit_of}
 use Rattle.diff_steps.specs.Matrices.{put_closed, forgotten, bottom}
-use Rattle.diff_steps.specs.Moments.{Bytes, Seen2, with_packs, item_bytes}
+use Rattle.diff_steps.specs.Moments.{Seen2, with_packs, item_bytes}
 use Rattle.diff_steps.specs.Forms.{amount_form, set_form, lowered_form, cell_at, has_operands}
 use Rattle.diff_steps.specs.Stores.{known_of_amount, assigned_or_forgotten, form_stored, forgotten_cells}
 use Rattle.diff_steps.specs.Guards.{related}
@@ -57,12 +58,12 @@ module _ (p : Program) (a : Act) (x : Action) where
       form_stored (size_of pack) to (receiver_of (form_at p.layout place)).signed mode (unit_of p.layout pack (of_item place))
       (known_of_amount (size_of pack) m form (receiver_of (form_at p.layout place)).scale (amount_at p a x t place y)) form m
 
-  abbrev pub stored_cell : Seen → List Bytes → ℕ → Mode → Amount → Pack → Option ℕ → List ℤ → List ℤ
+  abbrev pub stored_cell : Seen → List Extent → ℕ → Mode → Amount → Pack → Option ℕ → List ℤ → List ℤ
   stored_cell t wrote place mode y pack None m = m
   stored_cell t wrote place mode y pack (Some k) m = form_at_cell t place mode y pack (suc k) (amount_form p pack t wrote place y) m
 
   -- What else has bytes of the item is forgotten.
-  abbrev pub stored_pack : Seen → List Bytes → ℕ → Mode → Amount → Pack → List ℤ → List ℤ
+  abbrev pub stored_pack : Seen → List Extent → ℕ → Mode → Amount → Pack → List ℤ → List ℤ
   stored_pack t wrote place mode y pack m =
       if has_operands p t wrote y
       then forgotten_cells (size_of pack) (is_other place) 1 pack (stored_cell t wrote place mode y pack (cell_of pack (of_item place)) m)
@@ -75,7 +76,7 @@ module _ (p : Program) (a : Act) (x : Action) where
   abbrev pub lost_pack : ℕ → Pack → List ℤ → List ℤ
   lost_pack place pack m = forgotten_cells (size_of pack) (is_lost place) 1 pack m
 
-  abbrev pub pack_behind_store : Seen → List Bytes → ℕ → Mode → Amount → Pack → List ℤ → List ℤ
+  abbrev pub pack_behind_store : Seen → List Extent → ℕ → Mode → Amount → Pack → List ℤ → List ℤ
   pack_behind_store t wrote place mode y pack m =
       by_outcome (may_fail p a x t place mode y) (may_fit p a x t place mode y) (stored_pack t wrote place mode y pack m)
       (lost_pack place pack m) m
@@ -97,9 +98,10 @@ module _ (p : Program) (a : Act) (x : Action) where
   guarded_pack s t wanted pack m = m
 
   -- what a part does to a pack
-  abbrev pub changed_pack : Part → Seen → List Bytes → Pack → List ℤ → List ℤ
+  abbrev pub changed_pack : Part → Seen → List Extent → Pack → List ℤ → List ℤ
   changed_pack (store place mode y) s wrote pack m = pack_behind_store (with_taken p a x s) wrote place mode y pack m
-  changed_pack (bytes_in offset count) s wrote pack m = forgotten_cells (size_of pack) (is_in_bytes p.layout offset count) 1 pack m
+  changed_pack (bytes_in offset count) s wrote pack m =
+      forgotten_cells (size_of pack) (is_in_extent p.layout (bytes_from offset count)) 1 pack m
   changed_pack (guard t wanted) s wrote pack m = guarded_pack s t wanted pack m
   changed_pack (set_count statement y) s wrote pack m =
       counted_pack statement (set_form p pack (with_taken p a x s) wrote y) pack m
@@ -107,9 +109,9 @@ module _ (p : Program) (a : Act) (x : Action) where
   changed_pack _ s wrote pack m = m
 
   -- The bytes that a part writes to. On an edge that keeps its receiver a store fails, and writes nothing.
-  abbrev pub written_by : Part → List Bytes
+  abbrev pub written_by : Part → List Extent
   written_by (store place mode y) = if keeps_receiver a x then [] else item_bytes p.layout place
-  written_by (bytes_in offset count) = record { offset = offset; count = count } ∷ []
+  written_by (bytes_in offset count) = bytes_from offset count ∷ []
   written_by _ = []
 
   -- Forms are read from what is seen before the part, and from the matrices as they were.

@@ -3,12 +3,12 @@ use Rattle.std.specs.Prelude.{ℕ, suc, ◌||◌, nat_le, if◌then◌else◌, B
 use Rattle.dec_num.specs.declared.types.Mode.{Mode}
 use Rattle.interval_domain.specs.declared.bounds.Interval.{Interval}
 use Rattle.cob_program.specs.Values.{◌>>=◌}
-use Rattle.diff_bounds.specs.declared.form.Lin.{Lin}
+use Rattle.diff_bounds.specs.declared.form.lin.Lin.{Lin}
 use Rattle.diff_bounds.specs.Forms.{if_small}
 use Rattle.diff_bounds.specs.Results.{sum_of}
 use Rattle.diff_bounds.specs.Upper.{upper_of}
 use Rattle.sum_ranges.specs.declared.ranged.Ranged.{Ranged}
-use Rattle.diff_bounds.specs.declared.known.Known as sure
+use Rattle.diff_bounds.specs.declared.form.known.Known as sure
 use Rattle.diff_bounds.specs.Errors.{error_in}
 use Rattle.transfer_ranges.specs.declared.amounts.AmountRange.{AmountRange}
 use Rattle.transfer_ranges.specs.declared.amounts.AmountRange.TheVariants as range

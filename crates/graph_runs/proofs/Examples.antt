@@ -2,7 +2,7 @@
 use Rattle.std.specs.Prelude.{◌≡◌, ◌<◌, ◌≤◌, ◌^◌, ◌==◌, if◌then◌else◌, slice_index_or, ℕ, zero, suc, Bool, true, false, List, [], ◌∷◌, map, slice_get, Option, Some, None, ℤ, pos, negsuc}
 use Rattle.std.specs.List.{All}
 use Rattle.std.proofs.Common.{refl, sym, ap, ◌∙◌, inl, inr, arith as plain}
-use Rattle.std.proofs.lemmas.Option.{none-some}
+use Rattle.std.proofs.lemmas.Option.{none-some, same_Some}
 use Rattle.std.proofs.lemmas.Bool.Decides.{nat_tests}
 use Rattle.dec_num.specs.declared.types.Mode.TheVariants.{Trunc}
 use Rattle.dec_num.specs.declared.types.Scaled.{Scaled}
@@ -23,7 +23,9 @@ use Rattle.cob_graph.specs.Laid.{MkLaid, no_laid, more_laid, a_phrase, skipping,
 use Rattle.cob_graph.specs.Graphs.{IsMainCopy}
 use Rattle.cob_graph.specs.WellFormed.{IsWellFormed}
 use Rattle.cob_store.specs.WellFormed.{IsWellFormedItem}
-use Rattle.cob_edge_parts.specs.Ranges.{AreApart}
+use Rattle.cob_data.specs.Extents.{LieApart}
+use Rattle.cob_data.specs.Occurrences.{extent_of}
+use Rattle.cob_data.proofs.OneOccurrence.{one_within, one_extent}
 use Rattle.cob_graph.specs.Lookup.{edge, node_at}
 use Rattle.cob_graph.proofs.Examples.{item_of, numeral, atom_sum, stmt1, say, para, unnamed, of_paras, the_file, twice, laid_twice, with_copies, is_graph}
 use Rattle.cob_edge_parts.specs.Parts.{bytes_in, parts_of}
@@ -34,7 +36,7 @@ use Rattle.graph_runs.specs.Places.{edge_at, DoesAt}
 use Rattle.cob_edge_parts.specs.Counters.{PassesParts, MeetsAmong}
 use Rattle.graph_runs.specs.Doing.{start}
 use Rattle.graph_runs.specs.Following.{Reaches}
-use Rattle.graph_runs.specs.Sources.{HasValue, SeparateItemsHaveSigns, IsSourceGraph}
+use Rattle.graph_runs.specs.Sources.{HasValue, SeparateItemsHaveSigns, HasNoTables, IsSourceGraph}
 
 abbrev after : Program → ℕ → State
 after p n = run p [] [] [] n
@@ -135,9 +137,14 @@ number_in_order n a false false e f its = absurd (none-some a (sym none ∙ its)
         None) e
         ∙ ap (λ b. or_else (or_else (or_else (if b then Some nothing else None) None) None) None) f
 
-its_item : IsWellFormedItem adding.layout (slice_index_or adding.layout.items 0 (item_of 0 0 form.Group None))
+abbrev its_only : Item
+its_only = slice_index_or adding.layout.items 0 (item_of 0 0 form.Group None)
+
+its_item : IsWellFormedItem adding.layout its_only
 its_item = record {
-  within = omega plain;
+  within = one_within (extent_of its_only) 3 refl (omega plain);
+  extent = one_extent (extent_of its_only) refl;
+  one = λ flat. refl;
   form = record {
     number = record { some_digits = omega plain; at_most_18 = omega plain; whole = refl };
     decimals = omega plain;
@@ -146,7 +153,7 @@ its_item = record {
 }
 
 alone : (a b : ℕ) (i j : Item) → HasValue adding.layout a i → HasValue adding.layout b j → ¬ a ≡ b →
-    AreApart i.offset i.length j.offset j.length
+    LieApart (extent_of i) (extent_of j)
 alone zero zero i j h k apart = absurd (apart refl)
 alone (suc a) b i j h k apart = absurd (none-some i h.at)
 alone zero (suc b) i j h k apart = absurd (none-some j k.at)
@@ -165,6 +172,7 @@ adding_is_source = record {
   graph = is_graph adding laid_adding adding_is_laid;
   values = alone;
   signs = only_sign;
+  tables = only_flat;
   numbers = λ n a its. number_in_order n a (n == 1) (n == 2) refl refl its;
   order = refl;
 }
@@ -176,6 +184,10 @@ adding_is_source = record {
     only_sign : SeparateItemsHaveSigns adding.layout
     only_sign zero d l = tt
     only_sign (suc k) d l = absurd (omega (plain, l))
+
+    only_flat : HasNoTables adding.layout
+    only_flat zero i at = ap (λ (j : Item). j.stride) (sym (same_Some its_only i at))
+    only_flat (suc k) i at = absurd (none-some i at)
 
 adding_does : DoesAt adding graph_of_adding 1 1 add_one
 adding_does = record {

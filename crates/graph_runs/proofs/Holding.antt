@@ -9,10 +9,11 @@ use Rattle.cob_data.specs.declared.layout.Sender.{Sender}
 use Rattle.cob_program.specs.Sum.{Atom}
 use Rattle.cob_program.specs.Act.{Program}
 use Rattle.cob_runs.specs.Moves.{number_of}
-use Rattle.cob_edge_parts.specs.Parts.{Amount, Part, read, unread, divide, store, bytes_in, guard, read_count, set_count, count_down, guard_count}
-use Rattle.cob_edge_parts.specs.Meaning.{Moment, with_storage, with_own, with_failure, divided_by_zero, divides_by, is_left_alone, stored_bytes, stored_or_kept, ReadsAt, Divides, Stores, Passes, PassesAll, Meets}
+use Rattle.cob_edge_parts.specs.Parts.{Amount, Part, read, unread, subscript, index, divide, store, bytes_in, guard, read_count, set_count, count_down, guard_count}
+use Rattle.cob_edge_parts.specs.Meaning.{Moment, with_storage, with_own, with_failure, divided_by_zero, divides_by, is_left_alone, skipped, stored_bytes, stored_or_kept, ReadsAt, Divides, Stores, Passes, PassesAll, Meets}
 use Rattle.cob_edge_parts.specs.Meaning as meaning
 use Rattle.cob_edge_parts.specs.Counters.{IsCount, IsCounted, IsTooGreat, Misfits, PassesPart, PassesParts, MeetsAmong}
+use Rattle.cob_edge_parts.proofs.Subscripts.{subscript_leaves, index_leaves}
 use Rattle.graph_runs.proofs.Counting.{AreSmall, is_count, holds_set, length_set, small_set}
 
 module _ (l : Layout) where
@@ -41,6 +42,8 @@ module _ (l : Layout) where
   misfits_or_not (count_down statement) m = down_or_not (m.own.units -ℤ pos 1)
   misfits_or_not (read place) m = inr (λ f. f)
   misfits_or_not unread m = inr (λ f. f)
+  misfits_or_not (subscript last item) m = inr (λ f. f)
+  misfits_or_not (index last item count) m = inr (λ f. f)
   misfits_or_not (divide a) m = inr (λ f. f)
   misfits_or_not (store place mode a) m = inr (λ f. f)
   misfits_or_not (bytes_in offset count) m = inr (λ f. f)
@@ -100,6 +103,8 @@ module _ (l : Layout) where
     counts_go : (x : Part) (m n : Moment) → Passes l handled x m n → CountsGo x m n
     counts_go (read place) m n h = inl (read_counts m.by_zero place m n h)
     counts_go unread m n h = absurd h
+    counts_go (subscript last item) m n h = inl (same_counts m n (subscript_leaves l (skipped last m) item m n h))
+    counts_go (index last item count) m n h = inl (same_counts m n (index_leaves l (skipped last m) item count m n h))
     counts_go (divide a) m n h = inl (divide_counts handled a m n h)
     counts_go (store place mode a) m n h = inl (store_counts handled place mode a m n h)
     counts_go (bytes_in offset count) m n (change, e) = inl (same_counts (with_storage m _) n e)

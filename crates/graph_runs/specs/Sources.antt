@@ -7,6 +7,8 @@ use Rattle.cob_tree.specs.declared.form.Usage.TheVariants as usage
 use Rattle.cob_data.specs.declared.layout.Item.{Item}
 use Rattle.cob_data.specs.declared.layout.Layout.{Layout}
 use Rattle.cob_data.specs.declared.layout.Sender.{Sender}
+use Rattle.cob_data.specs.Extents.{LieApart}
+use Rattle.cob_data.specs.Occurrences.{extent_of}
 use Rattle.cob_program.specs.Act.{Stmt, MkStmt, Act, Program}
 use Rattle.cob_program.specs.Statements.{program_statements}
 use Rattle.cob_runs.specs.Contents.{item_at}
@@ -16,7 +18,6 @@ use Rattle.cob_world.specs.Doing.{CanDoProgram}
 use Rattle.cob_graph.specs.declared.graph.Graph.{Graph}
 use Rattle.cob_graph.specs.Graphs.{IsGraph}
 use Rattle.cob_graph.specs.WellFormed.{IsWellFormed}
-use Rattle.cob_edge_parts.specs.Ranges.{AreApart}
 
 -- ---- data
 
@@ -26,10 +27,10 @@ pub record HasValue (l : Layout) (place : ℕ) (i : Item) : Type 0 where
   pub value : Sender
   pub given : i.value ≡ Some value
 
--- no two items that begin with a value have a byte in common
+-- no two items that begin with a value have a byte in common, in whichever of their occurrences
 abbrev pub ValuesStandApart : Layout → Type 0
 ValuesStandApart l =
-    (a b : ℕ) (i j : Item) → HasValue l a i → HasValue l b j → ¬ a ≡ b → AreApart i.offset i.length j.offset j.length
+    (a b : ℕ) (i j : Item) → HasValue l a i → HasValue l b j → ¬ a ≡ b → LieApart (extent_of i) (extent_of j)
 
 abbrev pub HasSignIfSeparate : Form → Type 0
 HasSignIfSeparate (form.Number digits scale signed usage.Leading) = signed ≡ true
@@ -39,6 +40,10 @@ HasSignIfSeparate _ = Unit {0}
 -- an item with a separate sign byte has a sign
 abbrev pub SeparateItemsHaveSigns : Layout → Type 0
 SeparateItemsHaveSigns l = All (λ i. HasSignIfSeparate i.form) l.items
+
+-- no item is a table's
+abbrev pub HasNoTables : Layout → Type 0
+HasNoTables l = (place : ℕ) (i : Item) → item_at l place ≡ Some i → i.stride ≡ 0
 
 -- ---- statements
 
@@ -66,5 +71,6 @@ pub record IsSourceGraph (p : Program) (g : Graph) : Type 0 where
   pub graph : IsGraph p g
   pub values : ValuesStandApart p.layout
   pub signs : SeparateItemsHaveSigns p.layout
+  pub tables : HasNoTables p.layout
   pub numbers : StatementsAreCounted p
   pub order : AreNumberedInOrder p

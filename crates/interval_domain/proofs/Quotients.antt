@@ -71,7 +71,7 @@ quotient_held : (n d : Interval) (up : ℤ) (mode : Mode) → n.low ≤ℤ n.hig
 quotient_held n d up mode h s z (x, y, k, l, nonzero, e) =
     subst (λ t. Holds (corners (quotient up mode) n d) t) (sym e) (corners_hold (quotient up mode) n d h (quotients_between n d up mode s) x y k l)
 
-positive_least : (n d : Interval) (up : ℤ) (mode : Mode) → n.low ≤ℤ n.high → d.low ≤ℤ d.high → pos 1 ≤ℤ d.low → IsLeast (IsQuotient n d up mode) (corners (quotient up mode) n d)
+pub positive_least : (n d : Interval) (up : ℤ) (mode : Mode) → n.low ≤ℤ n.high → d.low ≤ℤ d.high → pos 1 ≤ℤ d.low → IsLeast (IsQuotient n d up mode) (corners (quotient up mode) n d)
 positive_least n d up mode h k s =
     let ends = corners_are_ones (IsQuotient n d up mode) (quotient up mode) n d h k (λ x y l m. (x, y, l, m, nonzero y (omega (arith, ints)), refl)) in
     record { holds = quotient_held n d up mode h s; low_is_one = ends.0; high_is_one = ends.1 }
@@ -136,12 +136,19 @@ either_capped R S T i j parts from_s from_t (p, s, p_low, p_high) (q, t, q_low, 
   ap (λ k. int_max k j.high) p_high ∙ ap (λ k. int_max (capped p.high) k) q_high ∙ sym (capped_max p.high q.high),
 )
 
-same_least : (R S : ℤ → Type 0) (i : Interval) → ((z : ℤ) → R z → S z) → ((z : ℤ) → S z → R z) → IsLeastCapped S i → IsLeastCapped R i
-same_least R S i to from (p, s, low, high) =
-    (p, record { holds = λ z r. s.holds z (to z r); low_is_one = from p.low s.low_is_one; high_is_one = from p.high s.high_is_one }, low, high)
+same_least : (R S : ℤ → Type 0) (i : Interval) → ((z : ℤ) → R z → S z) → ((z : ℤ) → S z → R z) → IsLeast S i → IsLeast R i
+same_least R S i to from h = record { holds = λ z r. h.holds z (to z r); low_is_one = from i.low h.low_is_one; high_is_one = from i.high h.high_is_one }
+
+same_least_capped : (R S : ℤ → Type 0) (i : Interval) → ((z : ℤ) → R z → S z) → ((z : ℤ) → S z → R z) → IsLeastCapped S i → IsLeastCapped R i
+same_least_capped R S i to from (p, s, low, high) = (p, same_least R S p to from s, low, high)
 
 without_premises : (n d : Interval) (up : ℤ) (mode : Mode) (z : ℤ) → IsQuotient n d up mode z → IsQuotient n (above_zero d) up mode z ⊎ IsQuotient (negated n) (above_zero (negated d)) up mode z
 without_premises n d up mode z h = elim (split n d up mode z h) [ inl a ↦ inl a.1 | inr b ↦ inr b.1 ]
+
+pub above_and_below : (n d : Interval) (up : ℤ) (mode : Mode) (p q : Interval) → IsLeast (IsQuotient n (above_zero d) up mode) p → IsLeast (IsQuotient (negated n) (above_zero (negated d)) up mode) q → IsLeast (IsQuotient n d up mode) (joined p q)
+above_and_below n d up mode p q h k =
+    either_least (IsQuotient n d up mode) (IsQuotient n (above_zero d) up mode) (IsQuotient (negated n) (above_zero (negated d)) up mode) p q
+    (without_premises n d up mode) (from_above n d up mode) (from_below n d up mode) h k
 
 pub both_sides : (n d : Interval) (up : ℤ) (mode : Mode) (i j : Interval) → IsLeastCapped (IsQuotient n (above_zero d) up mode) i → IsLeastCapped (IsQuotient (negated n) (above_zero (negated d)) up mode) j → IsLeastCapped (IsQuotient n d up mode) (joined i j)
 both_sides n d up mode i j h k =
@@ -154,11 +161,17 @@ only_above n d up mode low z h = elim (split n d up mode z h) [ inl a ↦ a.1 | 
 only_below : (n d : Interval) (up : ℤ) (mode : Mode) → d.high ≤ℤ pos 0 → (z : ℤ) → IsQuotient n d up mode z → IsQuotient (negated n) (above_zero (negated d)) up mode z
 only_below n d up mode high z h = elim (split n d up mode z h) [ inl a ↦ let positive = a.0 in absurd (omega (arith, ints)) | inr b ↦ b.1 ]
 
+pub above_alone : (n d : Interval) (up : ℤ) (mode : Mode) (i : Interval) → neg_ℤ d.low ≤ℤ pos 0 → IsLeast (IsQuotient n (above_zero d) up mode) i → IsLeast (IsQuotient n d up mode) i
+above_alone n d up mode i low = same_least (IsQuotient n d up mode) (IsQuotient n (above_zero d) up mode) i (only_above n d up mode low) (from_above n d up mode)
+
+pub below_alone : (n d : Interval) (up : ℤ) (mode : Mode) (i : Interval) → d.high ≤ℤ pos 0 → IsLeast (IsQuotient (negated n) (above_zero (negated d)) up mode) i → IsLeast (IsQuotient n d up mode) i
+below_alone n d up mode i high = same_least (IsQuotient n d up mode) (IsQuotient (negated n) (above_zero (negated d)) up mode) i (only_below n d up mode high) (from_below n d up mode)
+
 pub above_side : (n d : Interval) (up : ℤ) (mode : Mode) (i : Interval) → neg_ℤ d.low ≤ℤ pos 0 → IsLeastCapped (IsQuotient n (above_zero d) up mode) i → IsLeastCapped (IsQuotient n d up mode) i
-above_side n d up mode i low = same_least (IsQuotient n d up mode) (IsQuotient n (above_zero d) up mode) i (only_above n d up mode low) (from_above n d up mode)
+above_side n d up mode i low = same_least_capped (IsQuotient n d up mode) (IsQuotient n (above_zero d) up mode) i (only_above n d up mode low) (from_above n d up mode)
 
 pub below_side : (n d : Interval) (up : ℤ) (mode : Mode) (i : Interval) → d.high ≤ℤ pos 0 → IsLeastCapped (IsQuotient (negated n) (above_zero (negated d)) up mode) i → IsLeastCapped (IsQuotient n d up mode) i
-below_side n d up mode i high = same_least (IsQuotient n d up mode) (IsQuotient (negated n) (above_zero (negated d)) up mode) i (only_below n d up mode high) (from_below n d up mode)
+below_side n d up mode i high = same_least_capped (IsQuotient n d up mode) (IsQuotient (negated n) (above_zero (negated d)) up mode) i (only_below n d up mode high) (from_below n d up mode)
 
 pub over_gives : (n d : Interval) (up : ℤ) (mode : Mode) (p q i : Interval) → p ≡ span (capped (quotient up mode n.low d.low)) (capped (quotient up mode n.low d.high)) → q ≡ span (capped (quotient up mode n.high d.low)) (capped (quotient up mode n.high d.high)) → i ≡ joined p q → n.low ≤ℤ n.high → d.low ≤ℤ d.high → pos 1 ≤ℤ d.low → IsLeastCapped (IsQuotient n d up mode) i
 over_gives n d up mode p q i e g h k l s =

@@ -5,7 +5,7 @@ use cob_graph::{Edge, Graph};
 use cob_program::{Act, Program, Stmt};
 use cob_runs::Cell;
 use cob_tree::Form;
-use edge_amounts::{part_at, part_count};
+use edge_parts::{part_at, part_count};
 use std::alloc::{AllocError, Global};
 use std::io;
 

@@ -3,8 +3,9 @@ use case_words::{how_word, mode_word, relation_word, write_atom, write_literal, 
 use cob_data::{Pair, Sender};
 use cob_program::{Sum, Test};
 use cob_tree::Rel;
-use edge_amounts::{Amount, Divisor, EdgePart};
+use edge_parts::{Divisor, EdgePart};
 use std::alloc::AllocError;
+use transfer_ranges::Amount;
 
 // ---- senders
 
@@ -107,6 +108,8 @@ pub fn write_part(text: &mut String, part: EdgePart) -> Result<(), AllocError> {
     match part {
         EdgePart::Read(item) => write!(text, "read i{item}"),
         EdgePart::Unread => text.push_str("unread"),
+        EdgePart::Subscript { last, item } => write!(text, "subscript {last} i{item}"),
+        EdgePart::Index { last, item, count } => write!(text, "index {last} i{item} {count}"),
         EdgePart::Divide(divisor) => {
             text.push_str("divide ")?;
             write_divisor(text, divisor)

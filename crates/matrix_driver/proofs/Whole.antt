@@ -1,6 +1,6 @@
 -- Forms over all eight cells, and matrices of which one row is assigned.
 use Rattle.std.proofs.Common.{◌≢◌, ℕ, ◌+◌, ◌<◌, ℤ, arith}
-use Rattle.diff_bounds.specs.declared.form.Lin.{Lin}
+use Rattle.diff_bounds.specs.declared.form.lin.Lin.{Lin}
 use Rattle.diff_bounds.specs.Values.{IsOver}
 use Rattle.diff_bounds.specs.Assigned.{AreAssigned}
 use Rattle.diff_bounds.specs.Settled.{IsTightBut}

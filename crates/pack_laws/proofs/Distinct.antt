@@ -1,17 +1,21 @@
--- No two cells of a program are of one home.
+-- No two cells of a program are of one home, and none of a source's is a table's.
 use Rattle.std.proofs.Common.{◌≡◌, ◌≤◌, ◌<◌, ℕ, zero, suc, ◌+◌, Bool, true, false, if◌then◌else◌, List, [], ◌∷◌, ◌++◌, map, length, Option, Some, None, refl, sym, ap, subst, ◌∙◌, append_assoc, arith}
-use Rattle.std.specs.Prelude.{nat_le, slice_get}
+use Rattle.std.specs.Prelude.{nat_le, slice_get, ◌==◌, not}
 use Rattle.std.specs.List.{AllByRecursion, range_with_len}
+use Rattle.std.specs.Option.{option_map_or}
+use Rattle.std.proofs.lemmas.Bool.{eq-eqb}
 use Rattle.std.proofs.lemmas.Option.{same_Some, none-some}
 use Rattle.cob_tree.specs.declared.form.Form.{Form}
 use Rattle.cob_tree.specs.declared.form.Form.TheVariants as form
 use Rattle.cob_data.specs.declared.layout.Item.{Item}
 use Rattle.cob_program.specs.Act.{Turns, times, Stmt, MkStmt, Act, perform, Program}
 use Rattle.cob_program.specs.Statements.{program_statements}
+use Rattle.cob_runs.specs.Contents.{item_at}
 use Rattle.cob_graph.specs.declared.graph.Graph.{Graph}
 use Rattle.graph_runs.specs.Sources.{number_of, IsSourceGraph}
 use Rattle.cob_graph.specs.declared.homes.Home.{Home}
 use Rattle.cob_graph.specs.declared.homes.Home.TheVariants.{Item as of_item, Count as of_count}
+use Rattle.cell_steps.specs.Cells.{is_table}
 use Rattle.cob_graph.specs.Homes.{home_of, if_named, item_homes, turns_homes, act_homes, count_homes, homes_of}
 
 -- ---- the order of homes: items by their places, and then counters by their statements
@@ -148,3 +152,12 @@ homes_are_distinct p count order =
 pub homes_of_sources_are_distinct : (p : Program) (g : Graph) → IsSourceGraph p g → (j k : ℕ) (h : Home) →
     slice_get (homes_of p) j ≡ Some h → slice_get (homes_of p) k ≡ Some h → j ≡ k
 homes_of_sources_are_distinct p g source = homes_are_distinct p p.statements source.order
+
+-- ---- tables
+
+pub sources_have_no_tables : (p : Program) (g : Graph) → IsSourceGraph p g → (place : ℕ) → is_table p.layout place ≡ false
+sources_have_no_tables p g source place = go (item_at p.layout place) refl
+  where
+    go : (o : Option Item) → item_at p.layout place ≡ o → option_map_or (λ i. not (i.stride == 0)) o false ≡ false
+    go None e = refl
+    go (Some i) e = ap not (eq-eqb i.stride 0 (source.tables place i e))

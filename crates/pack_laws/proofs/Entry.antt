@@ -10,10 +10,12 @@ use Rattle.cob_program.specs.Act.{Program}
 use Rattle.dom_laws.specs.Meaning.{Storage}
 use Rattle.diff_bounds.specs.Matrix.{word, none, IsBound, IsWord, IsMatrix}
 use Rattle.interval_domain.specs.Known.{Known}
+use Rattle.cell_steps.specs.Premises.{HasSoundItems}
 use Rattle.cell_steps.specs.Storages.{StandsIn}
 use Rattle.diff_steps.specs.Packs.{Pack, size_of, PackStands, PacksStand}
 use Rattle.diff_steps.specs.Edges.{or_bottoms, no_bounds, entry_packs}
 use Rattle.diff_steps.specs.Steps.{all_closed}
+use Rattle.pack_laws.proofs.Occurrences.{first_home}
 use Rattle.pack_laws.proofs.Words.{word_at}
 use Rattle.pack_laws.specs.Agreeing.{AreMatrices}
 use Rattle.pack_laws.proofs.PacksClosingRise.{words_are_matrix}
@@ -68,10 +70,10 @@ module _ (p : Program) (packs : List Pack) (few : AllByRecursion (λ pack. size_
       or_bottoms_fit packs (unbounded_packs packs) (all_closed p known packs (unbounded_packs packs)) are
       (all_fit p known packs (unbounded_packs packs) (all_are_flat packs (unbounded_packs packs) are))
 
-  pub entry_stands : (s : Storage) → StandsIn p known s → PacksStand p.layout packs (entry_packs p packs known) s
-  entry_stands s stands =
+  pub entry_stands : HasSoundItems p.layout → (s : Storage) → StandsIn p known s → PacksStand p.layout packs (entry_packs p packs known) s
+  entry_stands sound s stands =
       closed (all_closed p known packs (unbounded_packs packs))
-      (all_closed_stand p known s stands.known packs (unbounded_packs packs) (all_are_flat packs (unbounded_packs packs) (unbounded_are packs few)) (unbounded_stand p.layout s packs))
+      (all_closed_stand p known s (λ h. stands.known h 0 (first_home p.layout sound h)) packs (unbounded_packs packs) (all_are_flat packs (unbounded_packs packs) (unbounded_are packs few)) (unbounded_stand p.layout s packs))
     where
       closed : (o : Option (List (List ℤ))) → IsSomeAnd o (λ cs. PacksStand p.layout packs cs s) → PacksStand p.layout packs (or_bottoms packs o) s
       closed None h = absurd h

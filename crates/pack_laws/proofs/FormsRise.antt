@@ -4,6 +4,7 @@ use Rattle.std.specs.Prelude.{IsSomeAnd, if◌then◌else◌, neg_ℤ}
 use Rattle.std.specs.List.{list_any}
 use Rattle.std.proofs.lemmas.Int.{ints}
 use Rattle.interval_domain.specs.Corners.{interval}
+use Rattle.cob_data.specs.declared.extent.Extent.{Extent}
 use Rattle.cob_data.specs.declared.layout.Sender.{Sender}
 use Rattle.cob_data.specs.declared.layout.Sender.TheVariants as sender
 use Rattle.cob_program.specs.declared.act.How.{How}
@@ -15,7 +16,7 @@ use Rattle.cob_program.proofs.Steps.{some_bound}
 use Rattle.cob_runs.specs.declared.action.Action.{Action}
 use Rattle.cob_runs.specs.Computing.{items_in}
 use Rattle.cob_edge_parts.specs.Parts.{Amount, moved, computed, remaining, augmented}
-use Rattle.diff_bounds.specs.declared.form.Lin.{Lin}
+use Rattle.diff_bounds.specs.declared.form.lin.Lin.{Lin}
 use Rattle.diff_bounds.specs.Forms.{if_small}
 use Rattle.diff_bounds.specs.Results.{sum_of}
 use Rattle.sum_ranges.specs.declared.ranged.Ranged.{Ranged}
@@ -35,15 +36,15 @@ use Rattle.transfer_ranges.proofs.Narrower.{computed_narrower}
 use Rattle.cob_graph.specs.declared.homes.Home.TheVariants.{Item as of_item, Count as of_count}
 use Rattle.cob_graph.specs.Homes.{homes_of}
 use Rattle.cell_steps.specs.Cells.{units_of}
-use Rattle.cell_steps.specs.Operands.{settled, stays_exact, taken_for, amount_of}
+use Rattle.transfer_ranges.specs.EdgeOperands.{settled, stays_exact, taken_for, amount_of}
 use Rattle.cell_steps.specs.Seen.{Seen}
 use Rattle.cell_steps.specs.Stores.{range_at, amount_at}
 use Rattle.cell_steps.specs.Order.{SeenBelow}
 use Rattle.cell_laws.proofs.ItemRanges.{units_below, range_below}
 use Rattle.cell_laws.proofs.OperandsRise.{SettledBelow, settled_below}
 use Rattle.diff_steps.specs.Packs.{Pack, cell_of, pack_decimals}
-use Rattle.diff_steps.specs.Moments.{Bytes, is_written}
-use Rattle.diff_steps.specs.Forms.{is_whole_sender, set_form, whole_sum, added_forms, turned_if, has_operands, own_form, counter_form, kept_form, taken_form, operands_form, item_sent, sender_form, multiplied_form, computed_form, amount_form, lowered_form}
+use Rattle.diff_steps.specs.Moments.{is_written}
+use Rattle.diff_steps.specs.Forms.{is_whole_sender, set_form, whole_sum, added_forms, turned_if, has_operands, own_form, subscript_form, counter_form, kept_form, taken_form, operands_form, item_sent, sender_form, multiplied_form, computed_form, amount_form, lowered_form}
 use Rattle.diff_steps.specs.Guards.{difference_form}
 
 -- ---- sums of two forms
@@ -119,11 +120,14 @@ module _ (p : Program) (a : Act) (x : Action) (pack : Pack) (less more : Seen) (
       (λ c w m. narrower_then (turned_form true c) (turned_form true w) (λ d. if_small (sum_of b d)) (λ d. if_small (sum_of v d))
       (turns_narrower true (Some c) (Some w) m) (λ d u k. sum_there b d v u n k)))
 
-  module _ (wrote : List Bytes) where
+  module _ (wrote : List Extent) where
     -- ---- the receiver's own number
 
     own_narrower : (place : ℕ) → IsNarrowerIfAny (own_form p pack less wrote place) (own_form p pack more wrote place)
     own_narrower place = item_narrower decimals (cell place) (range_at p less.cells place) (range_at p more.cells place) (items_narrower place)
+
+    pub subscript_narrower : (k : ℕ) → IsNarrowerIfAny (subscript_form p pack less wrote k) (subscript_form p pack more wrote k)
+    subscript_narrower k = either_narrower (is_whole_sender p.layout (sender.Item k)) (own_form p pack less wrote k) (own_form p pack more wrote k) None None (own_narrower k) tt
 
     counter_narrower : (statement : ℕ) → IsNarrowerIfAny (counter_form p pack less wrote statement) (counter_form p pack more wrote statement)
     counter_narrower statement =

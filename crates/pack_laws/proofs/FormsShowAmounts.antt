@@ -8,6 +8,7 @@ use Rattle.dec_num.specs.declared.types.Scaled.{Scaled}
 use Rattle.dec_num.specs.Exact.{Fraction}
 use Rattle.dec_num.specs.Scaled.{value_of}
 use Rattle.dec_num.proofs.Signed.{neg_ℤ_times}
+use Rattle.cob_data.specs.declared.extent.Extent.{Extent}
 use Rattle.cob_data.specs.declared.layout.Layout.{Layout}
 use Rattle.cob_data.specs.declared.layout.Sender.{Sender}
 use Rattle.cob_data.specs.declared.layout.Sender.TheVariants as sender
@@ -26,7 +27,7 @@ use Rattle.cob_edge_parts.specs.Parts.{Amount, moved, computed, remaining, augme
 use Rattle.cob_edge_parts.specs.Meaning as run
 use Rattle.cob_edge_parts.specs.Meaning.{Moment, with_own, amount, ReadsAt}
 use Rattle.cob_edge_parts.proofs.Divisors.{sum_counts, result_counts}
-use Rattle.diff_bounds.specs.declared.form.Lin.{Lin}
+use Rattle.diff_bounds.specs.declared.form.lin.Lin.{Lin}
 use Rattle.sum_ranges.specs.declared.ranged.Ranged.{Ranged}
 use Rattle.sum_ranges.specs.Ranged.{decimal, point, IsIn}
 use Rattle.sum_ranges.specs.SumRanges.{product_range, sum_range}
@@ -43,16 +44,17 @@ use Rattle.transfer_ranges.specs.Stores.{amount_range}
 use Rattle.cob_edge_parts.specs.Counters.{PassesParts}
 use Rattle.cell_laws.specs.Places.{IsBehindOperands, EndsWithRead, IsStored}
 use Rattle.cob_graph.specs.declared.homes.Home.TheVariants.{Item as of_item}
+use Rattle.cell_steps.specs.Premises.{HasSoundItems}
 use Rattle.cell_steps.specs.Storages.{storage}
-use Rattle.cell_steps.specs.Operands.{edge_amount, settled, amount_of}
+use Rattle.transfer_ranges.specs.EdgeOperands.{edge_amount, settled, amount_of}
 use Rattle.cell_steps.specs.Seen.{Seen}
 use Rattle.cell_steps.specs.Stores.{range_at, handled}
 use Rattle.cell_laws.proofs.Agreement.{Agree, same_sum}
-use Rattle.cell_laws.proofs.HomesHold.{number_holds}
+use Rattle.cell_laws.proofs.HomesHold.{some_times, number_holds}
 use Rattle.cell_laws.proofs.PartsDone.{both_true, and_true, read_first}
 use Rattle.cell_laws.proofs.StoresKeep.{is_there, TakenAt, its_amount}
 use Rattle.diff_steps.specs.Packs.{Pack, size_of, cell_of, pack_decimals, cells_in}
-use Rattle.diff_steps.specs.Moments.{Bytes, is_written}
+use Rattle.diff_steps.specs.Moments.{is_written}
 use Rattle.diff_steps.specs.Forms.{negated_if, whole_sum, added_forms, turned_if, own_form, kept_form, taken_form, operands_form, item_sent, sender_form, multiplied_form, computed_form, has_operands, amount_form}
 use Rattle.pack_laws.specs.Agreeing.{IsTracked}
 use Rattle.pack_laws.proofs.FormsShowValues.{IsTold, Told, range_told, scaled_told, turned_told, added_told, same_told}
@@ -124,22 +126,25 @@ module _ (cells : ℕ → Option ℤ) (f : ℕ) where
 
 -- ---- items that weren't written
 
-module _ (l : Layout) (wrote : List Bytes) (m : Moment) (tracked : IsTracked l wrote m) where
+module _ (l : Layout) (sound : HasSoundItems l) (wrote : List Extent) (m : Moment) (tracked : IsTracked l wrote m) where
+  same_number : (place : ℕ) → is_written l wrote place ≡ false → number_at l m.storage place ≡ number_at l m.first place
+  same_number place e = tracked.same place 0 (some_times l sound place) e
+
   same_worths : (places : List ℕ) → list_any (is_written l wrote) places ≡ false → Agree (worth l m.storage) (worth l m.first) places
   same_worths [] e = tt
   same_worths (place ∷ places) e =
       let two = or_parts (is_written l wrote place) (list_any (is_written l wrote) places) e in
-      (ap (λ (o : Option Scaled). unwrap_or o (whole_number (pos 0))) (tracked.same place two.0), same_worths places two.1)
+      (ap (λ (o : Option Scaled). unwrap_or o (whole_number (pos 0))) (same_number place two.0), same_worths places two.1)
 
   still_numeric : (places : List ℕ) → list_any (is_written l wrote) places ≡ false → are_numeric l m.first places ≡ true → are_numeric l m.storage places ≡ true
   still_numeric [] e numeric = refl
   still_numeric (place ∷ places) e numeric =
       let two = or_parts (is_written l wrote place) (list_any (is_written l wrote) places) e in
       let both = both_true (is_some (number_at l m.first place)) (are_numeric l m.first places) numeric in
-      and_true (is_some (number_at l m.storage place)) (are_numeric l m.storage places) (ap is_some (tracked.same place two.0) ∙ both.0) (still_numeric places two.1 both.1)
+      and_true (is_some (number_at l m.storage place)) (are_numeric l m.storage places) (ap is_some (same_number place two.0) ∙ both.0) (still_numeric places two.1 both.1)
 
 module _ (p : Program) (statement : ℕ) (a : Act) (x : Action) (pack : Pack) (few : size_of pack ≤ 8) where
-  module _ (done : List Part) (t : Seen) (m : Moment) (g : TakenAt p statement a x done t m) (wrote : List Bytes) (tracked : IsTracked p.layout wrote m) where
+  module _ (done : List Part) (t : Seen) (m : Moment) (g : TakenAt p statement a x done t m) (wrote : List Extent) (tracked : IsTracked p.layout wrote m) where
     abbrev f : ℕ
     f = pack_decimals p.layout pack
 
@@ -229,7 +234,7 @@ module _ (p : Program) (statement : ℕ) (a : Act) (x : Action) (pack : Pack) (f
         kept_sent = told_of_value cells f (kept_form p pack t wrote t.common) v (kept_told t.common (value_of v) kept)
 
         by_cell : (place : ℕ) → number_at p.layout m.first place ≡ Some v → (o : Option ℕ) (b : Bool) → is_written p.layout wrote place ≡ b → Tells (item_sent p pack t wrote place o b) v
-        by_cell place is (Some k) false e = own_told place v (tracked.same place e ∙ is)
+        by_cell place is (Some k) false e = own_told place v (same_number p.layout g.sound.items wrote m tracked place e ∙ is)
         by_cell place is (Some k) true e = kept_sent
         by_cell place is None b e = kept_sent
 
@@ -253,8 +258,8 @@ module _ (p : Program) (statement : ℕ) (a : Act) (x : Action) (pack : Pack) (f
 
       unwritten_told : (v : Scaled) → list_any (is_written p.layout wrote) (items_in s) ≡ false → sum_value (worth p.layout m.first) s ≡ Some v → Tells (sum_form f (λ place. cell_of pack (of_item place)) (range_at p t.cells) s) v
       unwritten_told v e is =
-          sum_told p g.sound.items t.cells m.storage m.counts g.stands pack few s v (still_numeric p.layout wrote m tracked (items_in s) e numeric_first)
-          (same_sum (worth p.layout m.storage) (worth p.layout m.first) s (same_worths p.layout wrote m tracked (items_in s) e) ∙ is)
+          sum_told p g.sound.items t.cells m.storage m.counts g.stands pack few s v (still_numeric p.layout g.sound.items wrote m tracked (items_in s) e numeric_first)
+          (same_sum (worth p.layout m.storage) (worth p.layout m.first) s (same_worths p.layout g.sound.items wrote m tracked (items_in s) e) ∙ is)
 
       summand_told : (v : Scaled) → sum_value (worth p.layout m.first) s ≡ Some v → Tells (operands_form p pack t wrote false s) v
       summand_told v is = by_written (list_any (is_written p.layout wrote) (items_in s)) refl
@@ -362,8 +367,8 @@ module _ (p : Program) (statement : ℕ) (a : Act) (x : Action) (pack : Pack) (f
               let u = is_there (sum_value (worth p.layout m.first) s) (operands_valued s h v is) in
               some_there (sum_range (range_at p t.cells) s) u.0
               (sum_ranged p g.sound.items t.cells m.storage m.counts g.stands pack few s u.0
-              (still_numeric p.layout wrote m tracked (items_in s) e (numeric_first s q.arithmetic.targets q.operands (its_amount p statement a x done place (computed s h) q)))
-              (same_sum (worth p.layout m.storage) (worth p.layout m.first) s (same_worths p.layout wrote m tracked (items_in s) e) ∙ u.1))
+              (still_numeric p.layout g.sound.items wrote m tracked (items_in s) e (numeric_first s q.arithmetic.targets q.operands (its_amount p statement a x done place (computed s h) q)))
+              (same_sum (worth p.layout m.storage) (worth p.layout m.first) s (same_worths p.layout g.sound.items wrote m tracked (items_in s) e) ∙ u.1))
 
       pub amount_operands : (y : Amount) (v : Fraction) → IsStored a x done place y → amount p.layout m y ≡ Some v → has_operands p t wrote y ≡ true
       amount_operands (moved y) v q is = refl

@@ -5,6 +5,7 @@ use Rattle.std.specs.Int.{int_div_euclid}
 use Rattle.std.proofs.lemmas.Int.{ints}
 use Rattle.std.proofs.lemmas.Bool.Decides.{nat_tests}
 use Rattle.dec_num.specs.declared.types.Scaled.{Scaled}
+use Rattle.cob_data.specs.declared.extent.Extent.{Extent}
 use Rattle.interval_domain.specs.declared.bounds.Interval.{Interval}
 use Rattle.interval_domain.specs.Bounds.{Holds}
 use Rattle.interval_domain.specs.Corners.{interval}
@@ -22,7 +23,6 @@ use Rattle.cell_steps.specs.Premises.{HasSoundItems}
 use Rattle.cell_steps.specs.Cells.{units_of}
 use Rattle.cell_steps.specs.Seen.{Seen}
 use Rattle.diff_steps.specs.Packs.{Pack, size_of, cell_of, pack_decimals, cells_in}
-use Rattle.diff_steps.specs.Moments.{Bytes}
 use Rattle.diff_steps.specs.Forms.{counter_form, lowered_form}
 use Rattle.pack_laws.proofs.FormsShowValues.{Told, range_told, added_told}
 use Rattle.pack_laws.proofs.FormsShowSums.{count_told}
@@ -56,7 +56,7 @@ minus_one_outward f =
 one_less : (v : ℤ) → plus (whole_number v) (whole_number (negsuc 0)) ≡ whole_number (v -ℤ pos 1)
 one_less v = let e : (v *ℤ pos 1) +ℤ (negsuc 0 *ℤ pos 1) ≡ v -ℤ pos 1 = omega (arith, ints) in ap whole_number e
 
-module _ (p : Program) (sound : HasSoundItems p.layout) (s : Seen) (bytes : List ℕ) (counts : List (Option ℤ)) (stands : StandsIn p s.cells (storage bytes counts)) (pack : Pack) (few : size_of pack ≤ 8) (wrote : List Bytes) where
+module _ (p : Program) (sound : HasSoundItems p.layout) (s : Seen) (bytes : List ℕ) (counts : List (Option ℤ)) (stands : StandsIn p s.cells (storage bytes counts)) (pack : Pack) (few : size_of pack ≤ 8) (wrote : List Extent) where
   -- the counter's number where the pack has its cell, and else any of its range, less one
   pub lowered_told : (statement : ℕ) (v : ℤ) → ((k : ℕ) → cell_of pack (of_count statement) ≡ Some k → count_in counts statement ≡ Some v)
       → (cell_of pack (of_count statement) ≡ None → Holds (units_of p.layout (homes_of p) s.cells (of_count statement)) v)

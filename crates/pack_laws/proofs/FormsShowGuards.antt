@@ -17,7 +17,7 @@ use Rattle.cob_runs.specs.Faults as fault
 use Rattle.cob_runs.specs.Faults.{or_fault}
 use Rattle.cob_runs.specs.Computing.{items_in, are_numeric, worth}
 use Rattle.cob_runs.specs.Deciding.{below, equal, above, Order, holds, order_of, number_order, decided, compared_numbers, test_holds}
-use Rattle.diff_bounds.specs.declared.form.Lin.{Lin}
+use Rattle.diff_bounds.specs.declared.form.lin.Lin.{Lin}
 use Rattle.diff_bounds.specs.Forms.{if_small}
 use Rattle.diff_bounds.specs.Results.{sum_of}
 use Rattle.sum_ranges.specs.declared.ranged.Ranged.{Ranged}

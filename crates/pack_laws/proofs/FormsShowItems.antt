@@ -8,7 +8,7 @@ use Rattle.interval_domain.specs.Corners.{interval}
 use Rattle.cob_program.specs.Sum.{Sum, MkSum, Parts, no_parts, more_parts, Part, MkPart, Factors, no_factors, more_factors, MkFactor, Atom, item, number, group}
 use Rattle.cob_program.specs.Values.{whole_number, literal, ◌>>=◌}
 use Rattle.cob_runs.specs.Computing.{items_in, items_in_parts, items_in_factors, items_in_atom}
-use Rattle.diff_bounds.specs.declared.form.Lin.{Lin}
+use Rattle.diff_bounds.specs.declared.form.lin.Lin.{Lin}
 use Rattle.diff_bounds.specs.Forms.{coef, if_small}
 use Rattle.diff_bounds.specs.Results.{added_coefs, scaled_coefs, sum_of, multiple_of}
 use Rattle.diff_bounds.proofs.Coefs.{coef-coefs_of}

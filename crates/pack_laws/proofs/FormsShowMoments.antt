@@ -12,7 +12,7 @@ use Rattle.cob_runs.specs.declared.action.Action.{Action}
 use Rattle.cob_runs.specs.Computing.{items_in_atom, are_numeric, worth}
 use Rattle.cob_edge_parts.specs.Parts.{Part, divide, store, set_count, count_down}
 use Rattle.cob_edge_parts.specs.Meaning.{Moment}
-use Rattle.diff_bounds.specs.declared.form.Lin.{Lin}
+use Rattle.diff_bounds.specs.declared.form.lin.Lin.{Lin}
 use Rattle.sum_forms.specs.SumForms.{atom_form}
 use Rattle.cell_laws.specs.Places.{IsDivided}
 use Rattle.cell_laws.proofs.Parts.{parts_are_in_place}

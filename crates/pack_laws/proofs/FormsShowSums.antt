@@ -39,7 +39,7 @@ use Rattle.cell_steps.specs.Storages.{storage, known_of, value_at, KnownStands, 
 use Rattle.cell_steps.specs.Premises.{HasSoundItems}
 use Rattle.cell_steps.specs.Cells.{known_or, units_of}
 use Rattle.cell_steps.specs.Stores.{range_at}
-use Rattle.cell_laws.proofs.HomesHold.{units_hold}
+use Rattle.cell_laws.proofs.HomesHold.{some_times, units_hold}
 use Rattle.cell_laws.proofs.PartsDone.{both_true}
 use Rattle.diff_steps.specs.Packs.{Pack, size_of, cell_of, decimals_of, pack_decimals, unit_of, cells_in}
 use Rattle.pack_laws.proofs.PacksWordsRise.{cell_within}
@@ -100,12 +100,13 @@ module _ (p : Program) (sound : HasSoundItems p.layout) (known : List Known) (by
       by_value : (o : Option ℤ) → contents_value (form_at p.layout place) (bytes_at p.layout bytes place) ≡ o → IsIn (unwrap_or (option_map (scaled_by (scale_of (form_at p.layout place))) o) (decimal (pos 0) (scale_of (form_at p.layout place)))) (range_at p known place)
       by_value None e = record {
         held = zero_in (home_range p.layout (of_item place)) (known_of (homes_of p) known (of_item place)) (zero_in_form (form_at p.layout place))
-            (subst (λ (v : Option ℤ). KnownStands (known_of (homes_of p) known (of_item place)) v) e (stands.known (of_item place)));
+            (subst (λ (v : Option ℤ). KnownStands (known_of (homes_of p) known (of_item place)) v) e
+            (stands.known (of_item place) 0 (some_times p.layout sound place)));
         scale = refl;
       }
-      by_value (Some z) e = record { held = units_hold p sound known (storage bytes counts) stands place z e; scale = refl }
+      by_value (Some z) e = record { held = units_hold p sound known (storage bytes counts) stands place 0 z (some_times p.layout sound place) e; scale = refl }
 
-  cell_value : (h : Home) (k : ℕ) → cell_of pack h ≡ Some k → cells (suc k) ≡ option_map (λ v. v *ℤ pos (unit_of p.layout pack h)) (value_at p.layout (storage bytes counts) h)
+  cell_value : (h : Home) (k : ℕ) → cell_of pack h ≡ Some k → cells (suc k) ≡ option_map (λ v. v *ℤ pos (unit_of p.layout pack h)) (value_at p.layout (storage bytes counts) h 0)
   cell_value h k e = cell.cell_value p.layout pack (storage bytes counts) k h (found_cell pack h k e)
 
   its_units : (h : Home) (k : ℕ) → cell_of pack h ≡ Some k → (z : ℤ) → (z *ℤ pos (unit_of p.layout pack h)) *ℤ pos (10 ^ decimals_of p.layout h) ≡ z *ℤ pos (10 ^ pack_decimals p.layout pack)

@@ -6,7 +6,7 @@ use Rattle.dec_num.specs.Exact.{Fraction}
 use Rattle.dec_num.specs.Scaled.{value_of}
 use Rattle.cob_program.specs.Values.{negated, plus, product, ◌>>=◌}
 use Rattle.cob_program.proofs.Steps.{some_same}
-use Rattle.diff_bounds.specs.declared.form.Lin.{Lin}
+use Rattle.diff_bounds.specs.declared.form.lin.Lin.{Lin}
 use Rattle.diff_bounds.specs.Forms.{if_small}
 use Rattle.diff_bounds.specs.Results.{sum_of, multiple_of}
 use Rattle.diff_bounds.specs.Upper.{coef_at}

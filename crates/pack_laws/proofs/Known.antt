@@ -36,14 +36,14 @@ low_differs unit (Some i) x (Some z) is old =
     min_is_one (λ (c : ℤ). IsBound c → DifferBy c (Some (pos 0)) (Some (z *ℤ pos unit))) x (neg_ℤ i.low *ℤ pos unit) old
     (λ b. let more = times_grows i.low z unit is.0 in let e = neg_ℤ_times i.low unit in omega (arith, ints, more, e))
 
-module _ (l : Layout) (homes : List Home) (known : List Known) (pack : Pack) (s : Storage) (is : (h : Home) → KnownStands (known_of homes known h) (cells.value_at l s h)) where
-  high_put : (o : Option Home) (x : ℤ) → (IsBound x → DifferBy x (o >>= λ h. in_unit (unit_of l pack h) (cells.value_at l s h)) (Some (pos 0))) → IsBound (put_high l homes known pack o x) → DifferBy (put_high l homes known pack o x) (o >>= λ h. in_unit (unit_of l pack h) (cells.value_at l s h)) (Some (pos 0))
+module _ (l : Layout) (homes : List Home) (known : List Known) (pack : Pack) (s : Storage) (is : (h : Home) → KnownStands (known_of homes known h) (cells.value_at l s h 0)) where
+  high_put : (o : Option Home) (x : ℤ) → (IsBound x → DifferBy x (o >>= λ h. in_unit (unit_of l pack h) (cells.value_at l s h 0)) (Some (pos 0))) → IsBound (put_high l homes known pack o x) → DifferBy (put_high l homes known pack o x) (o >>= λ h. in_unit (unit_of l pack h) (cells.value_at l s h 0)) (Some (pos 0))
   high_put None x old = old
-  high_put (Some h) x old = high_differs (unit_of l pack h) (known_of homes known h) x (cells.value_at l s h) (is h) old
+  high_put (Some h) x old = high_differs (unit_of l pack h) (known_of homes known h) x (cells.value_at l s h 0) (is h) old
 
-  low_put : (o : Option Home) (x : ℤ) → (IsBound x → DifferBy x (Some (pos 0)) (o >>= λ h. in_unit (unit_of l pack h) (cells.value_at l s h))) → IsBound (put_low l homes known pack o x) → DifferBy (put_low l homes known pack o x) (Some (pos 0)) (o >>= λ h. in_unit (unit_of l pack h) (cells.value_at l s h))
+  low_put : (o : Option Home) (x : ℤ) → (IsBound x → DifferBy x (Some (pos 0)) (o >>= λ h. in_unit (unit_of l pack h) (cells.value_at l s h 0))) → IsBound (put_low l homes known pack o x) → DifferBy (put_low l homes known pack o x) (Some (pos 0)) (o >>= λ h. in_unit (unit_of l pack h) (cells.value_at l s h 0))
   low_put None x old = old
-  low_put (Some h) x old = low_differs (unit_of l pack h) (known_of homes known h) x (cells.value_at l s h) (is h) old
+  low_put (Some h) x old = low_differs (unit_of l pack h) (known_of homes known h) x (cells.value_at l s h 0) (is h) old
 
   word_differs : (w : ℕ → ℕ → ℤ) (i j : ℕ) → i ≢ j → (IsBound (w i j) → DifferBy (w i j) (value_at (cells_in l pack s) i) (value_at (cells_in l pack s) j)) → IsBound (put_word l homes known pack w i j) → DifferBy (put_word l homes known pack w i j) (value_at (cells_in l pack s) i) (value_at (cells_in l pack s) j)
   word_differs w zero zero ne old = absurd (ne refl)

@@ -29,8 +29,10 @@ pub mod FormsShowGuards
 pub mod FormsShowMoments
 pub mod PacksStand
 pub mod PacksClearEnds
+pub mod Subscripts
 pub mod PacksClear
 pub mod PacksClearAll
+pub mod Occurrences
 pub mod Words
 pub mod Kept
 pub mod Stored

@@ -14,6 +14,7 @@ use Rattle.cell_laws.specs.Entry.{entry_cells}
 use Rattle.cell_laws.proofs.Entry as first_cells
 use Rattle.cell_laws.proofs.Meaning.{at_source}
 use Rattle.cell_laws.proofs.Edges.{edges_are_sound_of_sources}
+use Rattle.cell_laws.proofs.Sound.{items_are_sound}
 use Rattle.diff_steps.specs.Packs.{Pack, PacksStand}
 use Rattle.diff_steps.specs.Edges.{entry_packs, post_packs}
 use Rattle.diff_steps.specs.Clearing.{clears_edge2}
@@ -81,7 +82,8 @@ packs_mean p g packs lists facts is_packs are = record {
   stands_above = λ a b s is other below stands. all_stand_above packs lists is_packs a b s is other below stands;
   begins = λ s begins granted.
       in_row p packs (entry_packs p packs (entry_cells p)) s (entry_fits p packs is_packs.few (entry_cells p))
-      (entry_stands p packs is_packs.few (entry_cells p) s (first_cells.entry_stands p g s begins));
+      (entry_stands p packs is_packs.few (entry_cells p) (items_are_sound p.layout begins.of_source.items begins.of_source.signs) s
+      (first_cells.entry_stands p g s begins));
   kept = λ e row s t is el granted stands acts.
       let x = edge_at g e in
       let ms = matrices_in (sizes_of packs) row in

@@ -9,7 +9,7 @@ use Rattle.dec_num.proofs.Powers.{ten_positive, ten_monotone}
 use Rattle.interval_domain.specs.Corners.{interval}
 use Rattle.interval_domain.proofs.IntervalEnds.{times_grows}
 use Rattle.cob_program.specs.Values.{negated, ◌>>=◌}
-use Rattle.diff_bounds.specs.declared.form.Lin.{Lin}
+use Rattle.diff_bounds.specs.declared.form.lin.Lin.{Lin}
 use Rattle.diff_bounds.specs.Forms.{coef, dot}
 use Rattle.diff_bounds.specs.Results.{scaled_constant, sum_of, multiple_of}
 use Rattle.diff_bounds.proofs.Dots.{dot_of_multiples}

@@ -1,26 +1,32 @@
 -- Packs by rising numbers of a program's cells have no two cells of one home.
-use Rattle.std.proofs.Common.{◌≡◌, ◌≤◌, ◌<◌, ◌⊎◌, inl, inr, ℕ, ℤ, ◌-◌, List, [], ◌∷◌, map, length, Option, Some, get_or, sym, ap, subst, ◌∙◌, arith}
+use Rattle.std.proofs.Common.{◌≡◌, ◌≤◌, ◌<◌, ◌⊎◌, inl, inr, false, ℕ, ℤ, ◌-◌, List, [], ◌∷◌, map, length, Option, Some, get_or, sym, ap, subst, ◌∙◌, arith}
 use Rattle.std.specs.Prelude.{slice_get, slice_index_or, Contains}
 use Rattle.std.specs.List.{AllByRecursion}
 use Rattle.std.proofs.lemmas.Bool.{cases_lt}
 use Rattle.std.proofs.lemmas.List.{length-map, get_or-map, get_or_default}
 use Rattle.std.proofs.lemmas.Option.{slice_get_within, get_or_from_slice_get, slice_get-get_or}
+use Rattle.cob_data.specs.declared.layout.Layout.{Layout}
 use Rattle.cob_program.specs.Act.{Program}
 use Rattle.cob_graph.specs.declared.homes.Home.{Home}
 use Rattle.cob_graph.specs.declared.homes.Home.TheVariants.{Item as of_item}
 use Rattle.cob_graph.specs.Homes.{homes_of}
+use Rattle.cell_steps.specs.Cells.{is_table}
 use Rattle.diff_bounds.specs.declared.Pack as declared
 use Rattle.diff_steps.specs.Packs.{size_of}
 use Rattle.pack_laws.specs.Agreeing.{IsPackOf, ArePacksOf}
 use Rattle.pack_laws.specs.Layer.{ArePacks}
 use Rattle.pack_laws.specs.Packs.{home_at, pack_in, packs_of, AreRisingNumbers, ArePacksOfCells}
 
+-- no item is a table's
+abbrev pub HasPlainItems : Layout → Type 0
+HasPlainItems l = (place : ℕ) → is_table l place ≡ false
+
 -- no home stands at two places
 abbrev pub HasDistinctHomes : Program → Type 0
 HasDistinctHomes p = (j k : ℕ) (h : Home) → slice_get (homes_of p) j ≡ Some h → slice_get (homes_of p) k ≡ Some h → j ≡ k
 
-module _ (p : Program) (count : ℕ) (many : count ≡ length (homes_of p)) (distinct : HasDistinctHomes p) (numbers : List ℕ)
-    (are : AreRisingNumbers count numbers) where
+module _ (p : Program) (count : ℕ) (many : count ≡ length (homes_of p)) (distinct : HasDistinctHomes p) (plain : HasPlainItems p.layout)
+    (numbers : List ℕ) (are : AreRisingNumbers count numbers) where
   -- the number at a place, and what its cell is of
   record IsAt (k : ℕ) (h : Home) : Type 0 where
     within : k < length numbers
@@ -69,19 +75,21 @@ module _ (p : Program) (count : ℕ) (many : count ≡ length (homes_of p)) (dis
   is_pack = record {
     homes = λ k h e. contained k h (is_at k h e);
     distinct = λ j k h e f. one_place j k h (is_at j h e) (is_at k h f);
+    plain = λ k place e. plain place;
   }
 
   pub few_cells : size_of (pack_in (homes_of p) numbers) ≤ 8
   few_cells = let same = length-map numbers (home_at (homes_of p)) in omega (arith, same, are.few)
 
-module _ (p : Program) (count : ℕ) (many : count ≡ length (homes_of p)) (distinct : HasDistinctHomes p) where
+module _ (p : Program) (count : ℕ) (many : count ≡ length (homes_of p)) (distinct : HasDistinctHomes p)
+    (plain : HasPlainItems p.layout) where
   pub are_packs_of : (packs : List declared.Pack) → ArePacksOfCells count packs → ArePacksOf p (packs_of p packs)
   are_packs_of [] are = tt
-  are_packs_of (pack ∷ packs) are = (is_pack p count many distinct pack.cells.items are.0, are_packs_of packs are.1)
+  are_packs_of (pack ∷ packs) are = (is_pack p count many distinct plain pack.cells.items are.0, are_packs_of packs are.1)
 
   pub are_few : (packs : List declared.Pack) → ArePacksOfCells count packs → AllByRecursion (λ pack. size_of pack ≤ 8) (packs_of p packs)
   are_few [] are = tt
-  are_few (pack ∷ packs) are = (few_cells p count many distinct pack.cells.items are.0, are_few packs are.1)
+  are_few (pack ∷ packs) are = (few_cells p count many distinct plain pack.cells.items are.0, are_few packs are.1)
 
   pub are_packs : (packs : List declared.Pack) (lists : List (List ℤ)) → ArePacksOfCells count packs → length lists ≡ length packs
       → ArePacks p (packs_of p packs) lists

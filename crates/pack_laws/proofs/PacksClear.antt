@@ -25,10 +25,10 @@ use Rattle.cob_runs.specs.declared.action.Action.{Action}
 use Rattle.cob_runs.specs.Contents.{form_at, bytes_of, digits_of, scale_of, if_held, stored as stored_units}
 use Rattle.cob_runs.specs.Computing.{worth}
 use Rattle.cob_runs.specs.Moves.{number_of}
-use Rattle.cob_edge_parts.specs.Parts.{Amount, Part, read, unread, divide, store, bytes_in, guard, read_count, set_count, count_down, guard_count, parts_of, has_phrase}
+use Rattle.cob_edge_parts.specs.Parts.{Amount, Part, read, unread, subscript, index, divide, store, bytes_in, guard, read_count, set_count, count_down, guard_count, parts_of, has_phrase}
 use Rattle.cob_edge_parts.specs.Meaning.{Moment, divides_by, stored_bytes, amount, Faults}
 use Rattle.cob_edge_parts.specs.Edges.{fault_edge}
-use Rattle.diff_bounds.specs.declared.form.Lin.{Lin}
+use Rattle.diff_bounds.specs.declared.form.lin.Lin.{Lin}
 use Rattle.sum_forms.specs.SumForms.{atom_form}
 use Rattle.transfer_ranges.specs.declared.amounts.Taken.{Taken}
 use Rattle.transfer_ranges.specs.declared.amounts.AmountRange.{AmountRange}
@@ -45,7 +45,7 @@ use Rattle.cob_graph.specs.Homes.{is_home, homes_of}
 use Rattle.cell_steps.specs.OwnRanges.{picture_range}
 use Rattle.cell_steps.specs.Storages.{storage, known_of}
 use Rattle.cell_steps.specs.Cells.{known_or, units_of}
-use Rattle.cell_steps.specs.Operands.{amount_of}
+use Rattle.transfer_ranges.specs.EdgeOperands.{amount_of}
 use Rattle.cell_steps.specs.Seen.{Seen}
 use Rattle.cell_steps.specs.Stores.{range_at, handled, with_taken}
 use Rattle.cell_steps.specs.Clearing.{is_misfit, has_quotient, all_fit, clears_part}
@@ -70,6 +70,8 @@ use Rattle.pack_laws.proofs.FormsShowMoments.{shows, all_amounts_are_shown, all_
 use Rattle.pack_laws.proofs.FormsShowCounters.{lowered_told}
 use Rattle.pack_laws.proofs.PacksKeepCells.{found_cell}
 use Rattle.pack_laws.proofs.PacksKeep.{whole_scale}
+use Rattle.cell_laws.proofs.Subscripts.{fault_is}
+use Rattle.pack_laws.proofs.Subscripts.{index_stands_clear}
 use Rattle.pack_laws.proofs.PacksClearEnds.{ShowsNear, ends_hold, none_apart}
 
 -- ---- what fits
@@ -293,6 +295,11 @@ module _ (p : Program) (packs : List Pack) (of : ArePacksOf p packs) (statement 
       let c = subst (λ (w : Kind). clears_part2 p packs a x (count_down k) s r w ≡ true) is clear in
       by_home (homes_of p) (of_count k) ⊥ (λ there. down_cleared done rest k s r m e g f there c) (λ absent. other_down_cleared done k s r m g absent c)
   part_cleared done rest (read place) s r m fault e g clear h = cleared cell_laws p statement a x done rest (read place) s m fault e g.cells clear h
+  part_cleared done rest (subscript last k) s r m fault e g clear h = cleared cell_laws p statement a x done rest (subscript last k) s m fault e g.cells clear h
+  part_cleared done rest (index last k count) s r m fault e g clear (its, inl (comes, v, has, none)) =
+      index_stands_clear p packs of statement a x done k count s r m v fault g
+      (subst (λ (w : Kind). clears_part2 p packs a x (index last k count) s r w ≡ true) (fault_is count v.units fault none) clear) has none
+  part_cleared done rest (index last k count) s r m fault e g clear (its, inr (is, f)) = f
   part_cleared done rest unread s r m fault e g clear h = cleared cell_laws p statement a x done rest unread s m fault e g.cells clear h
   part_cleared done rest (bytes_in offset count) s r m fault e g clear h = cleared cell_laws p statement a x done rest (bytes_in offset count) s m fault e g.cells clear h
   part_cleared done rest (guard v wanted) s r m fault e g clear h = cleared cell_laws p statement a x done rest (guard v wanted) s m fault e g.cells clear h

@@ -15,7 +15,7 @@ use Rattle.cob_data.specs.declared.layout.Layout.{Layout}
 use Rattle.cob_program.specs.Values.{◌>>=◌}
 use Rattle.cob_program.specs.Act.{Program}
 use Rattle.dom_laws.specs.Meaning.{Storage}
-use Rattle.diff_bounds.specs.declared.form.Lin.{Lin}
+use Rattle.diff_bounds.specs.declared.form.lin.Lin.{Lin}
 use Rattle.diff_bounds.specs.Forms.{coef, dot}
 use Rattle.diff_bounds.specs.Results.{multiple_of}
 use Rattle.diff_bounds.proofs.Dots.{dot_of_multiples}
@@ -102,7 +102,7 @@ module _ (size : ℕ) (m : List ℤ) (cells : ℕ → Option ℤ) (few : size �
 
 -- ---- some pack
 
-some_shows : (p : Program) (s : Storage) (shows : Pack → List ℤ → Bool) (C : Type 0) → ((pack : Pack) (m : List ℤ) → IsPackOf p pack → size_of pack ≤ 8 → PackStands p.layout pack m s → shows pack m ≡ true → C)
+pub some_shows : (p : Program) (s : Storage) (shows : Pack → List ℤ → Bool) (C : Type 0) → ((pack : Pack) (m : List ℤ) → IsPackOf p pack → size_of pack ≤ 8 → PackStands p.layout pack m s → shows pack m ≡ true → C)
     → (packs : List Pack) (ms : List (List ℤ)) → ArePacksOf p packs → AreMatrices packs ms → PacksStand p.layout packs ms s → some_pack shows packs ms ≡ true → C
 some_shows p s shows C one [] ms of are stand e = absurd cc
 some_shows p s shows C one (pack ∷ packs) [] of are stand e = absurd cc

@@ -1,5 +1,5 @@
 -- What both layers clear at a part where more is seen they clear where less is.
-use Rattle.std.proofs.Common.{◌≡◌, ℕ, ◌+◌, Bool, true, false, ◌&&◌, ◌||◌, not, inl, inr, List, [], ◌∷◌, ℤ, pos, neg_ℤ, ◌≤ℤ◌, Option, Some, None, refl, ap, subst, ◌∙◌, arith}
+use Rattle.std.proofs.Common.{◌≡◌, ℕ, ◌+◌, ◌*◌, ◌^◌, Bool, true, false, ◌&&◌, ◌||◌, not, inl, inr, List, [], ◌∷◌, ℤ, pos, neg_ℤ, ◌≤ℤ◌, Option, Some, None, refl, ap, subst, ◌∙◌, arith}
 use Rattle.std.specs.Prelude.{int_le, int_lt}
 use Rattle.std.specs.Option.{option_map_or}
 use Rattle.std.proofs.lemmas.Int.{ints}
@@ -9,14 +9,15 @@ use Rattle.dec_num.specs.declared.types.Mode.TheVariants.{Trunc}
 use Rattle.interval_domain.specs.declared.bounds.Interval.{Interval}
 use Rattle.cob_tree.specs.declared.fault.Kind.{Kind}
 use Rattle.cob_tree.specs.declared.fault.Kind.TheVariants as kind
+use Rattle.cob_data.specs.declared.extent.Extent.{Extent}
 use Rattle.cob_data.specs.declared.layout.Sender.{Sender}
 use Rattle.cob_program.specs.Sum.{Atom}
 use Rattle.cob_program.specs.Values.{◌>>=◌}
 use Rattle.cob_program.specs.Act.{Act, Program}
 use Rattle.cob_runs.specs.declared.action.Action.{Action}
 use Rattle.cob_runs.specs.Contents.{form_at}
-use Rattle.cob_edge_parts.specs.Parts.{Amount, Part, read, unread, divide, store, bytes_in, guard, read_count, set_count, count_down, guard_count, has_phrase}
-use Rattle.diff_bounds.specs.declared.form.Lin.{Lin}
+use Rattle.cob_edge_parts.specs.Parts.{Amount, Part, read, unread, subscript, index, divide, store, bytes_in, guard, read_count, set_count, count_down, guard_count, has_phrase}
+use Rattle.diff_bounds.specs.declared.form.lin.Lin.{Lin}
 use Rattle.diff_bounds.specs.Matrix.{word}
 use Rattle.diff_bounds.specs.Numbers.{IsUnder}
 use Rattle.diff_bounds.specs.Upper.{upper_of}
@@ -35,10 +36,10 @@ use Rattle.transfer_ranges.specs.Results.{IsInside, IsInsideIfAny}
 use Rattle.transfer_ranges.specs.ResultRanges.{amount_units, most, lowered}
 use Rattle.transfer_ranges.proofs.Narrower.{units_inside}
 use Rattle.transfer_ranges.proofs.Rounding.{near_grows}
-use Rattle.cob_graph.specs.declared.homes.Home.TheVariants.{Count as of_count}
+use Rattle.cob_graph.specs.declared.homes.Home.TheVariants.{Item as of_item, Count as of_count}
 use Rattle.cob_graph.specs.Homes.{homes_of}
 use Rattle.cell_steps.specs.Cells.{units_of}
-use Rattle.cell_steps.specs.Operands.{amount_of}
+use Rattle.transfer_ranges.specs.EdgeOperands.{amount_of}
 use Rattle.cell_steps.specs.Seen.{Seen}
 use Rattle.cell_steps.specs.Stores.{range_at, with_taken}
 use Rattle.cell_steps.specs.Clearing.{is_misfit, has_quotient, clears_part}
@@ -49,16 +50,16 @@ use Rattle.cell_laws.proofs.PartsRise.{taken_rises}
 use Rattle.cell_laws.proofs.ClearsFall.{clears_below}
 use Rattle.cell_laws.proofs.ResultLawsHold.{rising}
 use Rattle.diff_steps.specs.Packs.{Pack, size_of, pack_decimals}
-use Rattle.diff_steps.specs.Moments.{Bytes, Seen2}
-use Rattle.diff_steps.specs.Forms.{cell_at, amount_form, set_form, lowered_form, has_operands}
+use Rattle.diff_steps.specs.Moments.{Seen2}
+use Rattle.diff_steps.specs.Forms.{cell_at, amount_form, set_form, subscript_form, lowered_form, has_operands}
 use Rattle.diff_steps.specs.Stores.{upper_negated}
-use Rattle.diff_steps.specs.Clearing.{some_pack, high_fits, low_fits, high_shown, low_shown, ends_fit, is_negative, is_apart_in, amounts_fit, store_fits, clears_part2}
+use Rattle.diff_steps.specs.Clearing.{some_pack, high_fits, low_fits, high_shown, low_shown, ends_fit, is_at_most, high_in_table, low_in_table, high_found, low_found, ends_in_table, is_negative, is_apart_in, amounts_fit, store_fits, clears_part2}
 use Rattle.pack_laws.specs.Agreeing.{AreMatrices}
 use Rattle.pack_laws.specs.EdgeLaws.{AreLowerEach}
 use Rattle.pack_laws.proofs.PacksPutRise.{matrix_is_flat, lower_of, negated_falls}
 use Rattle.pack_laws.proofs.SignsRise.{upper_lower_if, upper_negated_lower_if}
 use Rattle.pack_laws.proofs.PacksStoresRise.{operands_rise}
-use Rattle.pack_laws.proofs.FormsRise.{are_taken, divisor_narrower, lowered_narrower, set_narrower, amount_narrower}
+use Rattle.pack_laws.proofs.FormsRise.{are_taken, divisor_narrower, lowered_narrower, subscript_narrower, set_narrower, amount_narrower}
 
 -- ---- tests of numbers
 
@@ -91,6 +92,11 @@ low_falls : (mode : Mode) (r : Receiver) (f : ℕ) (o q : Option ℤ) → IsUnde
 low_falls mode r f o None n e = absurd cc
 low_falls mode r f None (Some v) n e = absurd n
 low_falls mode r f (Some u) (Some v) n e = above_falls _ _ (neg_ℤ (most r.digits)) (near_grows mode r.scale f (neg_ℤ v) (neg_ℤ u) (negated_falls u v n)) e
+
+at_most_falls : (most : ℤ) (o q : Option ℤ) → IsUnder o q → is_at_most most q ≡ true → is_at_most most o ≡ true
+at_most_falls most o None n e = absurd cc
+at_most_falls most None (Some v) n e = absurd n
+at_most_falls most (Some u) (Some v) n e = below_falls u v most n e
 
 negative_falls : (o q : Option ℤ) → IsUnder o q → is_negative q ≡ true → is_negative o ≡ true
 negative_falls o None n e = absurd cc
@@ -139,13 +145,29 @@ module _ (p : Program) (packs : List Pack) (r q : Seen2) (under : PacksBelow pac
       (λ pack m t lower. low_falls mode k (pack_decimals p.layout pack) (form pack >>= upper_negated (size_of pack) m) (more pack >>= upper_negated (size_of pack) t) (upper_negated_lower_if (size_of pack) m t lower (form pack) (more pack) (narrower pack)))
       packs r.packs q.packs under.low under.high under.lower))
 
+  table_ends_fall : (form more : Pack → Option Lin) → ((pack : Pack) → IsNarrowerIfAny (form pack) (more pack)) → (count : ℕ) (i j : Interval) → IsInside i j
+      → ends_in_table p packs q.packs more count j ≡ true → ends_in_table p packs r.packs form count i ≡ true
+  table_ends_fall form more narrower count i j inside =
+      both_rise (int_le j.high (pos count) || high_found p packs q.packs more count) (int_le (pos 1) j.low || low_found p packs q.packs more)
+      (int_le i.high (pos count) || high_found p packs r.packs form count) (int_le (pos 1) i.low || low_found p packs r.packs form)
+      (or_rises (int_le j.high (pos count)) (high_found p packs q.packs more count) (int_le i.high (pos count)) (high_found p packs r.packs form count)
+      (below_falls i.high j.high (pos count) inside.1)
+      (some_falls (λ pack m. high_in_table count (pack_decimals p.layout pack) (form pack >>= upper_of (size_of pack) m)) (λ pack m. high_in_table count (pack_decimals p.layout pack) (more pack >>= upper_of (size_of pack) m))
+      (λ pack m t lower. at_most_falls (pos (count * 10 ^ pack_decimals p.layout pack)) (form pack >>= upper_of (size_of pack) m) (more pack >>= upper_of (size_of pack) t) (upper_lower_if (size_of pack) m t lower (form pack) (more pack) (narrower pack)))
+      packs r.packs q.packs under.low under.high under.lower))
+      (or_rises (int_le (pos 1) j.low) (low_found p packs q.packs more) (int_le (pos 1) i.low) (low_found p packs r.packs form)
+      (above_falls i.low j.low (pos 1) inside.0)
+      (some_falls (λ pack m. low_in_table (pack_decimals p.layout pack) (form pack >>= upper_negated (size_of pack) m)) (λ pack m. low_in_table (pack_decimals p.layout pack) (more pack >>= upper_negated (size_of pack) m))
+      (λ pack m t lower. at_most_falls (neg_ℤ (pos (10 ^ pack_decimals p.layout pack))) (form pack >>= upper_negated (size_of pack) m) (more pack >>= upper_negated (size_of pack) t) (upper_negated_lower_if (size_of pack) m t lower (form pack) (more pack) (narrower pack)))
+      packs r.packs q.packs under.low under.high under.lower))
+
   module _ (a : Act) (x : Action) where
     -- ---- stores, where operands are taken
 
     module _ (s t : Seen) (below : SeenBelow p a x s t) where
       -- a form that may speak of what the edge has written to
-      along_wrote : (form : List Bytes → Option Lin) (o : Option Lin) → IsNarrowerIfAny o (form r.wrote) → IsNarrowerIfAny o (form q.wrote)
-      along_wrote form o n = subst (λ (wrote : List Bytes). IsNarrowerIfAny o (form wrote)) under.wrote n
+      along_wrote : (form : List Extent → Option Lin) (o : Option Lin) → IsNarrowerIfAny o (form r.wrote) → IsNarrowerIfAny o (form q.wrote)
+      along_wrote form o n = subst (λ (wrote : List Extent). IsNarrowerIfAny o (form wrote)) under.wrote n
 
       module _ (place : ℕ) (mode : Mode) (y : Amount) where
         abbrev its_receiver : Receiver
@@ -192,7 +214,7 @@ module _ (p : Program) (packs : List Pack) (r q : Seen2) (under : PacksBelow pac
             by_common has (Some c) (Some d) e n f = amounts_fall has c d e n f
 
             above : has_operands p s r.wrote y ≡ true → has_operands p t q.wrote y ≡ true
-            above has = subst (λ (wrote : List Bytes). has_operands p t wrote y ≡ true) under.wrote (operands_rise p a x s t below r.wrote y has)
+            above has = subst (λ (wrote : List Extent). has_operands p t wrote y ≡ true) under.wrote (operands_rise p a x s t below r.wrote y has)
 
             by_operands : (b : Bool) → has_operands p s r.wrote y ≡ b → (not (has_operands p t q.wrote y) || option_map_or (amounts_fit p packs a x t q place mode y) t.common true) ≡ true
                 → (not b || option_map_or (amounts_fit p packs a x s r place mode y) s.common true) ≡ true
@@ -264,13 +286,28 @@ module _ (p : Program) (packs : List Pack) (r q : Seen2) (under : PacksBelow pac
           (λ c e pack. along_wrote k l taken (λ wrote. set_form p pack l wrote y) (set_form p pack k r.wrote y)
           (set_narrower p a x pack k l taken r.wrote y (are_taken k.common l.common c e taken.common)))
 
+      index_falls : (k count : ℕ)
+          → ends_in_table p packs q.packs (λ pack. subscript_form p pack t [] k) count (units_of p.layout (homes_of p) t.cells (of_item k)) ≡ true
+          → ends_in_table p packs r.packs (λ pack. subscript_form p pack s [] k) count (units_of p.layout (homes_of p) s.cells (of_item k)) ≡ true
+      index_falls k count =
+          let w = units_below p.layout (homes_of p) s.cells t.cells (of_item k) below.fits below.cells in
+          table_ends_fall (λ pack. subscript_form p pack s [] k) (λ pack. subscript_form p pack t [] k) (λ pack. subscript_narrower p a x pack s t below [] k) count
+          (units_of p.layout (homes_of p) s.cells (of_item k)) (units_of p.layout (homes_of p) t.cells (of_item k)) (w.low, w.high)
+
       pub clears_part2_falls : (y : Part) (fault : Kind) → clears_part2 p packs a x y t q fault ≡ true → clears_part2 p packs a x y s r fault ≡ true
       clears_part2_falls (read place) fault e = clears_below rising p a x (read place) s t fault below e
       clears_part2_falls unread fault e = clears_below rising p a x unread s t fault below e
+      clears_part2_falls (subscript last k) fault e = clears_below rising p a x (subscript last k) s t fault below e
+      clears_part2_falls (index last k count) kind.Subscript e = index_falls k count e
+      clears_part2_falls (index last k count) kind.Size e = refl
+      clears_part2_falls (index last k count) kind.Zero e = refl
+      clears_part2_falls (index last k count) kind.Class e = refl
+      clears_part2_falls (index last k count) kind.Truncation e = refl
       clears_part2_falls (divide d) kind.Zero e = apart_falls d e
       clears_part2_falls (divide d) kind.Size e = refl
       clears_part2_falls (divide d) kind.Class e = refl
       clears_part2_falls (divide d) kind.Truncation e = refl
+      clears_part2_falls (divide d) kind.Subscript e = refl
       clears_part2_falls (store place mode y) fault e = stores_fall place mode y fault e
       clears_part2_falls (bytes_in offset count) fault e = refl
       clears_part2_falls (guard v wanted) fault e = refl
@@ -279,8 +316,10 @@ module _ (p : Program) (packs : List Pack) (r q : Seen2) (under : PacksBelow pac
       clears_part2_falls (set_count n y) kind.Zero e = refl
       clears_part2_falls (set_count n y) kind.Class e = refl
       clears_part2_falls (set_count n y) kind.Truncation e = refl
+      clears_part2_falls (set_count n y) kind.Subscript e = refl
       clears_part2_falls (count_down n) kind.Size e = down_falls n e
       clears_part2_falls (count_down n) kind.Zero e = refl
       clears_part2_falls (count_down n) kind.Class e = refl
       clears_part2_falls (count_down n) kind.Truncation e = refl
+      clears_part2_falls (count_down n) kind.Subscript e = refl
       clears_part2_falls (guard_count n wanted) fault e = refl

@@ -4,6 +4,7 @@ use Rattle.std.specs.Prelude.{IfSome, if◌then◌else◌}
 use Rattle.std.specs.Option.{option_map_or}
 use Rattle.std.proofs.lemmas.Bool.{and_parts}
 use Rattle.cob_tree.specs.declared.fault.Kind.{Kind}
+use Rattle.cob_data.specs.declared.extent.Extent.{Extent}
 use Rattle.cob_program.specs.Values.{◌>>=◌}
 use Rattle.cob_program.specs.Act.{Act, Program}
 use Rattle.cob_runs.specs.declared.action.Action.{Action}
@@ -19,7 +20,7 @@ use Rattle.cell_laws.proofs.PartsRise.{BelowIf, rises}
 use Rattle.cell_laws.proofs.EdgesRise.{begins_below}
 use Rattle.cell_laws.proofs.ResultLawsHold.{rising}
 use Rattle.diff_steps.specs.Packs.{Pack, size_of}
-use Rattle.diff_steps.specs.Moments.{Bytes, Seen2, with_packs}
+use Rattle.diff_steps.specs.Moments.{Seen2, with_packs}
 use Rattle.diff_steps.specs.Steps.{all_closed, written_by, changed_pack, changed, step2}
 use Rattle.diff_steps.specs.Edges.{bottoms, or_bottoms, beginning2, steps2, finished2, walked_packs, post_packs}
 use Rattle.diff_steps.specs.Clearing.{clears_part2, clears_parts2, clears_edge2}
@@ -65,14 +66,14 @@ module _ (p : Program) (a : Act) (x : Action) (packs : List Pack) where
     where
       lower : (after : Seen) → step p a x y s ≡ Some after → AreLowerEach packs (its_changed y s r) (its_changed y t q)
       lower after e = each_rises (changed_pack p a x y s r.wrote) (changed_pack p a x y t q.wrote)
-          (λ pack m u is are off. subst (λ (wrote : List Bytes). AreLowerOff (size_of pack) (changed_pack p a x y s r.wrote pack m) (changed_pack p a x y t wrote pack u)) under.wrote
+          (λ pack m u is are off. subst (λ (wrote : List Extent). AreLowerOff (size_of pack) (changed_pack p a x y s r.wrote pack m) (changed_pack p a x y t wrote pack u)) under.wrote
           (changed_rises p a x s t below r.wrote pack m u is are off y after e)) packs r.packs q.packs under.low under.high under.lower
 
       by_packs : (u v : Seen) → SeenBelow p a x u v → (o w : Option (List (List ℤ))) → LowerEachIf packs o w → IfSome o (AreMatrices packs) → IfSome w (AreMatrices packs)
           → BelowIf2 (o >>= λ cs. Some (u, with_packs (changed p a x packs y s r) cs)) (w >>= λ cs. Some (v, with_packs (changed p a x packs y t q) cs))
       by_packs u v k None w l f g = tt
       by_packs u v k (Some cs) None l f g = absurd l
-      by_packs u v k (Some cs) (Some ds) l f g = (k, record { wrote = ap (λ (wrote : List Bytes). written_by p a x y ++ wrote) under.wrote; low = f; high = g; lower = l })
+      by_packs u v k (Some cs) (Some ds) l f g = (k, record { wrote = ap (λ (wrote : List Extent). written_by p a x y ++ wrote) under.wrote; low = f; high = g; lower = l })
 
       by_cells : (o w : Option Seen) → step p a x y s ≡ o → BelowIf p a x o w
           → BelowIf2 (o >>= λ u. all_closed p u.cells packs (its_changed y s r) >>= λ cs. Some (u, with_packs (changed p a x packs y s r) cs)) (w >>= λ v. all_closed p v.cells packs (its_changed y t q) >>= λ cs. Some (v, with_packs (changed p a x packs y t q) cs))

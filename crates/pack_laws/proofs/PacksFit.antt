@@ -4,13 +4,14 @@ use Rattle.std.specs.Prelude.{IfSome, nat_eq, ◌&&◌, not, if◌then◌else◌
 use Rattle.std.proofs.lemmas.Int.{ints}
 use Rattle.std.proofs.lemmas.Bool.{eq-eqb}
 use Rattle.dec_num.specs.declared.types.Mode.{Mode}
+use Rattle.cob_data.specs.declared.extent.Extent.{Extent}
 use Rattle.cob_program.specs.Values.{◌>>=◌}
 use Rattle.cob_program.specs.Logic.{Test, numbers, texts, member, numeric, always}
 use Rattle.cob_program.specs.Act.{Act, Program}
 use Rattle.cob_runs.specs.declared.action.Action.{Action}
 use Rattle.cob_runs.specs.Contents.{form_at}
-use Rattle.cob_edge_parts.specs.Parts.{Amount, Part, read, unread, divide, store, bytes_in, guard, read_count, set_count, count_down, guard_count, parts_of}
-use Rattle.diff_bounds.specs.declared.form.Lin.{Lin}
+use Rattle.cob_edge_parts.specs.Parts.{Amount, Part, read, unread, subscript, index, divide, store, bytes_in, guard, read_count, set_count, count_down, guard_count, parts_of}
+use Rattle.diff_bounds.specs.declared.form.lin.Lin.{Lin}
 use Rattle.diff_bounds.specs.Matrix.{largest, IsWord, IsMatrix}
 use Rattle.transfer_ranges.specs.Receivers.{receiver_of}
 use Rattle.interval_domain.specs.Known.{Known}
@@ -20,7 +21,7 @@ use Rattle.cell_steps.specs.Stores.{handled, with_taken, amount_at, may_fail, ma
 use Rattle.cell_steps.specs.Steps.{step}
 use Rattle.diff_steps.specs.Packs.{Pack, size_of, cell_of}
 use Rattle.diff_steps.specs.Matrices.{bottom}
-use Rattle.diff_steps.specs.Moments.{Bytes, Seen2}
+use Rattle.diff_steps.specs.Moments.{Seen2}
 use Rattle.diff_steps.specs.Forms.{amount_form, has_operands}
 use Rattle.diff_steps.specs.Stores.{known_of_amount}
 use Rattle.diff_steps.specs.Steps.{all_closed, by_outcome, is_other, form_at_cell, stored_cell, stored_pack, counter_stored, guarded_pack, changed_pack, changed, step2}
@@ -64,11 +65,11 @@ module _ (p : Program) (a : Act) (x : Action) where
   form_at_cell_flat t place mode y pack to (Some form) m has =
       value_flat (size_of pack) to (receiver_of (form_at p.layout place)).signed (known_of_amount (size_of pack) m form (receiver_of (form_at p.layout place)).scale (amount_at p a x t place y)) _ m has
 
-  stored_cell_flat : (t : Seen) (wrote : List Bytes) (place : ℕ) (mode : Mode) (y : Amount) (pack : Pack) (cell : Option ℕ) (m : List ℤ) → IsFlat (size_of pack) m → IsFlat (size_of pack) (stored_cell p a x t wrote place mode y pack cell m)
+  stored_cell_flat : (t : Seen) (wrote : List Extent) (place : ℕ) (mode : Mode) (y : Amount) (pack : Pack) (cell : Option ℕ) (m : List ℤ) → IsFlat (size_of pack) m → IsFlat (size_of pack) (stored_cell p a x t wrote place mode y pack cell m)
   stored_cell_flat t wrote place mode y pack None m has = has
   stored_cell_flat t wrote place mode y pack (Some k) m has = form_at_cell_flat t place mode y pack (suc k) (amount_form p pack t wrote place y) m has
 
-  stored_flat : (t : Seen) (wrote : List Bytes) (place : ℕ) (mode : Mode) (y : Amount) (pack : Pack) (m : List ℤ) → IsFlat (size_of pack) m → IsFlat (size_of pack) (stored_pack p a x t wrote place mode y pack m)
+  stored_flat : (t : Seen) (wrote : List Extent) (place : ℕ) (mode : Mode) (y : Amount) (pack : Pack) (m : List ℤ) → IsFlat (size_of pack) m → IsFlat (size_of pack) (stored_pack p a x t wrote place mode y pack m)
   stored_flat t wrote place mode y pack m has =
       or_bottom_flat (size_of pack) (has_operands p t wrote y) _
       (cells_flat (size_of pack) (is_other p a x place) 1 pack (stored_cell p a x t wrote place mode y pack (cell_of pack (of_item place)) m)
@@ -90,9 +91,11 @@ module _ (p : Program) (a : Act) (x : Action) where
   guarded_flat s (numeric place) wanted pack m has = has
   guarded_flat s always wanted pack m has = has
 
-  pub changed_flat : (y : Part) (s : Seen) (wrote : List Bytes) (pack : Pack) (m : List ℤ) → IsFlat (size_of pack) m → IsFlat (size_of pack) (changed_pack p a x y s wrote pack m)
+  pub changed_flat : (y : Part) (s : Seen) (wrote : List Extent) (pack : Pack) (m : List ℤ) → IsFlat (size_of pack) m → IsFlat (size_of pack) (changed_pack p a x y s wrote pack m)
   changed_flat (read place) s wrote pack m has = has
   changed_flat unread s wrote pack m has = has
+  changed_flat (subscript last k) s wrote pack m has = has
+  changed_flat (index last k count) s wrote pack m has = has
   changed_flat (divide d) s wrote pack m has = has
   changed_flat (store place mode y) s wrote pack m has =
       let t = with_taken p a x s in

@@ -8,23 +8,27 @@ use Rattle.std.proofs.lemmas.List.{append_assoc, append-nil}
 use Rattle.dec_num.specs.declared.types.Mode.{Mode}
 use Rattle.dec_num.specs.declared.types.Scaled.{Scaled}
 use Rattle.dec_num.specs.Scaled.{value_of}
+use Rattle.cob_data.specs.declared.extent.Extent.{Extent}
 use Rattle.cob_data.specs.declared.layout.Item.{Item}
 use Rattle.cob_data.specs.declared.layout.Layout.{Layout}
 use Rattle.cob_data.specs.declared.layout.Sender.{Sender}
 use Rattle.cob_data.specs.declared.layout.Sender.TheVariants as sender
+use Rattle.cob_data.specs.Extents.{share_extents}
+use Rattle.cob_data.specs.Occurrences.{extent_of}
 use Rattle.cob_program.specs.Values.{negated, numeral, whole_number, ◌>>=◌}
 use Rattle.cob_program.specs.Act.{Act, Program}
 use Rattle.cob_runs.specs.declared.action.Action.{Action}
-use Rattle.cob_runs.specs.Contents.{item_at, form_at, scale_of, scaled_by, number_at}
+use Rattle.cob_runs.specs.Contents.{item_at, form_at, scale_of, scaled_by, occurrence_number}
 use Rattle.cob_runs.specs.Computing.{worth}
 use Rattle.cob_runs.specs.Moves.{number_of}
-use Rattle.cob_edge_parts.specs.Parts.{Amount, Part, read, unread, divide, store, bytes_in, guard, read_count, set_count, count_down, guard_count, parts_of}
-use Rattle.cob_edge_parts.specs.Meaning.{Moment, with_failure, divided_by_zero, is_left_alone, changed_in, divides_by, stored_bytes, stored_or_kept, Divides, Stores}
+use Rattle.cob_edge_parts.specs.Parts.{Amount, Part, read, unread, subscript, index, divide, store, bytes_in, guard, read_count, set_count, count_down, guard_count, parts_of}
+use Rattle.cob_edge_parts.specs.Meaning.{Moment, with_failure, divided_by_zero, is_left_alone, changed_in, divides_by, stored_bytes, stored_or_kept, Divides, Stores, skipped}
+use Rattle.cob_edge_parts.proofs.Subscripts.{subscript_leaves, index_leaves}
 use Rattle.cob_edge_parts.specs.Ranges.{ChangesWithin}
 use Rattle.cob_program.specs.Sum.{Atom}
 use Rattle.dom_laws.specs.Meaning.{Storage}
 use Rattle.dom_laws.specs.Walking.{IsSeen, PassesAll}
-use Rattle.diff_bounds.specs.declared.form.Lin.{Lin}
+use Rattle.diff_bounds.specs.declared.form.lin.Lin.{Lin}
 use Rattle.diff_bounds.specs.Matrix.{word}
 use Rattle.cob_edge_parts.specs.Counters.{PassesPart}
 use Rattle.diff_bounds.specs.Closed.{closed}
@@ -33,7 +37,7 @@ use Rattle.cob_graph.specs.declared.homes.Home.{Home}
 use Rattle.cob_graph.specs.declared.homes.Home.TheVariants.{Item as of_item, Count as of_count}
 use Rattle.cob_graph.specs.Homes.{homes_of}
 use Rattle.cell_steps.specs.Storages.{storage, known_of, value_at, KnownStands}
-use Rattle.cell_steps.specs.Cells.{share_bytes, is_in_bytes, is_beside}
+use Rattle.cell_steps.specs.Cells.{is_in_extent, bytes_from, is_beside}
 use Rattle.cell_steps.specs.Seen.{Seen}
 use Rattle.cell_steps.specs.Stores.{has_one_receiver, handled, keeps_receiver, with_taken}
 use Rattle.cell_steps.specs.Steps.{step}
@@ -45,10 +49,11 @@ use Rattle.cell_laws.proofs.PartsKeep.{keeps, off_zero}
 use Rattle.cell_laws.proofs.PartsDone.{both_true}
 use Rattle.diff_steps.specs.Packs.{Pack, size_of, cell_of, pack_decimals, cells_in, PackStands, PacksStand}
 use Rattle.diff_steps.specs.Matrices.{with_words, put_word}
-use Rattle.diff_steps.specs.Moments.{Bytes, Seen2, with_packs, item_bytes, is_written}
+use Rattle.diff_steps.specs.Moments.{Seen2, with_packs, item_bytes, is_written}
 use Rattle.diff_steps.specs.Forms.{is_whole_sender, sender_form, set_form, lowered_form}
 use Rattle.diff_steps.specs.Steps.{each_pack, all_closed, guarded_pack, changed_pack, written_by, changed, step2}
 use Rattle.diff_steps.specs.Edges.{steps2}
+use Rattle.pack_laws.proofs.Occurrences.{first_home}
 use Rattle.pack_laws.proofs.Words.{word_at}
 use Rattle.pack_laws.proofs.Known.{known_stands}
 use Rattle.pack_laws.specs.Agreeing.{IsTracked, AreMatrices, IsPackOf, ArePacksOf, Agrees2}
@@ -74,7 +79,7 @@ put_is_flat l homes known pack m is = record {
     go (suc i) = refl
 
 -- lowered to what is known, and closed
-pub all_closed_stand : (p : Program) (known : List Known) (s : Storage) → ((h : Home) → KnownStands (known_of (homes_of p) known h) (value_at p.layout s h))
+pub all_closed_stand : (p : Program) (known : List Known) (s : Storage) → ((h : Home) → KnownStands (known_of (homes_of p) known h) (value_at p.layout s h 0))
     → (packs : List Pack) (ms : List (List ℤ)) → AreFlat packs ms → PacksStand p.layout packs ms s → IsSomeAnd (all_closed p known packs ms) (λ cs. PacksStand p.layout packs cs s)
 all_closed_stand p known s is [] [] flat stand = tt
 all_closed_stand p known s is [] (m ∷ ms) flat stand = absurd flat
@@ -154,26 +159,31 @@ quiet_stands l pack w m n q h =
     subst (λ (bytes : List ℕ). PackStands l pack w (storage bytes n.counts)) (sym q.storage_)
     (subst (λ (counts : List (Option ℤ)). PackStands l pack w (storage m.storage counts)) (sym q.counts) h)
 
-quiet_tracked : (l : Layout) (wrote : List Bytes) (m n : Moment) → n.storage ≡ m.storage → n.first ≡ m.first → IsTracked l wrote m → IsTracked l wrote n
-quiet_tracked l wrote m n e f h = record { same = λ place k. ap (λ (bytes : List ℕ). number_at l bytes place) e ∙ h.same place k ∙ ap (λ (bytes : List ℕ). number_at l bytes place) (sym f) }
+quiet_tracked : (l : Layout) (wrote : List Extent) (m n : Moment) → n.storage ≡ m.storage → n.first ≡ m.first → IsTracked l wrote m → IsTracked l wrote n
+quiet_tracked l wrote m n e f h = record {
+  same = λ place j less k.
+      ap (λ (bytes : List ℕ). occurrence_number l bytes place j) e ∙ h.same place j less k
+      ∙ ap (λ (bytes : List ℕ). occurrence_number l bytes place j) (sym f);
+}
 
 -- ---- bytes that are written
 
-written_first : (l : Layout) (b : Bytes) (wrote : List Bytes) (place : ℕ) → is_written l (b ∷ wrote) place ≡ false → (is_in_bytes l b.offset b.count (of_item place) ≡ false) × (is_written l wrote place ≡ false)
+written_first : (l : Layout) (b : Extent) (wrote : List Extent) (place : ℕ) → is_written l (b ∷ wrote) place ≡ false
+    → (is_in_extent l b (of_item place) ≡ false) × (is_written l wrote place ≡ false)
 written_first l b wrote place e = go (item_at l place) e
   where
-    go : (o : Option Item) → option_map_or (λ i. share_bytes b.offset b.count i.offset i.length || list_any (λ c. share_bytes c.offset c.count i.offset i.length) wrote) o false ≡ false
-        → (option_map_or (λ i. share_bytes b.offset b.count i.offset i.length) o false ≡ false) × (option_map_or (λ i. list_any (λ c. share_bytes c.offset c.count i.offset i.length) wrote) o false ≡ false)
+    go : (o : Option Item) → option_map_or (λ i. share_extents b (extent_of i) || list_any (λ c. share_extents c (extent_of i)) wrote) o false ≡ false
+        → (option_map_or (λ i. share_extents b (extent_of i)) o false ≡ false) × (option_map_or (λ i. list_any (λ c. share_extents c (extent_of i)) wrote) o false ≡ false)
     go None e = (refl, refl)
-    go (Some i) e = or_parts (share_bytes b.offset b.count i.offset i.length) _ e
+    go (Some i) e = or_parts (share_extents b (extent_of i)) _ e
 
-written_item : (l : Layout) (place : ℕ) (wrote : List Bytes) (other : ℕ) → is_written l (item_bytes l place ++ wrote) other ≡ false → (is_beside l place (of_item other) ≡ false) × (is_written l wrote other ≡ false)
+written_item : (l : Layout) (place : ℕ) (wrote : List Extent) (other : ℕ) → is_written l (item_bytes l place ++ wrote) other ≡ false → (is_beside l place (of_item other) ≡ false) × (is_written l wrote other ≡ false)
 written_item l place wrote other e = go (item_at l place) e
   where
-    go : (o : Option Item) → is_written l (option_map_or (λ i. record { offset = i.offset; count = i.length } ∷ []) o [] ++ wrote) other ≡ false
-        → (option_map_or (λ i. is_in_bytes l i.offset i.length (of_item other)) o false ≡ false) × (is_written l wrote other ≡ false)
+    go : (o : Option Item) → is_written l (option_map_or (λ i. extent_of i ∷ []) o [] ++ wrote) other ≡ false
+        → (option_map_or (λ i. is_in_extent l (extent_of i) (of_item other)) o false ≡ false) × (is_written l wrote other ≡ false)
     go None e = (refl, e)
-    go (Some i) e = written_first l (record { offset = i.offset; count = i.length }) wrote other e
+    go (Some i) e = written_first l (extent_of i) wrote other e
 
 -- ---- each part
 
@@ -190,7 +200,7 @@ module _ (p : Program) (packs : List Pack) (statement : ℕ) (a : Act) (x : Acti
   bytes_change done rest offset count s m e g change = range_changes change offset count m.storage (subst (λ (j : ℕ). offset + count ≤ j) (sym g.stands.whole) (g.sound.areas done rest offset count e))
 
   -- a sender without decimals is shown by its form
-  set_shown : (pack : Pack) (of : IsPackOf p pack) (few : size_of pack ≤ 8) (t : Seen) (wrote : List Bytes) (y : Sender) (m : Moment) (v : Scaled) (sound : IsSoundEdge p statement a x) → number_of p.layout m.first y ≡ Some v
+  set_shown : (pack : Pack) (of : IsPackOf p pack) (few : size_of pack ≤ 8) (t : Seen) (wrote : List Extent) (y : Sender) (m : Moment) (v : Scaled) (sound : IsSoundEdge p statement a x) → number_of p.layout m.first y ≡ Some v
       → IfSome (sender_form p pack t wrote y) (λ form. (d : Scaled) × (value_of v ≡ value_of d) × ShowsAt p.layout pack m d form)
       → IfSome (set_form p pack t wrote y) (λ f. IsWholeShown p statement a x sound pack of few (cells_in p.layout pack (storage m.storage m.counts)) f v)
   set_shown pack of few t wrote y m v sound sent shown = by_scale (is_whole_sender p.layout y) refl
@@ -214,6 +224,8 @@ module _ (p : Program) (packs : List Pack) (statement : ℕ) (a : Act) (x : Acti
       → (keeps_receiver a x ≡ true → FailsAt p.layout y m) → (pack : Pack) (w : List ℤ) → IsPackOf p pack → size_of pack ≤ 8 → PackStands p.layout pack w (storage m.storage m.counts) → PackStands p.layout pack (changed_pack p a x y s r.wrote pack w) (storage n.storage n.counts)
   part_stands done rest (read place) s r m n e g h fails pack w of few k = quiet_stands p.layout pack w m n (of_same m n (read_moment p.layout m.by_zero place m n h.0)) k
   part_stands done rest unread s r m n e g h fails pack w of few k = absurd h.0
+  part_stands done rest (subscript last j) s r m n e g h fails pack w of few k = quiet_stands p.layout pack w m n (of_same m n (same_moment m n (subscript_leaves p.layout (skipped last m) j m n h.0))) k
+  part_stands done rest (index last j count) s r m n e g h fails pack w of few k = quiet_stands p.layout pack w m n (of_same m n (same_moment m n (index_leaves p.layout (skipped last m) j count m n h.0))) k
   part_stands done rest (divide d) s r m n e g h fails pack w of few k = quiet_stands p.layout pack w m n (divide_quiet p.layout (handled p a x) d m n h.0) k
   part_stands done rest (store place mode y) s r m n e g h fails pack w of few k =
       let q = cell_laws.places_ p statement a x done rest (store place mode y) e in
@@ -224,8 +236,8 @@ module _ (p : Program) (packs : List Pack) (statement : ℕ) (a : Act) (x : Acti
   part_stands done rest (bytes_in offset count) s r m n e g h fails pack w of few k =
       let change = h.0.0 in
       subst (λ (j : Moment). PackStands p.layout pack (changed_pack p a x (bytes_in offset count) s r.wrote pack w) (storage j.storage j.counts)) (sym h.0.1)
-      (homes_left p.layout pack (is_in_bytes p.layout offset count) (storage m.storage m.counts) (storage (changed_in change offset count m.storage) m.counts) w
-      (λ i h is apart. value_stays p.layout offset count m.storage (changed_in change offset count m.storage) m.counts (bytes_change done rest offset count s m e g.cells change) h apart) k)
+      (homes_left p.layout pack (is_in_extent p.layout (bytes_from offset count)) (storage m.storage m.counts) (storage (changed_in change offset count m.storage) m.counts) w
+      (λ i h is apart. value_stays p.layout offset count m.storage (changed_in change offset count m.storage) m.counts (bytes_change done rest offset count s m e g.cells change) h apart 0 (first_home p.layout g.cells.sound.items h)) k)
   part_stands done rest (guard v wanted) s r m n e g h fails pack w of few k =
       subst (λ (j : Moment). PackStands p.layout pack (guarded_pack p a x s v wanted pack w) (storage j.storage j.counts)) (sym h.0.1)
       (all_guards_keep p statement a x pack few done rest v wanted e s m g.cells h.0.0 w k)
@@ -248,6 +260,10 @@ module _ (p : Program) (packs : List Pack) (statement : ℕ) (a : Act) (x : Acti
       → (keeps_receiver a x ≡ true → FailsAt p.layout y m) → IsTracked p.layout (written_by p a x y ++ r.wrote) n
   part_tracked done rest (read place) s r m n e g h fails = let q = of_same m n (read_moment p.layout m.by_zero place m n h.0) in quiet_tracked p.layout r.wrote m n q.storage_ q.first g.tracked
   part_tracked done rest unread s r m n e g h fails = absurd h.0
+  part_tracked done rest (subscript last j) s r m n e g h fails =
+      let q = of_same m n (same_moment m n (subscript_leaves p.layout (skipped last m) j m n h.0)) in quiet_tracked p.layout r.wrote m n q.storage_ q.first g.tracked
+  part_tracked done rest (index last j count) s r m n e g h fails =
+      let q = of_same m n (same_moment m n (index_leaves p.layout (skipped last m) j count m n h.0)) in quiet_tracked p.layout r.wrote m n q.storage_ q.first g.tracked
   part_tracked done rest (divide d) s r m n e g h fails = let q = divide_quiet p.layout (handled p a x) d m n h.0 in quiet_tracked p.layout r.wrote m n q.storage_ q.first g.tracked
   part_tracked done rest (store place mode y) s r m n e g h fails = by_keeping (keeps_receiver a x) refl
     where
@@ -259,18 +275,21 @@ module _ (p : Program) (packs : List Pack) (statement : ℕ) (a : Act) (x : Acti
           let q = cell_laws.places_ p statement a x done rest (store place mode y) e in
           let changes = store_changes p statement a x done place mode y (with_taken p a x s) m (taken_at p statement a x cell_laws done (store place mode y) s m refl q g.cells) q (g.cells.sound.receivers done rest place mode y e) n h.0 in
           record {
-            same = λ other k.
+            same = λ other j less k.
                 let two = written_item p.layout place r.wrote other k in
-                changes.others other two.0 ∙ g.tracked.same other two.1 ∙ ap (λ (bytes : List ℕ). number_at p.layout bytes other) (sym changes.first);
+                changes.others other j less two.0 ∙ g.tracked.same other j less two.1
+                ∙ ap (λ (bytes : List ℕ). occurrence_number p.layout bytes other j) (sym changes.first);
           }
   part_tracked done rest (bytes_in offset count) s r m n e g h fails =
       let change = h.0.0 in
       subst (λ (j : Moment). IsTracked p.layout (written_by p a x (bytes_in offset count) ++ r.wrote) j) (sym h.0.1)
       (record {
-        same = λ other k.
-            let two = written_first p.layout (record { offset = offset; count = count }) r.wrote other k in
-            ap (option_map (scaled_by (scale_of (form_at p.layout other)))) (value_stays p.layout offset count m.storage (changed_in change offset count m.storage) m.counts (bytes_change done rest offset count s m e g.cells change) (of_item other) two.0)
-            ∙ g.tracked.same other two.1;
+        same = λ other j less k.
+            let two = written_first p.layout (bytes_from offset count) r.wrote other k in
+            ap (option_map (scaled_by (scale_of (form_at p.layout other))))
+            (value_stays p.layout offset count m.storage (changed_in change offset count m.storage) m.counts
+            (bytes_change done rest offset count s m e g.cells change) (of_item other) two.0 j less)
+            ∙ g.tracked.same other j less two.1;
       })
   part_tracked done rest (guard v wanted) s r m n e g h fails = let q = of_same m n (same_moment m n h.0.1) in quiet_tracked p.layout r.wrote m n q.storage_ q.first g.tracked
   part_tracked done rest (read_count j) s r m n e g h fails = let q = of_same m n (own_moment m n (whole_number h.0.0) h.0.2) in quiet_tracked p.layout r.wrote m n q.storage_ q.first g.tracked
@@ -300,7 +319,8 @@ module _ (p : Program) (packs : List Pack) (statement : ℕ) (a : Act) (x : Acti
         by_cells None k fit = absurd k
         by_cells (Some t) k fit =
             by_row t k (all_closed p t.cells packs (changed p a x packs y s r).packs)
-            (all_closed_stand p t.cells (storage n.storage n.counts) k.stands.known packs (changed p a x packs y s r).packs (changed_are_flat p a x packs y s r g.matrices)
+            (all_closed_stand p t.cells (storage n.storage n.counts)
+            (λ h. k.stands.known h 0 (first_home p.layout k.sound.items h)) packs (changed p a x packs y s r).packs (changed_are_flat p a x packs y s r g.matrices)
             (each_stand p (changed_pack p a x y s r.wrote) (storage m.storage m.counts) (storage n.storage n.counts)
             (λ pack w is few stands. part_stands done rest y s r m n e g h.0 h.1 pack w is few stands) packs r.packs of g.matrices g.stand)) fit
 

@@ -119,11 +119,11 @@ module _ (size : ℕ) (gone : Home → Bool) where
 
 module _ (l : Layout) (pack : Pack) where
   -- what a place has where it is of a home
-  pub cell_value : (s : Storage) (k : ℕ) (h : Home) → slice_get pack k ≡ Some h → cells_in l pack s (suc k) ≡ option_map (λ v. v *ℤ pos (unit_of l pack h)) (cells.value_at l s h)
-  cell_value s k h e = ap (λ (o : Option Home). o >>= λ g. option_map (λ v. v *ℤ pos (unit_of l pack g)) (cells.value_at l s g)) e
+  pub cell_value : (s : Storage) (k : ℕ) (h : Home) → slice_get pack k ≡ Some h → cells_in l pack s (suc k) ≡ option_map (λ v. v *ℤ pos (unit_of l pack h)) (cells.value_at l s h 0)
+  cell_value s k h e = ap (λ (o : Option Home). o >>= λ g. option_map (λ v. v *ℤ pos (unit_of l pack g)) (cells.value_at l s g 0)) e
 
   pub no_cell : (s : Storage) (k : ℕ) → length pack ≤ k → cells_in l pack s (suc k) ≡ None
-  no_cell s k h = ap (λ (o : Option Home). o >>= λ g. option_map (λ v. v *ℤ pos (unit_of l pack g)) (cells.value_at l s g)) (slice_get_past pack k h)
+  no_cell s k h = ap (λ (o : Option Home). o >>= λ g. option_map (λ v. v *ℤ pos (unit_of l pack g)) (cells.value_at l s g 0)) (slice_get_past pack k h)
 
   -- Behind a change of storage, and a new value of one place.
   pub cells_left : (gone : Home → Bool) (before behind : Storage) (values : ℕ → Option ℤ) (m : List ℤ)
@@ -145,14 +145,14 @@ module _ (l : Layout) (pack : Pack) where
       past (suc k) le = no_cell behind k (omega (arith, le)) ∙ sym (beyond k (omega (arith, le)) ∙ no_cell before k (omega (arith, le)))
 
   -- each home that isn't forgotten keeps its value
-  pub homes_left : (gone : Home → Bool) (before behind : Storage) (m : List ℤ) → ((k : ℕ) (h : Home) → slice_get pack k ≡ Some h → gone h ≡ false → cells.value_at l behind h ≡ cells.value_at l before h)
+  pub homes_left : (gone : Home → Bool) (before behind : Storage) (m : List ℤ) → ((k : ℕ) (h : Home) → slice_get pack k ≡ Some h → gone h ≡ false → cells.value_at l behind h 0 ≡ cells.value_at l before h 0)
       → PackStands l pack m before → PackStands l pack (forgotten_cells (size_of pack) gone 1 pack m) behind
   homes_left gone before behind m same stands =
       cells_left gone before behind (cells_in l pack before) m (λ k h. refl) refl
       (λ k h is left_. cell_value behind k h is ∙ ap (λ (o : Option ℤ). option_map (λ v. v *ℤ pos (unit_of l pack h)) o) (same k h is left_) ∙ sym (cell_value before k h is)) stands
 
   -- no cell's value changes
-  pub all_left : (before behind : Storage) (m : List ℤ) → ((k : ℕ) (h : Home) → slice_get pack k ≡ Some h → cells.value_at l behind h ≡ cells.value_at l before h)
+  pub all_left : (before behind : Storage) (m : List ℤ) → ((k : ℕ) (h : Home) → slice_get pack k ≡ Some h → cells.value_at l behind h 0 ≡ cells.value_at l before h 0)
       → PackStands l pack m before → PackStands l pack m behind
   all_left before behind m same stands = same_values (size_of pack + 1) (word (size_of pack + 1) m) (cells_in l pack before) (cells_in l pack behind) all stands
     where
@@ -160,13 +160,13 @@ module _ (l : Layout) (pack : Pack) where
       all zero = refl
       all (suc k) = go (slice_get pack k) refl
         where
-          go : (o : Option Home) → slice_get pack k ≡ o → (o >>= λ h. option_map (λ v. v *ℤ pos (unit_of l pack h)) (cells.value_at l behind h)) ≡ (o >>= λ h. option_map (λ v. v *ℤ pos (unit_of l pack h)) (cells.value_at l before h))
+          go : (o : Option Home) → slice_get pack k ≡ o → (o >>= λ h. option_map (λ v. v *ℤ pos (unit_of l pack h)) (cells.value_at l behind h 0)) ≡ (o >>= λ h. option_map (λ v. v *ℤ pos (unit_of l pack h)) (cells.value_at l before h 0))
           go None e = refl
           go (Some h) e = ap (λ (v : Option ℤ). option_map (λ v. v *ℤ pos (unit_of l pack h)) v) (same k h e)
 
   -- one cell gets a value, of which the matrix knows
   pub put_left : (gone : Home → Bool) (before behind : Storage) (at : ℕ) (z : ℤ) (m : List ℤ) → cells_in l pack behind (suc at) ≡ Some z → at < size_of pack
-      → ((k : ℕ) (h : Home) → k ≢ at → slice_get pack k ≡ Some h → gone h ≡ false → cells.value_at l behind h ≡ cells.value_at l before h)
+      → ((k : ℕ) (h : Home) → k ≢ at → slice_get pack k ≡ Some h → gone h ≡ false → cells.value_at l behind h 0 ≡ cells.value_at l before h 0)
       → StandsIn (size_of pack + 1) (word (size_of pack + 1) m) (with_value (cells_in l pack before) (suc at) z)
       → PackStands l pack (forgotten_cells (size_of pack) gone 1 pack m) behind
   put_left gone before behind at z m new within same stands =
@@ -187,7 +187,7 @@ module _ (l : Layout) (pack : Pack) where
 
   -- so where nothing is forgotten
   pub put_all : (before behind : Storage) (at : ℕ) (z : ℤ) (m : List ℤ) → cells_in l pack behind (suc at) ≡ Some z
-      → ((k : ℕ) (h : Home) → k ≢ at → slice_get pack k ≡ Some h → cells.value_at l behind h ≡ cells.value_at l before h)
+      → ((k : ℕ) (h : Home) → k ≢ at → slice_get pack k ≡ Some h → cells.value_at l behind h 0 ≡ cells.value_at l before h 0)
       → StandsIn (size_of pack + 1) (word (size_of pack + 1) m) (with_value (cells_in l pack before) (suc at) z) → PackStands l pack m behind
   put_all before behind at z m new same stands =
       same_values (size_of pack + 1) (word (size_of pack + 1) m) (with_value (cells_in l pack before) (suc at) z) (cells_in l pack behind) all stands
@@ -199,7 +199,7 @@ module _ (l : Layout) (pack : Pack) where
         | inr ne ↦ rw (ne_eqb (suc k) (suc at) (λ e. ne (omega (arith, e)))) (by_home ne (slice_get pack k) refl)
       ]
         where
-          by_home : k ≢ at → (o : Option Home) → slice_get pack k ≡ o → (o >>= λ h. option_map (λ v. v *ℤ pos (unit_of l pack h)) (cells.value_at l behind h)) ≡ (o >>= λ h. option_map (λ v. v *ℤ pos (unit_of l pack h)) (cells.value_at l before h))
+          by_home : k ≢ at → (o : Option Home) → slice_get pack k ≡ o → (o >>= λ h. option_map (λ v. v *ℤ pos (unit_of l pack h)) (cells.value_at l behind h 0)) ≡ (o >>= λ h. option_map (λ v. v *ℤ pos (unit_of l pack h)) (cells.value_at l before h 0))
           by_home ne None e = refl
           by_home ne (Some h) e = ap (λ (v : Option ℤ). option_map (λ v. v *ℤ pos (unit_of l pack h)) v) (same k h ne e)
 

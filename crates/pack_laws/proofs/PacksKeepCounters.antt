@@ -11,7 +11,7 @@ use Rattle.dec_num.specs.Scaled.{value_of}
 use Rattle.cob_program.specs.Act.{Act, Program}
 use Rattle.cob_runs.specs.declared.action.Action.{Action}
 use Rattle.cob_edge_parts.specs.Meaning.{Moment}
-use Rattle.diff_bounds.specs.declared.form.Lin.{Lin}
+use Rattle.diff_bounds.specs.declared.form.lin.Lin.{Lin}
 use Rattle.diff_bounds.specs.Forms.{coef, dot}
 use Rattle.diff_bounds.specs.Matrix.{word}
 use Rattle.diff_bounds.specs.Storages.{StandsIn}
@@ -63,7 +63,7 @@ module _ (p : Program) (statement : ℕ) (a : Act) (x : Action) (sound : IsSound
 
   -- other cells keep their values
   elsewhere : (bytes : List ℕ) (counts : List (Option ℤ)) (k : ℕ) (v : ℤ) → 1 ≤ k → (j : ℕ) (h : Home) → slice_get pack j ≡ Some h → is_home h (of_count k) ≡ false
-      → values.value_at p.layout (storage bytes (slice_set counts (k - 1) (Some v))) h ≡ values.value_at p.layout (storage bytes counts) h
+      → values.value_at p.layout (storage bytes (slice_set counts (k - 1) (Some v))) h 0 ≡ values.value_at p.layout (storage bytes counts) h 0
   elsewhere bytes counts k v first j (of_item place) e ne = refl
   elsewhere bytes counts k v first j (of_count n) e ne =
       count_elsewhere counts n k v (differs n k (sound.counts n (of.homes j (of_count n) e)).first first (apart n k ne))

@@ -9,14 +9,15 @@ use Rattle.dec_num.specs.Exact.{Fraction, near}
 use Rattle.dec_num.specs.Scaled.{value_of}
 use Rattle.cob_tree.specs.declared.form.Form.{Form}
 use Rattle.cob_tree.specs.declared.form.Form.TheVariants as form
+use Rattle.cob_data.specs.declared.extent.Extent.{Extent}
 use Rattle.interval_domain.specs.Bounds.{Holds}
 use Rattle.cob_program.specs.Act.{Act, Program}
 use Rattle.cob_runs.specs.declared.action.Action.{Action}
-use Rattle.cob_runs.specs.Contents.{form_at, bytes_of, digits_of, scale_of, scaled_by, number_at, filled_at, if_held, stored as stored_units}
+use Rattle.cob_runs.specs.Contents.{form_at, bytes_of, digits_of, scale_of, scaled_by, times_at, occurrence_number, filled_at, if_held, stored as stored_units}
 use Rattle.cob_runs.specs.Moves.{takes_number}
 use Rattle.cob_edge_parts.specs.Parts.{Amount, Part, store}
 use Rattle.cob_edge_parts.specs.Meaning.{Moment, with_storage, is_left_alone, stored_bytes, stored_or_kept, amount, Stores}
-use Rattle.diff_bounds.specs.declared.form.Lin.{Lin}
+use Rattle.diff_bounds.specs.declared.form.lin.Lin.{Lin}
 use Rattle.diff_bounds.specs.Forms.{coef, dot}
 use Rattle.diff_bounds.specs.Matrix.{word}
 use Rattle.diff_bounds.specs.Storages.{StandsIn}
@@ -33,20 +34,21 @@ use Rattle.cob_graph.specs.declared.homes.Home.{Home}
 use Rattle.cob_graph.specs.declared.homes.Home.TheVariants.{Item as of_item}
 use Rattle.cob_graph.specs.Homes.{is_home}
 use Rattle.cell_steps.specs.Storages as values
-use Rattle.cell_steps.specs.Storages.{storage}
+use Rattle.cell_steps.specs.Storages.{storage, occurrences_of}
 use Rattle.cell_steps.specs.Cells.{is_beside}
 use Rattle.cell_steps.specs.Seen.{Seen}
 use Rattle.cell_steps.specs.Stores.{handled, keeps_receiver, amount_at, result_at, may_fail, may_fit}
 use Rattle.cell_steps.specs.Agreeing.{FailsAt}
 use Rattle.cell_laws.proofs.StoreOutcomes.{result_meant, each_outcome}
+use Rattle.cell_laws.proofs.HomesHold.{some_times}
 use Rattle.cell_laws.proofs.StoresKeep.{IsItemFilled, item_is_filled, then_is, TakenAt, amount_meant}
 use Rattle.diff_steps.specs.Packs.{Pack, size_of, cell_of, pack_decimals, unit_of, cells_in, PackStands}
 use Rattle.diff_steps.specs.Matrices.{bottom}
-use Rattle.diff_steps.specs.Moments.{Bytes}
 use Rattle.diff_steps.specs.Forms.{amount_form, has_operands}
 use Rattle.diff_steps.specs.Stores.{known_of_amount, forgotten_cells}
 use Rattle.diff_steps.specs.Steps.{by_outcome, is_other, form_at_cell, stored_cell, stored_pack, is_lost, lost_pack, pack_behind_store}
 use Rattle.pack_laws.specs.Orders.{IsShown}
+use Rattle.pack_laws.proofs.Occurrences.{first_home}
 use Rattle.pack_laws.proofs.Stored.{form_stands}
 use Rattle.pack_laws.proofs.Signs.{known_is_sure}
 use Rattle.pack_laws.specs.Agreeing.{IsPackOf}
@@ -84,15 +86,17 @@ module _ (p : Program) (statement : ℕ) (a : Act) (x : Action) (done : List Par
 
   -- the item gets its number, as it is read back, and items that have none of its bytes keep theirs
   record IsFilled (held : List ℕ) (v : Fraction) : Type 0 where
-    others : (h : Home) → is_beside p.layout place h ≡ false → values.value_at p.layout (storage (filled_at p.layout m.storage place held) m.counts) h ≡ values.value_at p.layout (storage m.storage m.counts) h
+    others : (h : Home) → is_beside p.layout place h ≡ false → (n : ℕ) → n < occurrences_of p.layout h
+        → values.value_at p.layout (storage (filled_at p.layout m.storage place held) m.counts) h n ≡ values.value_at p.layout (storage m.storage m.counts) h n
     new : ((picture : List ℕ) (digits scale : ℕ) → form_at p.layout place ≡ form.Edited picture digits scale → ⊥)
-        → values.value_at p.layout (storage (filled_at p.layout m.storage place held) m.counts) (of_item place) ≡ Some (kept_units (receiver_of (form_at p.layout place)).signed (near mode v (pos (receiver_of (form_at p.layout place)).scale)))
+        → values.value_at p.layout (storage (filled_at p.layout m.storage place held) m.counts) (of_item place) 0 ≡ Some (kept_units (receiver_of (form_at p.layout place)).signed (near mode v (pos (receiver_of (form_at p.layout place)).scale)))
 
   filled : (held : List ℕ) (is : Gets held) → IsFilled held is.v
   filled held is = record { others = fill.others; new = λ uncut. by_form (form_at p.layout place) refl uncut }
     where
-      fill : IsItemFilled p.layout place (near mode is.v (pos (scale_of (form_at p.layout place)))) m.storage held m.counts
-      fill = item_is_filled p.layout place (near mode is.v (pos (scale_of (form_at p.layout place)))) m.storage held m.counts g.sound.items takes is.room is.bytes g.stands.whole
+      fill : IsItemFilled p.layout place 0 (near mode is.v (pos (scale_of (form_at p.layout place)))) m.storage held m.counts
+      fill = item_is_filled p.layout place 0 (near mode is.v (pos (scale_of (form_at p.layout place)))) m.storage held m.counts g.sound.items
+          (some_times p.layout g.sound.items place) takes is.room is.bytes g.stands.whole
 
       by_sign : (b : Bool) (z : ℤ) → (if b then z else pos (unsigned_abs z)) ≡ kept_units b z
       by_sign true z = refl
@@ -102,7 +106,7 @@ module _ (p : Program) (statement : ℕ) (a : Act) (x : Action) (done : List Par
       no_number f e none = none (subst (λ (k : Form). takes_number k ≡ true) e takes)
 
       by_form : (f : Form) → form_at p.layout place ≡ f → ((picture : List ℕ) (digits scale : ℕ) → f ≡ form.Edited picture digits scale → ⊥)
-          → values.value_at p.layout (storage (filled_at p.layout m.storage place held) m.counts) (of_item place) ≡ Some (kept_units (receiver_of f).signed (near mode is.v (pos (receiver_of f).scale)))
+          → values.value_at p.layout (storage (filled_at p.layout m.storage place held) m.counts) (of_item place) 0 ≡ Some (kept_units (receiver_of f).signed (near mode is.v (pos (receiver_of f).scale)))
       by_form form.Group e uncut = absurd (no_number form.Group e (λ h. cc))
       by_form (form.Text n) e uncut = absurd (no_number (form.Text n) e (λ h. cc))
       by_form (form.Edited picture digits scale) e uncut = absurd (uncut picture digits scale refl)
@@ -119,7 +123,7 @@ module _ (p : Program) (statement : ℕ) (a : Act) (x : Action) (done : List Par
   receiver_scale (form.Edited picture digits scale) = refl
   receiver_scale (form.Number digits scale signed kept) = refl
 
-  module _ (pack : Pack) (of : IsPackOf p pack) (few : size_of pack ≤ 8) (wrote : List Bytes) (w : List ℤ) (stands : PackStands p.layout pack w (storage m.storage m.counts)) where
+  module _ (pack : Pack) (of : IsPackOf p pack) (few : size_of pack ≤ 8) (wrote : List Extent) (w : List ℤ) (stands : PackStands p.layout pack w (storage m.storage m.counts)) where
     abbrev values_before : ℕ → Option ℤ
     values_before = cells_in p.layout pack (storage m.storage m.counts)
 
@@ -189,7 +193,7 @@ module _ (p : Program) (statement : ℕ) (a : Act) (x : Action) (done : List Par
         by_cell : (o : Option ℕ) → cell_of pack (of_item place) ≡ o → PackStands p.layout pack (forgotten_cells (size_of pack) (is_other p a x place) 1 pack (stored_cell p a x t wrote place mode y pack o w)) (storage (filled_at p.layout m.storage place held) m.counts)
         by_cell None e =
             homes_left p.layout pack (is_other p a x place) (storage m.storage m.counts) (storage (filled_at p.layout m.storage place held) m.counts) w
-            (λ k h f is_left. fill.others h (other_test h is_left (not_home pack (of_item place) h k e f))) stands
+            (λ k h f is_left. fill.others h (other_test h is_left (not_home pack (of_item place) h k e f)) 0 (first_home p.layout g.sound.items h)) stands
         by_cell (Some at) e =
             let f = found_cell pack (of_item place) at e in
             put_left p.layout pack (is_other p a x place) (storage m.storage m.counts) (storage (filled_at p.layout m.storage place held) m.counts) at (its_units is.v)
@@ -197,21 +201,21 @@ module _ (p : Program) (statement : ℕ) (a : Act) (x : Action) (done : List Par
             (cell_value p.layout pack (storage (filled_at p.layout m.storage place held) m.counts) at (of_item place) f
             ∙ ap (λ (o : Option ℤ). option_map (λ z. z *ℤ pos (unit_of p.layout pack (of_item place))) o) (fill.new (λ picture digits scale k. edited_apart p place digits scale picture k (of.homes at (of_item place) f))))
             (slice_get_within pack at (of_item place) f)
-            (λ k h ne k_is is_left. fill.others h (other_test h is_left (other_cell p pack of (of_item place) h at k f k_is ne)))
+            (λ k h ne k_is is_left. fill.others h (other_test h is_left (other_cell p pack of (of_item place) h at k f k_is ne)) 0 (first_home p.layout g.sound.items h))
             (cell_stands at f is.v (amount_meant p statement a x done place y t m g q unzero is.v is.worth_) (amount_form p pack t wrote place y) shown)
 
     -- it may be stored, or not
     lost_stored : (held : List ℕ) → Gets held → PackStands p.layout pack (lost_pack p a x place pack w) (storage (filled_at p.layout m.storage place held) m.counts)
     lost_stored held is =
         homes_left p.layout pack (is_lost p a x place) (storage m.storage m.counts) (storage (filled_at p.layout m.storage place held) m.counts) w
-        (λ k h f is_left. (filled held is).others h (lost_test h is_left)) stands
+        (λ k h f is_left. (filled held is).others h (lost_test h is_left) 0 (first_home p.layout g.sound.items h)) stands
 
     lost_kept : PackStands p.layout pack (lost_pack p a x place pack w) (storage m.storage m.counts)
     lost_kept = homes_left p.layout pack (is_lost p a x place) (storage m.storage m.counts) (storage m.storage m.counts) w (λ k h f is_left. refl) stands
 
   -- ---- the matrix behind the store
 
-  module _ (pack : Pack) (of : IsPackOf p pack) (few : size_of pack ≤ 8) (wrote : List Bytes) (w : List ℤ) (stands : PackStands p.layout pack w (storage m.storage m.counts))
+  module _ (pack : Pack) (of : IsPackOf p pack) (few : size_of pack ≤ 8) (wrote : List Extent) (w : List ℤ) (stands : PackStands p.layout pack w (storage m.storage m.counts))
       (there : m.by_zero ≡ false → (v : Fraction) → amount p.layout m y ≡ Some v → has_operands p t wrote y ≡ true)
       (shown : m.by_zero ≡ false → (v : Fraction) → amount p.layout m y ≡ Some v → IfSome (amount_form p pack t wrote place y) (ShowsValueAt p.layout pack m v)) where
     abbrev Behind : Moment → Type 0
@@ -249,22 +253,24 @@ module _ (p : Program) (statement : ℕ) (a : Act) (x : Action) (done : List Par
 
   pub record IsChanged (n : Moment) : Type 0 where
     pub first : n.first ≡ m.first
-    pub others : (other : ℕ) → is_beside p.layout place (of_item other) ≡ false → number_at p.layout n.storage other ≡ number_at p.layout m.storage other
+    pub others : (other j : ℕ) → j < times_at p.layout other → is_beside p.layout place (of_item other) ≡ false
+        → occurrence_number p.layout n.storage other j ≡ occurrence_number p.layout m.storage other j
 
   unchanged : IsChanged m
-  unchanged = record { first = refl; others = λ other e. refl }
+  unchanged = record { first = refl; others = λ other j less e. refl }
 
   filled_changes : (held : List ℕ) → stored_bytes p.layout m place mode y ≡ Some held → IsChanged (with_storage m (filled_at p.layout m.storage place held))
   filled_changes held e = record {
     first = refl;
-    others = λ other apart. ap (option_map (scaled_by (scale_of (form_at p.layout other)))) ((filled held (gets held e)).others (of_item other) apart);
+    others = λ other j less apart.
+        ap (option_map (scaled_by (scale_of (form_at p.layout other)))) ((filled held (gets held e)).others (of_item other) apart j less);
   }
 
   pub store_changes : (n : Moment) → Stores p.layout (handled p a x) place mode y m n → IsChanged n
   store_changes n h = by_edge (handled p a x) h
     where
       by_bytes : (o : Option (List ℕ)) → stored_bytes p.layout m place mode y ≡ o → IsChanged (stored_or_kept p.layout m place o)
-      by_bytes None e = record { first = refl; others = λ other apart. refl }
+      by_bytes None e = record { first = refl; others = λ other j less apart. refl }
       by_bytes (Some held) e = filled_changes held e
 
       by_alone : (b : Bool) → IsChanged (if b then m else stored_or_kept p.layout m place (stored_bytes p.layout m place mode y))

@@ -3,6 +3,7 @@ use Rattle.std.proofs.Common.{◌≡◌, ℕ, ◌+◌, Bool, true, false, List, 
 use Rattle.std.specs.Prelude.{◌&&◌, nat_le, is_some}
 use Rattle.std.specs.Option.{option_map}
 use Rattle.std.proofs.lemmas.Bool.{false≢true}
+use Rattle.cob_data.specs.declared.extent.Extent.{Extent}
 use Rattle.interval_domain.specs.declared.bounds.Interval.{Interval}
 use Rattle.cob_tree.specs.declared.token.Rel.{Rel}
 use Rattle.cob_program.specs.Sum.{Sum}
@@ -11,8 +12,8 @@ use Rattle.cob_program.specs.Logic.{numbers, texts, member, numeric, always}
 use Rattle.cob_program.specs.Act.{Act, Program}
 use Rattle.cob_runs.specs.declared.action.Action.{Action}
 use Rattle.cob_runs.specs.Deciding.{below, equal, above, holds}
-use Rattle.cob_edge_parts.specs.Parts.{Part, read, unread, divide, store, bytes_in, guard, read_count, set_count, count_down, guard_count}
-use Rattle.diff_bounds.specs.declared.form.Lin.{Lin}
+use Rattle.cob_edge_parts.specs.Parts.{Part, read, unread, subscript, index, divide, store, bytes_in, guard, read_count, set_count, count_down, guard_count}
+use Rattle.diff_bounds.specs.declared.form.lin.Lin.{Lin}
 use Rattle.diff_bounds.specs.Matrix.{word, IsMatrix}
 use Rattle.diff_bounds.specs.Values.{AreLower}
 use Rattle.sum_ranges.specs.declared.ranged.Ranged.{Ranged}
@@ -27,7 +28,7 @@ use Rattle.transfer_ranges.specs.Guards.{lone_item, sides_cut}
 use Rattle.interval_domain.specs.Known.{Known}
 use Rattle.cob_graph.specs.declared.homes.Home.TheVariants.{Count as of_count}
 use Rattle.cob_graph.specs.Homes.{homes_of}
-use Rattle.cell_steps.specs.Cells.{is_in_bytes}
+use Rattle.cell_steps.specs.Cells.{is_in_extent, bytes_from}
 use Rattle.cell_steps.specs.Seen.{Seen}
 use Rattle.cell_steps.specs.Stores.{range_at, with_taken, result_at, may_fail, stored_cells, stored_element, behind_store}
 use Rattle.cell_steps.specs.Steps.{known_as, all_cut, with_cells_if, step}
@@ -36,7 +37,6 @@ use Rattle.cell_laws.proofs.ItemRanges.{range_below}
 use Rattle.cell_laws.proofs.PartsRise.{taken_rises}
 use Rattle.cell_laws.proofs.ResultLawsHold.{rising}
 use Rattle.diff_steps.specs.Packs.{Pack, size_of, pack_decimals}
-use Rattle.diff_steps.specs.Moments.{Bytes}
 use Rattle.diff_steps.specs.Forms.{cell_at, set_form, lowered_form}
 use Rattle.diff_steps.specs.Guards.{difference_form, has_decimals, are_fine, ordered}
 use Rattle.diff_steps.specs.Steps.{guarded_pack, changed_pack}
@@ -82,7 +82,7 @@ decimals_same f cell more narrow wide (Some v) None r e h = absurd h
 decimals_same f cell more narrow wide (Some v) (Some w) r e h = ap (λ (k : ℕ). nat_le k f) h.scale
 
 -- ---- one pack
-module _ (p : Program) (a : Act) (x : Action) (s t : Seen) (under : SeenBelow p a x s t) (wrote : List Bytes) (pack : Pack) (m n : List ℤ) (is : IsMatrix (size_of pack) m) (are : IsMatrix (size_of pack) n) (lower : AreLowerOff (size_of pack) m n) where
+module _ (p : Program) (a : Act) (x : Action) (s t : Seen) (under : SeenBelow p a x s t) (wrote : List Extent) (pack : Pack) (m n : List ℤ) (is : IsMatrix (size_of pack) m) (are : IsMatrix (size_of pack) n) (lower : AreLowerOff (size_of pack) m n) where
   all_lower : AreLower (size_of pack + 1) (word (size_of pack + 1) m) (word (size_of pack + 1) n)
   all_lower = lower_of (size_of pack) m n (matrix_is_flat (size_of pack) m is) (matrix_is_flat (size_of pack) n are) lower
 
@@ -118,12 +118,14 @@ module _ (p : Program) (a : Act) (x : Action) (s t : Seen) (under : SeenBelow p 
   pub changed_rises : (y : Part) (after : Seen) → step p a x y s ≡ Some after → AreLowerOff (size_of pack) (changed_pack p a x y s wrote pack m) (changed_pack p a x y t wrote pack n)
   changed_rises (read place) after e = lower
   changed_rises unread after e = lower
+  changed_rises (subscript last k) after e = lower
+  changed_rises (index last k count) after e = lower
   changed_rises (divide d) after e = lower
   changed_rises (store place mode y) after e =
       store_rises p a x (with_taken p a x s) (with_taken p a x t) (taken_rises rising p a x s t under) wrote place mode y pack m n is are all_lower
       (store_fits p (with_taken p a x s) after place (may_fail p a x (with_taken p a x s) place mode y) (result_at p a x (with_taken p a x s) place mode y) e)
   changed_rises (bytes_in offset count) after e =
-      cells_rise (size_of pack) (is_in_bytes p.layout offset count) (is_in_bytes p.layout offset count) 1 pack m n (λ h f. f) (matrix_has_top (size_of pack) m is) (λ i j l g ne u v. lower.words i j l g ne)
+      cells_rise (size_of pack) (is_in_extent p.layout (bytes_from offset count)) (is_in_extent p.layout (bytes_from offset count)) 1 pack m n (λ h f. f) (matrix_has_top (size_of pack) m is) (λ i j l g ne u v. lower.words i j l g ne)
   changed_rises (guard (numbers b r c) wanted) after e =
       test_rises b r c wanted
       (sides_there s after (all_cut p s.cells) (λ v w. sides_cut (lone_item b) v r (lone_item c) w wanted) (sum_range (range_at p s.cells) b) (sum_range (range_at p s.cells) c) e)

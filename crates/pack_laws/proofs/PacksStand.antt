@@ -26,6 +26,7 @@ use Rattle.diff_steps.specs.Steps.{all_closed, changed, step2}
 use Rattle.diff_steps.specs.Edges.{beginning2, or_bottoms, steps2, finished2}
 use Rattle.pack_laws.specs.Agreeing.{AreMatrices, ArePacksOf, Agrees2}
 use Rattle.pack_laws.specs.EdgeLaws.{PostsStand}
+use Rattle.pack_laws.proofs.Occurrences.{first_home}
 use Rattle.pack_laws.proofs.PacksPutRise.{all_are_flat, all_fit}
 use Rattle.pack_laws.proofs.PacksKeep.{all_closed_stand, parts_keep}
 
@@ -47,14 +48,14 @@ module _ (p : Program) (packs : List Pack) (statement : ℕ) (a : Act) (x : Acti
     pub begins : (cs : List (List ℤ)) → AreMatrices packs cs → PacksStand p.layout packs cs (storage bytes counts) → Agrees2 p packs statement a x [] (beginning cells) (beginning2 cs) (run.beginning bytes counts)
     begins cs are stand = record {
       cells = cells_begin cell_laws p statement a x cells bytes counts sound stands;
-      tracked = record { same = λ place e. refl };
+      tracked = record { same = λ place n less e. refl };
       matrices = are;
       stand = stand;
     }
 
     pub closed_at : (ms : List (List ℤ)) → AreMatrices packs ms → PacksStand p.layout packs ms (storage bytes counts) → IsSomeAnd (all_closed p cells packs ms) (λ cs. AreMatrices packs cs × PacksStand p.layout packs cs (storage bytes counts))
     closed_at ms are stand =
-        both (all_closed p cells packs ms) (all_fit p cells packs ms (all_are_flat packs ms are)) (all_closed_stand p cells (storage bytes counts) stands.known packs ms (all_are_flat packs ms are) stand)
+        both (all_closed p cells packs ms) (all_fit p cells packs ms (all_are_flat packs ms are)) (all_closed_stand p cells (storage bytes counts) (λ h. stands.known h 0 (first_home p.layout sound.items h)) packs ms (all_are_flat packs ms are) stand)
       where
         both : (o : Option (List (List ℤ))) → IfSome o (AreMatrices packs) → IsSomeAnd o (λ cs. PacksStand p.layout packs cs (storage bytes counts)) → IsSomeAnd o (λ cs. AreMatrices packs cs × PacksStand p.layout packs cs (storage bytes counts))
         both None fit h = h

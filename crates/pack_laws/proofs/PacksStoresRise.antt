@@ -4,13 +4,14 @@ use Rattle.std.specs.Prelude.{◌&&◌, ◌||◌, not, if◌then◌else◌, is_s
 use Rattle.std.specs.List.{list_any}
 use Rattle.std.proofs.lemmas.Bool.{cases_eq, false≢true}
 use Rattle.dec_num.specs.declared.types.Mode.{Mode}
+use Rattle.cob_data.specs.declared.extent.Extent.{Extent}
 use Rattle.cob_program.specs.Values.{◌>>=◌}
 use Rattle.cob_program.specs.Act.{Act, Program}
 use Rattle.cob_runs.specs.declared.action.Action.{Action}
 use Rattle.cob_runs.specs.Contents.{form_at}
 use Rattle.cob_runs.specs.Computing.{items_in}
 use Rattle.cob_edge_parts.specs.Parts.{Amount, moved, computed, remaining, augmented}
-use Rattle.diff_bounds.specs.declared.form.Lin.{Lin}
+use Rattle.diff_bounds.specs.declared.form.lin.Lin.{Lin}
 use Rattle.diff_bounds.specs.Results.{IsNarrower}
 use Rattle.diff_bounds.specs.Matrix.{word, none, IsMatrix}
 use Rattle.diff_bounds.specs.Values.{AreLower}
@@ -30,7 +31,7 @@ use Rattle.cob_graph.specs.declared.homes.Home.{Home}
 use Rattle.cob_graph.specs.declared.homes.Home.TheVariants.{Item as of_item, Count as of_count}
 use Rattle.cob_graph.specs.Homes.{is_home, homes_of}
 use Rattle.cell_steps.specs.Cells.{is_beside}
-use Rattle.cell_steps.specs.Operands.{amount_of}
+use Rattle.transfer_ranges.specs.EdgeOperands.{amount_of}
 use Rattle.cell_steps.specs.Seen.{Seen}
 use Rattle.cell_steps.specs.Stores.{range_at, keeps_receiver, amount_at, may_fail, may_fit}
 use Rattle.cell_steps.specs.Order.{SeenBelow}
@@ -40,7 +41,7 @@ use Rattle.cell_laws.proofs.PartsRise.{TakenBelow, flags_rise}
 use Rattle.cell_laws.proofs.ResultLawsHold.{rising}
 use Rattle.diff_steps.specs.Packs.{Pack, size_of, cell_of, unit_of}
 use Rattle.diff_steps.specs.Matrices.{bottom}
-use Rattle.diff_steps.specs.Moments.{Bytes, is_written}
+use Rattle.diff_steps.specs.Moments.{is_written}
 use Rattle.diff_steps.specs.Forms.{amount_form, has_operands}
 use Rattle.diff_steps.specs.Stores.{known_of_amount, forgotten_cells}
 use Rattle.diff_steps.specs.Steps.{by_outcome, is_other, is_lost, form_at_cell, stored_cell, stored_pack, pack_behind_store, counter_stored, counted_pack}
@@ -64,7 +65,7 @@ module _ (p : Program) (a : Act) (x : Action) (s t : Seen) (below : SeenBelow p 
   some_rises (Some r) None n e = absurd n
   some_rises (Some r) (Some v) n e = refl
 
-  pub operands_rise : (wrote : List Bytes) (y : Amount) → has_operands p s wrote y ≡ true → has_operands p t wrote y ≡ true
+  pub operands_rise : (wrote : List Extent) (y : Amount) → has_operands p s wrote y ≡ true → has_operands p t wrote y ≡ true
   operands_rise wrote (moved y) e = e
   operands_rise wrote (computed v how) e =
       or_rises (list_any (is_written p.layout wrote) (items_in v)) (is_some (sum_range (range_at p s.cells) v)) (list_any (is_written p.layout wrote) (items_in v)) (is_some (sum_range (range_at p t.cells) v))
@@ -92,7 +93,7 @@ module _ (p : Program) (a : Act) (x : Action) (s t : Seen) (h : TakenBelow risin
           (amount_below rising y (range_at p s.cells place) (range_at p t.cells place) c d (ranges place) n) e
 
   -- ---- one pack
-  module _ (wrote : List Bytes) (place : ℕ) (mode : Mode) (y : Amount) (pack : Pack) (m n : List ℤ) (is : IsMatrix (size_of pack) m) (are : IsMatrix (size_of pack) n) (lower : AreLower (size_of pack + 1) (word (size_of pack + 1) m) (word (size_of pack + 1) n)) where
+  module _ (wrote : List Extent) (place : ℕ) (mode : Mode) (y : Amount) (pack : Pack) (m n : List ℤ) (is : IsMatrix (size_of pack) m) (are : IsMatrix (size_of pack) n) (lower : AreLower (size_of pack + 1) (word (size_of pack + 1) m) (word (size_of pack + 1) n)) where
     abbrev size : ℕ
     size = size_of pack
 

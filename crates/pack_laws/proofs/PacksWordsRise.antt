@@ -7,7 +7,7 @@ use Rattle.std.proofs.lemmas.Int.{ints, clamps}
 use Rattle.std.proofs.lemmas.Bool.{eq-eqb, ne_eqb, false≢true}
 use Rattle.interval_domain.specs.Corners.{interval}
 use Rattle.cob_program.specs.Values.{◌>>=◌}
-use Rattle.diff_bounds.specs.declared.form.Lin.{Lin}
+use Rattle.diff_bounds.specs.declared.form.lin.Lin.{Lin}
 use Rattle.diff_bounds.specs.Forms.{is_small}
 use Rattle.diff_bounds.specs.Matrix.{word, none, largest, IsWord, IsMatrix}
 use Rattle.diff_bounds.proofs.Ends.{words_of}
@@ -29,7 +29,7 @@ use Rattle.diff_steps.specs.Packs.{cell_of}
 use Rattle.diff_steps.specs.Matrices.{with_words, bottom, lesser, forgotten, assigned, demanded}
 use Rattle.diff_steps.specs.Stores.{assigned_or_forgotten, absolute_stored, value_stored, forgotten_cells}
 use Rattle.diff_steps.specs.Guards.{demanded_if, at_most, ordered}
-use Rattle.diff_bounds.specs.declared.known.Known as sure
+use Rattle.diff_bounds.specs.declared.form.known.Known as sure
 use Rattle.pack_laws.specs.Orders.{AreLowerOff}
 use Rattle.pack_laws.proofs.Words.{word_at, lesser_word, min_left, min_both}
 use Rattle.pack_laws.proofs.PacksClosingRise.{order_along}

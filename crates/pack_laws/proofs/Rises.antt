@@ -6,7 +6,7 @@ use Rattle.std.proofs.lemmas.Bool.{cases_eq, false≢true}
 use Rattle.dec_num.specs.declared.types.Mode.{Mode}
 use Rattle.dec_num.specs.declared.types.Mode.TheVariants.{Trunc, Round}
 use Rattle.cob_program.specs.Values.{◌>>=◌}
-use Rattle.diff_bounds.specs.declared.form.Lin.{Lin}
+use Rattle.diff_bounds.specs.declared.form.lin.Lin.{Lin}
 use Rattle.diff_bounds.specs.Forms.{is_small}
 use Rattle.diff_bounds.specs.Results.{IsNarrower}
 use Rattle.diff_bounds.specs.Matrix.{word, none, IsWord}
@@ -16,7 +16,7 @@ use Rattle.diff_bounds.specs.Values.{AreLower}
 use Rattle.diff_bounds.proofs.Bounded.{upper_is_word}
 use Rattle.diff_bounds.specs.Assigned.{less_place, negated}
 use Rattle.diff_bounds.proofs.Assigned.{assigned_lower}
-use Rattle.diff_bounds.specs.declared.known.Known as sure
+use Rattle.diff_bounds.specs.declared.form.known.Known as sure
 use Rattle.diff_bounds.specs.Errors.{one_sided, error_in, IsSurer}
 use Rattle.diff_bounds.proofs.Surer.{surer_inside}
 use Rattle.sum_forms.specs.Constants.{constant_form}

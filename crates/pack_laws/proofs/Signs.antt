@@ -6,7 +6,7 @@ use Rattle.std.proofs.lemmas.Bool.{or_cases, leb-true}
 use Rattle.dec_num.specs.declared.types.Scaled.{Scaled}
 use Rattle.dec_num.proofs.Powers.{ten_positive}
 use Rattle.cob_program.specs.Values.{◌>>=◌}
-use Rattle.diff_bounds.specs.declared.form.Lin.{Lin}
+use Rattle.diff_bounds.specs.declared.form.lin.Lin.{Lin}
 use Rattle.diff_bounds.specs.Forms.{coef, dot}
 use Rattle.diff_bounds.specs.Results.{scaled_coefs, multiple_of}
 use Rattle.diff_bounds.proofs.Coefs.{coef-coefs_of}

@@ -2,7 +2,7 @@
 use Rattle.std.proofs.Common.{◌≡◌, ℕ, ◌+◌, true, false, List, ℤ, pos, ◌≤ℤ◌, Option, Some, None, sym, subst, arith}
 use Rattle.std.specs.Prelude.{nat_le, int_le}
 use Rattle.cob_program.specs.Values.{◌>>=◌}
-use Rattle.diff_bounds.specs.declared.form.Lin.{Lin}
+use Rattle.diff_bounds.specs.declared.form.lin.Lin.{Lin}
 use Rattle.diff_bounds.specs.Results.{IsNarrower}
 use Rattle.diff_bounds.specs.Matrix.{word}
 use Rattle.diff_bounds.specs.Numbers.{IsUnder}

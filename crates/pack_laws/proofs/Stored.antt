@@ -11,7 +11,7 @@ use Rattle.dec_num.proofs.Powers.{ten_positive}
 use Rattle.dec_num.proofs.Signed.{neg_ℤ_times}
 use Rattle.interval_domain.specs.declared.bounds.Interval.{Interval}
 use Rattle.cob_program.specs.Values.{◌>>=◌}
-use Rattle.diff_bounds.specs.declared.form.Lin.{Lin}
+use Rattle.diff_bounds.specs.declared.form.lin.Lin.{Lin}
 use Rattle.diff_bounds.specs.Forms.{coef, dot}
 use Rattle.diff_bounds.specs.Results.{added_coefs, scaled_coefs, sum_of, multiple_of}
 use Rattle.diff_bounds.proofs.Coefs.{coef-coefs_of}
@@ -20,7 +20,7 @@ use Rattle.diff_bounds.specs.Matrix.{word}
 use Rattle.diff_bounds.specs.Storages.{StandsIn}
 use Rattle.diff_bounds.specs.Values.{worths, IsOver}
 use Rattle.diff_bounds.specs.Assigned.{with_value, AreOperands, IsValue}
-use Rattle.diff_bounds.specs.declared.known.Known as sure
+use Rattle.diff_bounds.specs.declared.form.known.Known as sure
 use Rattle.diff_bounds.specs.Errors.{error_in, stored_units, AreSure}
 use Rattle.diff_bounds.specs.Scales.{Spans, IsBetween}
 use Rattle.diff_bounds.proofs.Rounds.{within}

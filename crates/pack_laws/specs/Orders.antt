@@ -1,7 +1,7 @@
 -- What a form shows of a value, and the orders that a relation leaves.
 use Rattle.std.specs.Prelude.{◌≡◌, ◌≢◌, ℕ, suc, ◌+◌, ◌≤◌, Bool, true, List, ℤ, pos, ◌<ℤ◌, ◌≤ℤ◌, Option}
 use Rattle.dec_num.specs.declared.types.Scaled.{Scaled}
-use Rattle.diff_bounds.specs.declared.form.Lin.{Lin}
+use Rattle.diff_bounds.specs.declared.form.lin.Lin.{Lin}
 use Rattle.diff_bounds.specs.Forms.{coef, dot}
 use Rattle.diff_bounds.specs.Matrix.{word}
 use Rattle.diff_bounds.specs.Values.{worths, IsOver}

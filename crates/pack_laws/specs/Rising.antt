@@ -1,11 +1,12 @@
 -- Where less is seen, forms are narrower. Operands that have no range aren't asked for a form.
 use Rattle.std.specs.Prelude.{◌≡◌, ℕ, ◌+◌, true, List, [], ℤ, Some}
+use Rattle.cob_data.specs.declared.extent.Extent.{Extent}
 use Rattle.cob_data.specs.declared.layout.Sender.{Sender}
 use Rattle.cob_program.specs.Sum.{Sum, Atom}
 use Rattle.cob_program.specs.Act.{Act, Program}
 use Rattle.cob_runs.specs.declared.action.Action.{Action}
 use Rattle.cob_edge_parts.specs.Parts.{Amount}
-use Rattle.diff_bounds.specs.declared.form.Lin.{Lin}
+use Rattle.diff_bounds.specs.declared.form.lin.Lin.{Lin}
 use Rattle.diff_bounds.specs.Results.{IsNarrower}
 use Rattle.diff_bounds.specs.Values.{AreLower}
 use Rattle.diff_bounds.specs.Matrix.{word}
@@ -21,7 +22,6 @@ use Rattle.cell_steps.specs.Seen.{Seen}
 use Rattle.cell_steps.specs.Stores.{range_at, amount_at}
 use Rattle.cell_steps.specs.Order.{SeenBelow}
 use Rattle.diff_steps.specs.Packs.{Pack, pack_decimals}
-use Rattle.diff_steps.specs.Moments.{Bytes}
 use Rattle.diff_steps.specs.Forms.{cell_at, amount_form, sender_form, lowered_form, has_operands}
 use Rattle.diff_steps.specs.Guards.{difference_form}
 use Rattle.diff_steps.specs.Stores.{known_of_amount}
@@ -29,19 +29,19 @@ use Rattle.diff_steps.specs.Stores.{known_of_amount}
 -- what an item gets, where operands are taken
 abbrev pub AmountsRise : Type 0
 AmountsRise = (p : Program) (a : Act) (x : Action) (pack : Pack) (less more : Seen) → SeenBelow p a x less more
-    → (wrote : List Bytes) (place : ℕ) (y : Amount) (r : AmountRange) → amount_at p a x less place y ≡ Some r → has_operands p less wrote y ≡ true
+    → (wrote : List Extent) (place : ℕ) (y : Amount) (r : AmountRange) → amount_at p a x less place y ≡ Some r → has_operands p less wrote y ≡ true
     → IsNarrowerIfAny (amount_form p pack less wrote place y) (amount_form p pack more wrote place y)
 
 -- what a counter is set to, where operands are taken and have a range
 abbrev pub SendersRise : Type 0
 SendersRise = (p : Program) (a : Act) (x : Action) (pack : Pack) (less more : Seen) → SeenBelow p a x less more
-    → (wrote : List Bytes) (y : Sender) (c : Taken) → less.common ≡ Some c
+    → (wrote : List Extent) (y : Sender) (c : Taken) → less.common ≡ Some c
     → IsNarrowerIfAny (sender_form p pack less wrote y) (sender_form p pack more wrote y)
 
 -- what a counter goes down to
 abbrev pub LoweredFormsRise : Type 0
 LoweredFormsRise = (p : Program) (a : Act) (x : Action) (pack : Pack) (less more : Seen) → SeenBelow p a x less more
-    → (wrote : List Bytes) (statement : ℕ) → IsNarrowerIfAny (lowered_form p pack less wrote statement) (lowered_form p pack more wrote statement)
+    → (wrote : List Extent) (statement : ℕ) → IsNarrowerIfAny (lowered_form p pack less wrote statement) (lowered_form p pack more wrote statement)
 
 abbrev pub DivisorsRise : Type 0
 DivisorsRise = (p : Program) (a : Act) (x : Action) (pack : Pack) (less more : Seen) → SeenBelow p a x less more

@@ -4,7 +4,7 @@ ghost use Rattle.dec_num.specs.declared.types.Mode.{Mode};
 ghost use Rattle.dec_num.specs.declared.types.Scaled.{Scaled};
 ghost use Rattle.cob_data.specs.declared.layout.Layout.{Layout};
 ghost use Rattle.dom_laws.specs.Meaning.{Storage};
-ghost use Rattle.diff_bounds.specs.declared.form.Lin.{Lin};
+ghost use Rattle.diff_bounds.specs.declared.form.lin.Lin.{Lin};
 ghost use Rattle.diff_bounds.specs.Forms.{coef, dot};
 ghost use Rattle.diff_bounds.specs.Results.{IsNarrower};
 ghost use Rattle.diff_bounds.specs.Matrix.{word};
@@ -13,7 +13,7 @@ ghost use Rattle.diff_bounds.specs.Values.{worths, AreLower, IsOver};
 ghost use Rattle.diff_bounds.specs.Assigned.{with_value, AreOperands};
 ghost use Rattle.diff_bounds.specs.Demanded.{IsMet};
 ghost use Rattle.diff_bounds.specs.Forgotten.{AgreeBut};
-ghost use Rattle.diff_bounds.specs.declared.known.Known.{Known};
+ghost use Rattle.diff_bounds.specs.declared.form.known.Known.{Known};
 ghost use Rattle.diff_bounds.specs.Errors.{stored_units, AreSure, IsSurer};
 ghost use Rattle.diff_bounds.specs.Scales.{Spans};
 ghost use Rattle.transfer_ranges.specs.Receivers.{kept_units};
@@ -63,7 +63,7 @@ pub fn stored_values_stand()
 /// Lowered to what is known of its cells, a matrix keeps the storages of which that is true.
 pub fn known_cells_stand()
     ensures { (l : Layout) (homes : List Home) (known : List KnownCell) (pack : Pack) (s : Storage)
-        → ((h : Home) → KnownStands (known_of homes known h) (value_at l s h)) → (m : List ℤ) → PackStands l pack m s
+        → ((h : Home) → KnownStands (known_of homes known h) (value_at l s h 0)) → (m : List ℤ) → PackStands l pack m s
         → StandsIn (size_of pack + 1) (word (size_of pack + 1) (with_words (size_of pack) (put_word l homes known pack (word (size_of pack + 1) m)))) (cells_in l pack s) }
 {}
 

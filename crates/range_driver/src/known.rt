@@ -172,6 +172,8 @@ fn item_with(digits: u32, scale: u32) -> Item {
         name: None,
         offset: 0,
         length: digits,
+        times: 1,
+        stride: 0,
         form: Form::Number {
             digits,
             scale,

@@ -2,6 +2,7 @@
 use Rattle.std.specs.Prelude.{◌≡◌, ℕ, ◌≤◌, List, [], ◌∷◌, ◌++◌, length}
 use Rattle.reading.specs.Printing.{Alphabet, Matches, Below, Next}
 use Rattle.reading.specs.Law.{Syntax}
+use Rattle.reading.specs.Fronts.{NoFurther, one}
 
 module _ {T I M A : Type 0} (G : Alphabet T I M) (s : Syntax I M A) where
   -- some tree's text begins with the tokens
@@ -37,7 +38,7 @@ module _ {T I M A : Type 0} (G : Alphabet T I M) (s : Syntax I M A) where
       pub parts : ts ≡ read ++ left
       pub goes_on : GoesOn read
       pub below : Below G limit goes_on.before
-      pub no_further : (u : T) (rest : List T) → left ≡ u ∷ rest → GoesOn (read ++ u ∷ []) → ⊥
+      pub no_further : NoFurther one (λ front rest. GoesOn front) read left
 
     -- No tree is read, and before any token at which none goes on stands one that opens one too many.
     pub record OpensTooDeep (ts : List T) : Type 0 where

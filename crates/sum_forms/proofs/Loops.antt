@@ -3,7 +3,7 @@ use Rattle.std.proofs.Common.{◌≡◌, ℕ, pos, Bool, true, false, Option, So
 use Rattle.cob_program.specs.Sum.{Parts, more_parts, Part, MkPart, Factors, more_factors, Factor, MkFactor, Atom, item, number, group}
 use Rattle.cob_program.specs.Values.{whole_number, ◌>>=◌}
 use Rattle.cob_program.specs.Bounds.{Bound, is_small_atom}
-use Rattle.diff_bounds.specs.declared.form.Lin.{Lin}
+use Rattle.diff_bounds.specs.declared.form.lin.Lin.{Lin}
 use Rattle.diff_bounds.specs.Forms.{if_small}
 use Rattle.diff_bounds.specs.Results.{sum_of}
 use Rattle.sum_ranges.specs.declared.ranged.Ranged.{Ranged}

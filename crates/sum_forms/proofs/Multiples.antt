@@ -2,47 +2,22 @@
 use Rattle.std.proofs.Common.{◌≡◌, ℕ, ◌+◌, ◌*◌, ◌^◌, ℤ, pos, negsuc, ◌+ℤ◌, ◌*ℤ◌, ◌≤ℤ◌, sym, ap, ◌∙◌, pow-add, arith}
 use Rattle.std.proofs.lemmas.Int.{ints, clamps}
 use Rattle.std.proofs.Math.IntN.{*ℤ_comm}
-use borrow.Author.Differences.{up, down, product_is}
 use Rattle.dec_num.proofs.Signed.{times_times}
 use Rattle.interval_domain.specs.declared.bounds.Interval.{Interval}
 use Rattle.interval_domain.proofs.IntervalEnds.{times_grows, times_falls}
 use Rattle.diff_bounds.specs.Results.{scaled_constant}
-use Rattle.diff_bounds.proofs.Dots.{sum_times}
+use Rattle.diff_bounds.proofs.Dots.{sum_times, times_exchanged}
 use Rattle.diff_bounds.specs.Scales.{Spans}
-
--- the factors in another order
-pub exchanged : (x y v : ℤ) → (x *ℤ y) *ℤ v ≡ (x *ℤ v) *ℤ y
-exchanged x y v =
-    let one = product_is x y in
-    let other = product_is x v in
-    let first = product_is (x *ℤ y) v in
-    let second = product_is (x *ℤ v) y in
-    omega (
-      arith,
-      ints,
-      first.0,
-      first.1,
-      second.0,
-      second.1,
-      ap (λ (n : ℕ). n * up v) one.0,
-      ap (λ (n : ℕ). n * down v) one.0,
-      ap (λ (n : ℕ). n * up v) one.1,
-      ap (λ (n : ℕ). n * down v) one.1,
-      ap (λ (n : ℕ). n * up y) other.0,
-      ap (λ (n : ℕ). n * down y) other.0,
-      ap (λ (n : ℕ). n * up y) other.1,
-      ap (λ (n : ℕ). n * down y) other.1,
-    )
 
 -- u times the factor k * q, in units of another scale
 factor_out : (u k : ℤ) (q t : ℕ) → (u *ℤ (k *ℤ pos q)) *ℤ pos t ≡ ((u *ℤ pos t) *ℤ k) *ℤ pos q
 factor_out u k q t =
-    let first : u *ℤ (k *ℤ pos q) ≡ (u *ℤ k) *ℤ pos q = *ℤ_comm u (k *ℤ pos q) ∙ exchanged k (pos q) u ∙ ap (λ (z : ℤ). z *ℤ pos q) (*ℤ_comm k u) in
-    ap (λ (z : ℤ). z *ℤ pos t) first ∙ exchanged (u *ℤ k) (pos q) (pos t) ∙ ap (λ (z : ℤ). z *ℤ pos q) (exchanged u k (pos t))
+    let first : u *ℤ (k *ℤ pos q) ≡ (u *ℤ k) *ℤ pos q = *ℤ_comm u (k *ℤ pos q) ∙ times_exchanged k (pos q) u ∙ ap (λ (z : ℤ). z *ℤ pos q) (*ℤ_comm k u) in
+    ap (λ (z : ℤ). z *ℤ pos t) first ∙ times_exchanged (u *ℤ k) (pos q) (pos t) ∙ ap (λ (z : ℤ). z *ℤ pos q) (times_exchanged u k (pos t))
 
 -- an end times the factor, at the scale of both
 end_out : (z k : ℤ) (p q : ℕ) → (z *ℤ k) *ℤ pos (p * q) ≡ ((z *ℤ pos p) *ℤ k) *ℤ pos q
-end_out z k p q = sym (times_times (z *ℤ k) p q) ∙ ap (λ (x : ℤ). x *ℤ pos q) (exchanged z k (pos p))
+end_out z k p q = sym (times_times (z *ℤ k) p q) ∙ ap (λ (x : ℤ). x *ℤ pos q) (times_exchanged z k (pos p))
 
 -- a new end that is at most an old one times the factor
 least_end : (s c d k u : ℤ) (p q t : ℕ) → d ≤ℤ (c *ℤ k) → (((s +ℤ c) *ℤ pos p) *ℤ k) ≤ℤ ((u *ℤ pos t) *ℤ k) → ((s *ℤ k +ℤ d) *ℤ pos (p * q)) ≤ℤ ((u *ℤ (k *ℤ pos q)) *ℤ pos t)

@@ -11,7 +11,7 @@ use Rattle.diff_bounds.proofs.SmallNumbers.{small_between}
 use Rattle.cob_program.specs.Sum.{Sum, MkSum, Parts, no_parts, more_parts, Part, MkPart, Factors, no_factors, more_factors, MkFactor, Atom, item, number, group}
 use Rattle.cob_program.specs.Values.{whole_number, literal, with_factor, ◌>>=◌}
 use Rattle.cob_program.proofs.Steps.{some_bound, some_same}
-use Rattle.diff_bounds.specs.declared.form.Lin.{Lin}
+use Rattle.diff_bounds.specs.declared.form.lin.Lin.{Lin}
 use Rattle.diff_bounds.specs.Forms.{coef, is_small, if_small, IsSmallForm}
 use Rattle.diff_bounds.specs.Results.{sum_of, multiple_of, scaled_coefs, added_coefs, IsNarrower}
 use Rattle.diff_bounds.proofs.Coefs.{length-coefs_of}

@@ -10,7 +10,7 @@ use Rattle.interval_domain.specs.declared.bounds.Interval.{Interval}
 use Rattle.cob_program.specs.Sum.{Atom, item, number, group}
 use Rattle.cob_program.specs.Values.{whole_number, negated, literal, atom_value}
 use Rattle.cob_program.proofs.Steps.{some_same}
-use Rattle.diff_bounds.specs.declared.form.Lin.{Lin}
+use Rattle.diff_bounds.specs.declared.form.lin.Lin.{Lin}
 use Rattle.diff_bounds.specs.Forms.{coef, dot, if_small}
 use Rattle.diff_bounds.proofs.Coefs.{coef-coefs_of}
 use Rattle.sum_ranges.specs.declared.ranged.Ranged.{Ranged}

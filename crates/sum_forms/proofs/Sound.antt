@@ -9,7 +9,7 @@ use Rattle.interval_domain.specs.Corners.{interval}
 use Rattle.cob_program.specs.Sum.{Sum, MkSum, Parts, no_parts, more_parts, Part, MkPart, Factors, no_factors, more_factors, MkFactor, Atom, item, number, group}
 use Rattle.cob_program.specs.Values.{whole_number, negated, plus, product, literal, with_factor, ◌>>=◌, sum_value, sum_from, part_value, product_from, atom_value}
 use Rattle.cob_program.proofs.Steps.{some_bound, some_same}
-use Rattle.diff_bounds.specs.declared.form.Lin.{Lin}
+use Rattle.diff_bounds.specs.declared.form.lin.Lin.{Lin}
 use Rattle.diff_bounds.specs.Forms.{coef, dot, if_small}
 use Rattle.diff_bounds.specs.Results.{added_coefs, scaled_coefs, scaled_constant, sum_of, multiple_of}
 use Rattle.diff_bounds.proofs.Coefs.{coef-coefs_of}

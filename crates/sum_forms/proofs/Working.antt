@@ -11,14 +11,14 @@ use Rattle.cob_program.specs.declared.sum.Factor as declared_factor
 use Rattle.cob_program.specs.declared.sum.Factor.{out-Factor}
 use Rattle.cob_program.specs.Sum.{more_factors}
 use Rattle.cob_program.specs.SumView.{plain_atom}
-use Rattle.diff_bounds.specs.declared.form.Lin.{Lin}
+use Rattle.diff_bounds.specs.declared.form.lin.Lin.{Lin}
 use Rattle.diff_bounds.specs.Forms.{coefs_of, coef, AreSmallCoefs, IsSmallConstant, IsSmallForm}
 use Rattle.diff_bounds.proofs.Coefs.{coef-coefs_of, length-coefs_of}
 use Rattle.diff_bounds.proofs.Computed.{computed}
 use Rattle.sum_ranges.specs.declared.ranged.Ranged.{Ranged}
 use Rattle.sum_ranges.specs.Ranged.{decimal}
 use Rattle.sum_ranges.specs.Sizes.{IsSmallRange}
-use Rattle.sum_ranges.proofs.Loops.{factors_from, factor_is, factors_step}
+use Rattle.cob_program.proofs.SumLoops.{factors_from, factor_is, factors_step}
 use Rattle.sum_forms.specs.Constants.{floor_at, outward, constant_form, range_form, cell_form}
 use Rattle.sum_forms.specs.Literals.{whole_part, whole_of, literal_in, are_literals}
 use Rattle.sum_forms.specs.Values.{IsForm}

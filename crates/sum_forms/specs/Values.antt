@@ -1,7 +1,7 @@
 -- What forms of sums say of the sums' values.
 use Rattle.std.specs.Prelude.{◌≡◌, ◌<◌, ◌≤◌, ℕ, ◌^◌, ℤ, pos, ◌*ℤ◌, ◌≤ℤ◌, Option, Some, IfSome, IsSomeAnd}
 use Rattle.dec_num.specs.declared.types.Scaled.{Scaled}
-use Rattle.diff_bounds.specs.declared.form.Lin.{Lin}
+use Rattle.diff_bounds.specs.declared.form.lin.Lin.{Lin}
 use Rattle.diff_bounds.specs.Forms.{coef, dot, IsSmallForm}
 use Rattle.diff_bounds.specs.Results.{IsNarrower}
 use Rattle.sum_ranges.specs.declared.ranged.Ranged.{Ranged}

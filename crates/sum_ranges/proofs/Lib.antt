@@ -1,4 +1,3 @@
-pub mod Exact
 pub mod Operations
 pub mod Least
 pub mod Sound
@@ -7,7 +6,6 @@ pub mod Bounded
 pub mod Vanish
 pub mod Working
 pub mod Numerals
-pub mod Loops
 pub mod Rooms
 pub mod Roots
 pub mod Examples

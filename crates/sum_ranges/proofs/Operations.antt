@@ -15,7 +15,7 @@ use Rattle.interval_domain.specs.Corners as corner
 use Rattle.interval_domain.proofs.IntervalEnds.{low_held, high_held, times_grows, products_are_least}
 use Rattle.cob_program.specs.Values.{plus, product, quotient_scale, with_factor}
 use Rattle.cob_program.proofs.Steps.{some_same}
-use Rattle.sum_ranges.proofs.Exact.{positive_least, above_and_below, above_alone, below_alone}
+use Rattle.interval_domain.proofs.Quotients.{positive_least, above_and_below, above_alone, below_alone}
 use Rattle.sum_ranges.specs.declared.ranged.Ranged.{Ranged}
 use Rattle.sum_ranges.specs.Ranged.{decimal, ranged, IsIn, IsOrdered}
 use Rattle.sum_ranges.specs.Results.{IsResult, IsTurned, IsLeastRange, IsRangeOf}

@@ -1,10 +1,9 @@
 -- The range of a sum, one step of the work after the other, and room for each step.
-use Rattle.std.proofs.Common.{◌≡◌, ℕ, ◌+◌, ◌-◌, ◌*◌, ◌^◌, ◌≤◌, ◌<◌, ◌&&◌, ◌||◌, ℤ, pos, ◌*ℤ◌, ◌≤ℤ◌, ◌⊎◌, inl, inr, Bool, true, false, Option, Some, None, refl, sym, ap, subst, ◌∙◌, arith}
+use Rattle.std.proofs.Common.{◌≡◌, ℕ, ◌+◌, ◌-◌, ◌*◌, ◌^◌, ◌≤◌, ◌<◌, ◌&&◌, ◌||◌, ℤ, pos, ◌*ℤ◌, ◌≤ℤ◌, ◌⊎◌, inl, inr, Bool, true, false, Some, None, refl, sym, ap, subst, ◌∙◌, arith}
 use Rattle.std.specs.Prelude.{unsigned_abs, nat_le, ◌≢◌}
 use Rattle.std.proofs.lemmas.Int.{ints}
 use Rattle.std.proofs.lemmas.Nat.{mul-le}
 use Rattle.std.proofs.lemmas.Bool.{cases_lt}
-use Rattle.std.proofs.lemmas.Bool.Decides.{nat_tests}
 use Rattle.std.proofs.Math.Nat.{le_refl}
 use Rattle.dec_num.specs.declared.types.Mode.TheVariants.{Trunc}
 use Rattle.dec_num.specs.Exact.{ratio_of, near}
@@ -13,14 +12,16 @@ use Rattle.dec_num.proofs.Bounds.{size_of_sum, size_of_product, size_of_units_at
 use Rattle.interval_domain.specs.Bounds.{Holds, IsSmall, IsInterval}
 use Rattle.interval_domain.specs.Results.{IsSum, AreSmall}
 use Rattle.interval_domain.proofs.IntervalEnds.{times_grows}
-use Rattle.cob_program.specs.Sum.{MkSum, Parts, no_parts, more_parts, Part, MkPart, Factors, no_factors, more_factors, Factor, MkFactor, Atom, item, number, group}
+use Rattle.cob_program.specs.Sum.{Parts, more_parts, Part, Factors, no_factors, more_factors, Factor, MkFactor, Atom}
 use Rattle.cob_program.specs.Values.{whole_number, quotient_scale, ◌>>=◌}
-use Rattle.cob_program.specs.Bounds.{Bound, exactly, joint, raised, sum_bound, product_bound, quotient_bound, factor_bound, is_small, sum_most_from, part_most, product_most_from, atom_most, is_small_sum_from, is_small_part, is_small_product, is_small_atom}
+use Rattle.cob_program.specs.Bounds.{Bound, exactly, joint, raised, sum_bound, product_bound, quotient_bound, factor_bound, is_small, part_most, atom_most, is_small_sum_from, is_small_part, is_small_product, is_small_atom}
 use Rattle.cob_program.proofs.Steps.{some_bound, both, whole_within, factor_within}
+pub use Rattle.cob_program.proofs.SmallSums.{small_atom_most}
+use Rattle.cob_program.proofs.SmallSums.{bind_bind, at_most, one_is_small, none_is_small}
 use Rattle.sum_ranges.specs.declared.ranged.Ranged.{Ranged}
 use Rattle.sum_ranges.specs.Ranged.{decimal, point}
 use Rattle.sum_ranges.specs.SumRanges as range
-use Rattle.sum_ranges.specs.SumRanges.{turned, plus_range, factor_range, quotient_range, shift, sum_range_from, part_range, product_range_from, atom_range}
+use Rattle.sum_ranges.specs.SumRanges.{turned, plus_range, factor_range, shift, sum_range_from, part_range, product_range_from, atom_range}
 use Rattle.sum_ranges.specs.Sizes.{IsRangeWithin, IsSmallRange}
 use Rattle.sum_ranges.specs.Vanishing.{holds_zero, may_vanish_in_parts, may_vanish_in_part, may_vanish_in_product, may_vanish_in_atom}
 use Rattle.sum_ranges.specs.Working.{CanAddRanges, CanMultiplyRanges, CanDivideRanges, CanScaleRange, AreBounded, one_factor_range, HasRoom, HasRoomInSum, HasSmallFactors, HasSmallParts, operand, may_vanish_in_factor}
@@ -29,10 +30,6 @@ use Rattle.sum_ranges.proofs.Least.{in_within}
 use Rattle.sum_ranges.proofs.Bounded.{point_within, turned_within, plus_range_within, factor_range_within, small_range_of, part_range_within, atom_range_within}
 
 -- ---- one factor after the other
-
-bind_bind : {A B C : Type 0} (x : Option A) (f : A → Option B) (g : B → Option C) → (x >>= λ a. f a >>= g) ≡ ((x >>= f) >>= g)
-bind_bind None f g = refl
-bind_bind (Some a) f g = refl
 
 pub factor_first : (items : ℕ → Ranged) (a : Ranged) (f : Factor) (fs : Factors) → product_range_from items a (more_factors f fs) ≡ (one_factor_range items a f >>= λ b. product_range_from items b fs)
 factor_first items a (MkFactor over minus atom) fs = bind_bind (atom_range items atom) (λ b. factor_range over a (turned minus b)) (λ b. product_range_from items b fs)
@@ -48,41 +45,6 @@ sum_ends items a p ps none = ap (λ o. o >>= λ b. sum_range_from items (plus_ra
 
 pub sum_goes_on : (items : ℕ → Ranged) (a b next : Ranged) (p : Part) (ps : Parts) → Some b ≡ part_range items p → next ≡ plus_range a b → sum_range_from items next ps ≡ sum_range_from items a (more_parts p ps)
 sum_goes_on items a b next p ps some made = ap (λ x. sum_range_from items x ps) made ∙ ap (λ o. o >>= λ b. sum_range_from items (plus_range a b) ps) some
-
--- ---- bounds
-
-at_most : (a b : ℕ) → nat_le a b ≡ true → a ≤ b
-at_most a b e = grind (arith, nat_tests)
-
-pub one_is_small : is_small (exactly 1) ≡ true
-one_is_small = refl
-
-pub none_is_small : is_small (exactly 0) ≡ true
-none_is_small = refl
-
-small_product_most : (bound : ℕ → Bound) (a : Bound) (fs : Factors) → is_small a ≡ true → is_small_product bound a fs ≡ true → is_small (product_most_from bound a fs) ≡ true
-small_product_most bound a no_factors s e = s
-small_product_most bound a (more_factors (MkFactor over minus atom) fs) s e =
-    let next = factor_bound over a (atom_most bound atom) in
-    let l = both (is_small_atom bound atom) (is_small next && is_small_product bound next fs) e in
-    let m = both (is_small next) (is_small_product bound next fs) l.1 in
-    small_product_most bound next fs m.0 m.1
-
-small_sum_most : (bound : ℕ → Bound) (a : Bound) (ps : Parts) → is_small a ≡ true → is_small_sum_from bound a ps ≡ true → is_small (sum_most_from bound a ps) ≡ true
-small_sum_most bound a no_parts s e = s
-small_sum_most bound a (more_parts p ps) s e =
-    let next = sum_bound a (part_most bound p) in
-    let l = both (is_small_part bound p) (is_small next && is_small_sum_from bound next ps) e in
-    let m = both (is_small next) (is_small_sum_from bound next ps) l.1 in
-    small_sum_most bound next ps m.0 m.1
-
-pub small_part_most : (bound : ℕ → Bound) (p : Part) → is_small_part bound p ≡ true → is_small (part_most bound p) ≡ true
-small_part_most bound (MkPart minus fs) e = small_product_most bound (exactly 1) fs one_is_small e
-
-pub small_atom_most : (bound : ℕ → Bound) (a : Atom) → is_small_atom bound a ≡ true → is_small (atom_most bound a) ≡ true
-small_atom_most bound (item place) e = e
-small_atom_most bound (number n) e = e
-small_atom_most bound (group (MkSum ps)) e = small_sum_most bound (exactly 0) ps none_is_small e
 
 -- ---- what is left has room
 

@@ -1,11 +1,8 @@
 -- What is known of a sum where it is taken for a statement.
-use Rattle.std.specs.Prelude.{ℕ, Bool, true, false, List, map, Option, Some, None, option_map, pos, ◌&&◌}
-use Rattle.std.specs.Borrow.{Bor}
-use Rattle.cob_program.specs.declared.sum.Factor as declared_factor
-use Rattle.cob_program.specs.Sum.{Sum, Factors, factors_of, Factor, MkFactor}
-use Rattle.cob_program.specs.SumView.{plain_factor}
+use Rattle.std.specs.Prelude.{ℕ, Bool, true, false, Option, Some, None, option_map, pos}
+use Rattle.cob_program.specs.Sum.{Sum}
 use Rattle.cob_program.specs.Values.{whole_number, Root, root_of, ◌>>=◌}
-use Rattle.cob_program.specs.Bounds.{Bound, exactly, is_small_sum, is_small_product, is_small_atom, is_small_stored}
+use Rattle.cob_program.specs.Bounds.{Bound, is_small_sum, is_small_stored}
 use Rattle.sum_ranges.specs.declared.ranged.Ranged.{Ranged}
 use Rattle.sum_ranges.specs.declared.taking.Taken.{Taken}
 use Rattle.sum_ranges.specs.Ranged.{point}
@@ -38,15 +35,3 @@ module _ (range : ℕ → Ranged) where
 abbrev pub is_small_taken : (ℕ → Bound) → Bool → Sum → Bool
 is_small_taken bound true s = is_small_stored bound s
 is_small_taken bound false s = is_small_sum bound s
-
--- ---- roots as the code has them
-
--- a factor divides those before it
-abbrev pub root_with : Factors → Factor → Root
-root_with above (MkFactor over minus atom) = record { above = above; minus = minus; below = atom }
-
-abbrev pub plain_root : Bor (List declared_factor.Factor) × Bor declared_factor.Factor → Root
-plain_root x = root_with (factors_of (map plain_factor x.0.now)) (plain_factor x.1.now)
-
-abbrev pub is_small_quotient : (ℕ → Bound) → Root → Bool
-is_small_quotient bound r = is_small_product bound (exactly 1) r.above && is_small_atom bound r.below

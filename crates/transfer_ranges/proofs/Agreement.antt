@@ -9,7 +9,7 @@ use Rattle.cob_program.proofs.Steps.{both}
 use Rattle.cob_runs.specs.Contents.{number_at}
 use Rattle.cob_runs.specs.Computing.{items_in, items_in_parts, items_in_factors, items_in_atom, are_numeric, worth}
 
-bind_same : {A B : Type 0} (x y : Option A) (f g : A → Option B) → x ≡ y → ((a : A) → f a ≡ g a) → (x >>= f) ≡ (y >>= g)
+pub bind_same : {A B : Type 0} (x y : Option A) (f g : A → Option B) → x ≡ y → ((a : A) → f a ≡ g a) → (x >>= f) ≡ (y >>= g)
 bind_same None y f g e h = ap (λ o. o >>= g) e
 bind_same (Some a) y f g e h = h a ∙ ap (λ o. o >>= g) e
 
@@ -19,11 +19,11 @@ module _ (f g : ℕ → Scaled) where
   Agree [] = Unit {0}
   Agree (p ∷ ps) = (f p ≡ g p) × Agree ps
 
-  agree_front : (xs ys : List ℕ) → Agree (xs ++ ys) → Agree xs
+  pub agree_front : (xs ys : List ℕ) → Agree (xs ++ ys) → Agree xs
   agree_front [] ys h = tt
   agree_front (x ∷ xs) ys h = (h.0, agree_front xs ys h.1)
 
-  agree_back : (xs ys : List ℕ) → Agree (xs ++ ys) → Agree ys
+  pub agree_back : (xs ys : List ℕ) → Agree (xs ++ ys) → Agree ys
   agree_back [] ys h = h
   agree_back (x ∷ xs) ys h = agree_back xs ys h.1
 
@@ -38,7 +38,7 @@ module _ (f g : ℕ → Scaled) where
         (ap (λ o. o >>= λ b. Some (negated minus b)) (same_product fs (whole_number (pos 1)) (agree_front (items_in_factors fs) (items_in_parts ps) h)))
         (λ b. same_sum_from ps (plus a b) (agree_back (items_in_factors fs) (items_in_parts ps) h))
 
-    same_product : (fs : Factors) (a : Scaled) → Agree (items_in_factors fs) → product_from f a fs ≡ product_from g a fs
+    pub same_product : (fs : Factors) (a : Scaled) → Agree (items_in_factors fs) → product_from f a fs ≡ product_from g a fs
     same_product no_factors a h = refl
     same_product (more_factors (MkFactor over minus atom) fs) a h =
         bind_same (atom_value f atom) (atom_value g atom) (λ b. with_factor over a (negated minus b) >>= λ c. product_from f c fs) (λ b. with_factor over a (negated minus b) >>= λ c. product_from g c fs)
@@ -46,7 +46,7 @@ module _ (f g : ℕ → Scaled) where
         (λ b. bind_same (with_factor over a (negated minus b)) (with_factor over a (negated minus b)) (λ c. product_from f c fs) (λ c. product_from g c fs) refl
         (λ c. same_product fs c (agree_back (items_in_atom atom) (items_in_factors fs) h)))
 
-    same_atom : (a : Atom) → Agree (items_in_atom a) → atom_value f a ≡ atom_value g a
+    pub same_atom : (a : Atom) → Agree (items_in_atom a) → atom_value f a ≡ atom_value g a
     same_atom (item place) h = ap Some h.0
     same_atom (number n) h = refl
     same_atom (group s) h = same_sum s h
@@ -58,7 +58,7 @@ module _ (l : Layout) (storage : List ℕ) (other : ℕ → Scaled) where
   same_number None a b e = absurd cc
   same_number (Some v) a b e = refl
 
-  numeric_agree : (places : List ℕ) → are_numeric l storage places ≡ true → Agree (worth l storage) (λ place. unwrap_or (number_at l storage place) (other place)) places
+  pub numeric_agree : (places : List ℕ) → are_numeric l storage places ≡ true → Agree (worth l storage) (λ place. unwrap_or (number_at l storage place) (other place)) places
   numeric_agree [] e = tt
   numeric_agree (p ∷ ps) e =
       let k = both (is_some (number_at l storage p)) (are_numeric l storage ps) e in

@@ -11,7 +11,7 @@ use Rattle.dec_num.specs.Exact.{near, ratio_of}
 use Rattle.dec_num.proofs.Powers.{ten_positive}
 use Rattle.dec_num.proofs.Signed.{neg_ℤ_times, times_times}
 use Rattle.cob_program.specs.Values.{negated, plus, product}
-use Rattle.transfer_ranges.proofs.Shifting.{near_shift}
+use Rattle.dec_num.proofs.Shifting.{near_shift}
 
 -- by sizes: the quotient of sizes n and d, with the signs put back
 left_over : (n d q : ℕ) → q ≡ n / d → 0 < d → (d * q ≤ n) × (n - d * q < d)

@@ -15,7 +15,6 @@ pub mod SideLists
 pub mod GuardExamples
 pub mod CountLaws
 pub mod Keeping
-pub mod Shifting
 pub mod Leftovers
 pub mod Rounding
 pub mod Rests
@@ -27,3 +26,4 @@ pub mod Capping
 pub mod Working
 pub mod Bounding
 pub mod Examples
+pub mod TakenLemmas

@@ -17,14 +17,14 @@ use Rattle.cob_program.specs.Values.{exact_quotient}
 use Rattle.cob_program.proofs.Steps.{some_same}
 use Rattle.sum_ranges.specs.declared.ranged.Ranged.{Ranged}
 use Rattle.sum_ranges.specs.Ranged.{decimal, IsIn, IsOrdered}
-use Rattle.sum_ranges.proofs.Exact.{positive_least, above_and_below, above_alone, below_alone}
+use Rattle.interval_domain.proofs.Quotients.{positive_least, above_and_below, above_alone, below_alone}
 use Rattle.sum_ranges.proofs.Operations.{in_range, not_zero}
 use Rattle.transfer_ranges.specs.declared.amounts.AmountRange.TheVariants as range
 use Rattle.transfer_ranges.specs.Amounts.{IsNear}
 use Rattle.transfer_ranges.specs.Results.{IsLeastIfAny}
 use Rattle.transfer_ranges.specs.ResultRanges.{near_range, quotients, quotient_units}
 use Rattle.transfer_ranges.proofs.Keeping.{le_of, least_same}
-use Rattle.transfer_ranges.proofs.Shifting.{near_shift}
+use Rattle.dec_num.proofs.Shifting.{near_shift}
 
 -- ---- decimals
 

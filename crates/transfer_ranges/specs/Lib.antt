@@ -15,3 +15,7 @@ pub mod Results
 pub mod ResultRanges
 pub mod Sizes
 pub mod Bounded
+pub mod AmountView
+pub mod SmallAmounts
+pub mod EdgeOperands
+pub mod Working

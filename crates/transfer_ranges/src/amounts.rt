@@ -1,5 +1,20 @@
-//! What is known of operands, of amounts, and of receivers.
+//! Amounts that receivers are to get; and what is known of operands, of amounts, and of receivers.
+use cob_data::Sender;
+use cob_program::{How, Sum};
 use sum_ranges::Ranged;
+
+/// What a receiver gets.
+#[derive(Clone, Copy)]
+pub enum Amount<'a> {
+    /// The number of a sender.
+    Moved(&'a Sender),
+    /// The result of a sum, and of the receiver's own number where `How` says so.
+    Computed(&'a Sum, How),
+    /// The remainder of a division whose quotient's item has so many decimals.
+    Remaining(&'a Sum, u32),
+    /// The receiver's own number, and a sender's added.
+    Augmented(&'a Sender),
+}
 
 /// The range of a sum; where its whole is a quotient that stays exact until it is stored, those of what is divided and of
 /// what divides.

@@ -1,4 +1,4 @@
-use Rattle.cob_lex.proofs.TokenLemmas.{refused_is}
+use Rattle.cob_lex.proofs.Spelling.{refused_is}
 use Rattle.cob_lex.proofs.tokens_of.Goals as goal
 
 pub returns-in-Err-clause-bad_token : goal.returns-in-Err-clause-bad_token

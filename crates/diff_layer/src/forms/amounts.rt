@@ -1,10 +1,11 @@
 //! Forms of what receivers get.
 ghost use Rattle.std.specs.Prelude.{◌≡◌, length, ◌≤◌, true, false, List, Some, None, IfSome};
+ghost use Rattle.cob_data.specs.declared.extent.Extent.{Extent};
 ghost use Rattle.cob_program.specs.Bounds.{is_small};
 ghost use Rattle.cob_program.specs.SumView.{plain_sum};
 ghost use Rattle.cob_calc.specs.Contents.{bound_at};
 ghost use Rattle.cob_edge_parts.specs.Parts as part;
-ghost use Rattle.edge_amounts.specs.PartView.{plain_amount};
+ghost use Rattle.transfer_ranges.specs.AmountView.{plain_amount};
 ghost use Rattle.sum_ranges.specs.SumRanges.{product_range};
 ghost use Rattle.sum_ranges.specs.Sizes.{IsSmallRange};
 ghost use Rattle.sum_ranges.specs.Taking.{is_small_taken};
@@ -12,13 +13,12 @@ ghost use Rattle.sum_ranges.specs.Working.{CanMultiplyRanges};
 ghost use Rattle.sum_forms.specs.Constants as constants;
 ghost use Rattle.sum_forms.specs.Values.{IsForm};
 ghost use Rattle.transfer_ranges.specs.Operands.{is_whole};
-ghost use Rattle.edge_amounts.specs.Small.{is_small_amount};
-ghost use Rattle.edge_amounts.specs.Working.{CanSettle, CanWork};
+ghost use Rattle.transfer_ranges.specs.SmallAmounts.{is_small_amount};
+ghost use Rattle.transfer_ranges.specs.Working.{CanSettle, CanWork};
 ghost use Rattle.interval_domain.specs.Elements.{CellsFit};
 ghost use Rattle.cell_steps.specs.OwnRanges.{owns};
 ghost use Rattle.cell_steps.specs.Stores.{range_at};
 ghost use Rattle.diff_steps.specs.Forms as forms;
-ghost use Rattle.diff_steps.specs.Moments.{Bytes};
 ghost use Rattle.diff_layer.specs.Forms.{IsFormOf};
 ghost use Rattle.diff_layer.specs.Sizes.{HasSmallTop};
 ghost use Rattle.diff_layer.specs.Views.{plain_pack, item_cell, HasUnit, program_of, known_in, taken_at};
@@ -35,10 +35,9 @@ use cell_layer::{KnownItems, item_range};
 use cob_graph::Home;
 use cob_program::{How, Sum};
 use diff_bounds::Lin;
-use edge_amounts::Amount;
 use sum_forms::{cell_form, range_form};
 use sum_ranges::{Ranged, factor_range};
-use transfer_ranges::Taken;
+use transfer_ranges::{Amount, Taken};
 
 // ---- the receiver's own number
 
@@ -51,7 +50,7 @@ fn own_range(items: &KnownItems, place: u32) -> Ranged
     item_range(items.program, items.cells, items.row, place)
 }
 
-fn own_form(items: &KnownItems, pack: &PackView, place: u32) -> Option<Lin>
+pub(crate) fn own_form(items: &KnownItems, pack: &PackView, place: u32) -> Option<Lin>
     requires fits { CellsFit (owns (program_of items.now)) (known_in items.now) }
     requires own { is_small (bound_at (program_of items.now).layout place) ≡ true }
     ensures value { result ≡ own_by pack.now.decimals (item_cell pack.now)
@@ -219,7 +218,7 @@ pub fn amount_form(
     requires kept { IfSome common HasSmallTop }
     requires can { IfSome common (CanWork (plain_amount amount)
         (range_at (program_of items.now) (known_in items.now) place)) }
-    ensures value { (wrote : List Bytes) → written ≡ are_written (program_of items.now).layout wrote
+    ensures value { (wrote : List Extent) → written ≡ are_written (program_of items.now).layout wrote
         (amount_items (plain_amount amount.entry))
         → result ≡ forms.amount_form (program_of items.now) (plain_pack pack.now)
         (taken_at (known_in items.now) common) wrote place (plain_amount amount.entry) }

@@ -8,7 +8,7 @@ ghost use Rattle.diff_steps.specs.Packs.{decimals_of};
 use cob_data::Layout;
 use cob_graph::Home;
 use dec_num::pow10;
-use edge_amounts::receiver_at;
+use transfer_ranges::receiver_at;
 
 /// Whether both are of one item, or of one counter.
 pub(crate) fn is_same(one: Home, other: Home) -> bool

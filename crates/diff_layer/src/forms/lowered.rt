@@ -1,5 +1,6 @@
 //! Forms of counters.
 ghost use Rattle.std.specs.Prelude.{◌≡◌, length, ◌<◌, ◌^◌, pos, neg_ℤ, List, Option, IfSome};
+ghost use Rattle.cob_data.specs.declared.extent.Extent.{Extent};
 ghost use Rattle.interval_domain.specs.Corners.{interval};
 ghost use Rattle.diff_bounds.specs.Forms.{if_small};
 ghost use Rattle.sum_ranges.specs.Ranged.{ranged};
@@ -13,7 +14,6 @@ ghost use Rattle.cob_graph.specs.Homes.{homes_of};
 ghost use Rattle.cell_steps.specs.OwnRanges.{owns};
 ghost use Rattle.cell_steps.specs.Cells.{units_of};
 ghost use Rattle.diff_steps.specs.Forms as forms;
-ghost use Rattle.diff_steps.specs.Moments.{Bytes};
 ghost use Rattle.diff_steps.specs.Packs.{cell_of};
 ghost use Rattle.diff_layer.specs.Forms.{IsFormOf};
 ghost use Rattle.diff_layer.specs.Views.{plain_pack, HasUnit, program_of, known_in, taken_at};
@@ -64,7 +64,7 @@ fn one_less(pack: &PackView) -> Option<Lin>
 pub fn lowered_form(items: &KnownItems, pack: &PackView, statement: u32) -> Option<Lin>
     requires unit { HasUnit (program_of items.now).layout pack.now }
     requires fits { CellsFit (owns (program_of items.now)) (known_in items.now) }
-    ensures value { (common : Option declared_taken.Taken) (wrote : List Bytes) →
+    ensures value { (common : Option declared_taken.Taken) (wrote : List Extent) →
         result ≡ forms.lowered_form (program_of items.now) (plain_pack pack.now) (taken_at (known_in items.now) common)
         wrote statement }
     ensures of_pack { IfSome result (IsFormOf (length pack.now.cells.now)) }

@@ -1,22 +1,22 @@
 //! Forms of operands.
 ghost use Rattle.std.specs.Prelude.{◌≡◌, ◌||◌, ◌≤◌, true, false, is_some, Option, List, IfSome};
+ghost use Rattle.cob_data.specs.declared.extent.Extent.{Extent};
 ghost use Rattle.cob_program.specs.SumView.{plain_sum};
 ghost use Rattle.cob_calc.specs.Contents.{bound_at};
-ghost use Rattle.edge_amounts.specs.PartView.{plain_amount};
+ghost use Rattle.transfer_ranges.specs.AmountView.{plain_amount};
 ghost use Rattle.sum_ranges.specs.SumRanges.{quotient_range, sum_range};
 ghost use Rattle.sum_ranges.specs.Taking.{is_small_taken};
 ghost use Rattle.sum_forms.specs.Values.{IsForm};
 ghost use Rattle.transfer_ranges.specs.Operands.{is_whole};
 ghost use Rattle.transfer_ranges.specs.Stores as stores;
-ghost use Rattle.edge_amounts.specs.Small.{is_small_amount};
-ghost use Rattle.edge_amounts.specs.Working.{CanSettle};
+ghost use Rattle.transfer_ranges.specs.SmallAmounts.{is_small_amount};
+ghost use Rattle.transfer_ranges.specs.Working.{CanSettle};
 ghost use Rattle.interval_domain.specs.Elements.{CellsFit};
 ghost use Rattle.cell_steps.specs.OwnRanges.{owns};
-ghost use Rattle.cell_steps.specs.Operands.{settled};
+ghost use Rattle.transfer_ranges.specs.EdgeOperands.{settled};
 ghost use Rattle.cell_steps.specs.Stores.{range_at};
 ghost use Rattle.transfer_ranges.specs.declared.amounts.Taken as declared_taken;
 ghost use Rattle.diff_steps.specs.Forms as forms;
-ghost use Rattle.diff_steps.specs.Moments.{Bytes};
 ghost use Rattle.diff_layer.specs.Sizes.{HasSmallTop};
 ghost use Rattle.diff_layer.specs.Views.{item_cell, program_of, known_in, taken_at};
 ghost use Rattle.diff_layer.specs.Working.{taken_by, operands_by};
@@ -28,9 +28,8 @@ use crate::forms::view::PackView;
 use cell_layer::KnownItems;
 use cob_program::{How, Sum};
 use diff_bounds::Lin;
-use edge_amounts::{Amount, operands};
 use sum_ranges::Ranged;
-use transfer_ranges::Taken;
+use transfer_ranges::{Amount, Taken, operands};
 
 // what operands were; a quotient that isn't stored as it is has been cut
 fn form_taken(decimals: u32, common: Option<Taken>, whole: bool) -> Option<Lin>
@@ -112,7 +111,7 @@ fn has_range(items: &KnownItems, sum: &Sum, how: How) -> bool
 pub fn has_operands(items: &KnownItems, amount: Amount, written: bool) -> bool
     requires fits { CellsFit (owns (program_of items.now)) (known_in items.now) }
     requires small { is_small_amount (bound_at (program_of items.now).layout) (plain_amount amount) ≡ true }
-    ensures { (common : Option declared_taken.Taken) (wrote : List Bytes) → written ≡ are_written
+    ensures { (common : Option declared_taken.Taken) (wrote : List Extent) → written ≡ are_written
         (program_of items.now).layout wrote (amount_items (plain_amount amount.entry))
         → result ≡ forms.has_operands (program_of items.now) (taken_at (known_in items.now) common) wrote
         (plain_amount amount.entry) }

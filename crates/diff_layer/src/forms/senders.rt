@@ -1,9 +1,9 @@
 //! Forms of senders.
 ghost use Rattle.std.specs.Prelude.{◌≡◌, ◌<◌, ◌==◌, length, List, IfSome};
+ghost use Rattle.cob_data.specs.declared.extent.Extent.{Extent};
 ghost use Rattle.sum_forms.specs.Values.{IsForm};
 ghost use Rattle.diff_steps.specs.Forms as forms;
 ghost use Rattle.diff_steps.specs.Forms.{is_whole_sender};
-ghost use Rattle.diff_steps.specs.Moments.{Bytes};
 ghost use Rattle.diff_layer.specs.Forms.{IsFormOf};
 ghost use Rattle.diff_layer.specs.Sizes.{HasSmallTop};
 ghost use Rattle.diff_layer.specs.Views.{plain_pack, item_cell, HasUnit, program_of, known_in, taken_at};
@@ -80,7 +80,7 @@ pub fn set_form(
 ) -> Option<Lin>
     requires unit { HasUnit (program_of items.now).layout pack.now }
     requires kept { IfSome common HasSmallTop }
-    ensures value { (wrote : List Bytes) → written ≡ are_written (program_of items.now).layout wrote
+    ensures value { (wrote : List Extent) → written ≡ are_written (program_of items.now).layout wrote
         (sender_items sender.now)
         → result ≡ forms.set_form (program_of items.now) (plain_pack pack.now) (taken_at (known_in items.now) common)
         wrote sender.now }

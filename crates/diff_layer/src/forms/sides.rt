@@ -3,7 +3,7 @@ ghost use Rattle.std.specs.Prelude.{◌≡◌, length, true, IfSome};
 ghost use Rattle.cob_program.specs.Bounds.{is_small_sum, is_small_atom};
 ghost use Rattle.cob_program.specs.SumView.{plain_sum};
 ghost use Rattle.cob_calc.specs.Contents.{bound_at};
-ghost use Rattle.edge_amounts.specs.PartView.{plain_divisor};
+ghost use Rattle.edge_parts.specs.PartView.{plain_divisor};
 ghost use Rattle.sum_ranges.specs.SumRanges as ranges;
 ghost use Rattle.sum_forms.specs.SumForms.{atom_form};
 ghost use Rattle.interval_domain.specs.Elements.{CellsFit};
@@ -21,7 +21,7 @@ use crate::forms::view::PackView;
 use cell_layer::KnownItems;
 use cob_program::Sum;
 use diff_bounds::Lin;
-use edge_amounts::Divisor;
+use edge_parts::Divisor;
 use sum_ranges::{Ranged, sum_range};
 
 /// The form of a sum less another one, over the pack's cells and in its unit (Miné 2001). None where a sum has none, or

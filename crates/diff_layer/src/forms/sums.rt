@@ -1,9 +1,7 @@
 //! Forms of sums whose items hold what they held before the edge wrote.
-ghost use Rattle.std.specs.Prelude.{◌≡◌, ◌&&◌, true, is_some, map, IfSome};
+ghost use Rattle.std.specs.Prelude.{◌≡◌, true, IfSome};
 ghost use Rattle.cob_program.specs.Bounds.{is_small_sum, is_small_atom};
-ghost use Rattle.cob_program.specs.Sum.{MkSum, parts_of, factors_of, more_parts, no_parts};
-ghost use Rattle.cob_program.specs.SumView.{plain_sum, plain_part, plain_factor, plain_atom};
-ghost use Rattle.cob_program.specs.Values.{root_of, root_in};
+ghost use Rattle.cob_program.specs.SumView.{plain_sum, plain_atom};
 ghost use Rattle.cob_calc.specs.Contents.{bound_at};
 ghost use Rattle.sum_ranges.specs.Taking.{is_small_taken};
 ghost use Rattle.sum_forms.specs.SumForms as sums;
@@ -11,15 +9,15 @@ ghost use Rattle.sum_forms.specs.Values.{IsForm};
 ghost use Rattle.interval_domain.specs.Elements.{CellsFit};
 ghost use Rattle.cell_steps.specs.OwnRanges.{owns};
 ghost use Rattle.cell_steps.specs.Stores.{range_at};
-ghost use Rattle.edge_amounts.specs.PartView.{plain_divisor};
+ghost use Rattle.edge_parts.specs.PartView.{plain_divisor};
 ghost use Rattle.diff_layer.specs.Views.{item_cell, program_of, known_in};
 ghost use Rattle.diff_layer.specs.Working.{read_by};
 
 use crate::forms::view::PackView;
 use cell_layer::KnownItems;
-use cob_program::{Atom, Factor, Part, Sum};
+use cob_program::{Atom, Sum};
 use diff_bounds::Lin;
-use edge_amounts::Divisor;
+use edge_parts::Divisor;
 use sum_forms::{atom_form, sum_form};
 
 /// The form of a sum.
@@ -57,44 +55,6 @@ pub(crate) fn form_of_divisor(items: &KnownItems, pack: &PackView, divisor: Divi
     }
 }
 
-// ---- quotients
-
-fn ends_by_division(factors: &[Factor]) -> bool
-    ensures { result ≡ is_some (root_in (factors_of (map plain_factor factors.now))) }
-{
-    match factors.split_last() {
-        None => false,
-        Some((last, _above)) => last.over,
-    }
-}
-
-fn is_quotient_part(part: &Part) -> bool
-    ensures { result ≡ is_some (root_of (MkSum (more_parts (plain_part part.now) no_parts))) }
-{
-    if part.minus {
-        false
-    } else {
-        ends_by_division(&part.factors)
-    }
-}
-
-fn is_quotient_of(parts: &[Part]) -> bool
-    ensures { result ≡ is_some (root_of (MkSum (parts_of (map plain_part parts.now)))) }
-{
-    if parts.len() == 1 {
-        is_quotient_part(&parts[0])
-    } else {
-        false
-    }
-}
-
-// whether a division is the last operation of a sum
-fn is_quotient(sum: &Sum) -> bool
-    ensures { result ≡ is_some (root_of (plain_sum sum.now)) }
-{
-    is_quotient_of(&sum.parts)
-}
-
 /// The form of operands to whose bytes the edge hasn't written. `whole` says that the whole sum is stored: a quotient
 /// that is its last operation then has none.
 #[tactic(auto, using(crate::proofs::Reading::readable))]
@@ -105,7 +65,7 @@ pub(crate) fn form_read(items: &KnownItems, pack: &PackView, sum: &Sum, whole: b
         (range_at (program_of items.now) (known_in items.now)) whole (plain_sum sum.now) }
     ensures good { IfSome result IsForm }
 {
-    if whole && is_quotient(sum) {
+    if whole && sum.is_quotient() {
         return None;
     }
     form_of_sum(items, pack, sum)

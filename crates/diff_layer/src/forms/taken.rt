@@ -4,8 +4,8 @@ ghost use Rattle.sum_ranges.specs.SumRanges.{quotient_range};
 ghost use Rattle.sum_ranges.specs.Sizes.{IsSmallRange};
 ghost use Rattle.sum_ranges.specs.Working.{CanDivideRanges};
 ghost use Rattle.sum_forms.specs.Values.{IsForm};
-ghost use Rattle.cell_steps.specs.Operands.{settled};
-ghost use Rattle.edge_amounts.specs.Working.{CanSettle};
+ghost use Rattle.transfer_ranges.specs.EdgeOperands.{settled};
+ghost use Rattle.transfer_ranges.specs.Working.{CanSettle};
 ghost use Rattle.diff_layer.specs.Sizes.{HasSmallTop};
 ghost use Rattle.diff_layer.specs.Working.{settled_if, kept_by};
 

@@ -40,6 +40,7 @@ fn walk_edge(
         Some(work) => {
             let edge = PackEdge {
                 cells: edges.works.graph.cells.get(),
+                marks: edges.works.marks.as_slice(),
                 work,
                 plans: edges.plans,
             };
@@ -77,7 +78,7 @@ pub fn passes_edge(edges: &PackWorks, at: usize, fact: &[i128], out: &mut [i128]
 fn is_all(kinds: Kinds) -> bool
     ensures { IsTrue result → kinds ≡ every_kind }
 {
-    kinds.size && kinds.truncation && kinds.zero && kinds.class
+    kinds.size && kinds.truncation && kinds.zero && kinds.class && kinds.subscript
 }
 
 /// The kinds of faults that both layers show no part of an edge to meet, beside room for two rows of cells and one of
@@ -106,10 +107,11 @@ pub fn edge_cleared(
         Some(work) => {
             let edge = PackEdge {
                 cells: edges.works.graph.cells.get(),
+                marks: edges.works.marks.as_slice(),
                 work,
                 plans: edges.plans,
             };
-            if is_all(cleared_by_edge(edge.cells, work, rows.cells, row)) {
+            if is_all(cleared_by_edge(edge.cells, edge.marks, work, rows.cells, row)) {
                 return Kinds::all();
             }
             row.copy_from_slice(rows.cells);

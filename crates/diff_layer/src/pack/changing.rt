@@ -1,9 +1,9 @@
 //! What a part makes of the matrices of packs.
 ghost use Rattle.std.specs.Prelude.{◌≡◌, length, List};
-ghost use Rattle.edge_amounts.specs.PartView.{plain_part};
+ghost use Rattle.cob_data.specs.declared.extent.Extent.{Extent};
+ghost use Rattle.edge_parts.specs.PartView.{plain_part};
 ghost use Rattle.diff_bounds.specs.Matrix.{IsMatrix};
 ghost use Rattle.cell_layer.specs.Kept.{latest_of};
-ghost use Rattle.diff_steps.specs.Moments.{Bytes};
 ghost use Rattle.diff_steps.specs.Packs.{size_of};
 ghost use Rattle.diff_layer.specs.Changes.{part_changed};
 ghost use Rattle.diff_layer.specs.Parts.{CanChange, IsWrittenTo, plan_changed};
@@ -18,14 +18,15 @@ use crate::pack::guards::guard;
 use crate::pack::moment::Moment;
 use crate::pack::plans::{PackPlan, view_of};
 use crate::pack::stores::store;
-use edge_amounts::EdgePart;
+use cell_layer::bytes_from;
+use edge_parts::EdgePart;
 
 // what a part makes of the matrix of a pack
 fn change(moment: &Moment, pack: &PackView, m: &mut [i128], part: EdgePart)
     requires m { IsMatrix (length pack.now.cells.now) m.old }
     requires unit { HasUnit (program_at moment.now).layout pack.now }
     requires can { CanChange (program_at moment.now) (known_at moment.now) moment.now.kept.common (plain_part part) }
-    ensures value { (wrote : List Bytes) → IsWrittenTo (program_at moment.now).layout wrote moment.now.written
+    ensures value { (wrote : List Extent) → IsWrittenTo (program_at moment.now).layout wrote moment.now.written
         (plain_part part.entry)
         → m.new ≡ part_changed (program_at moment.now) (known_at moment.now) moment.now.kept.common
         (latest_of moment.now.kept) wrote
@@ -36,10 +37,7 @@ fn change(moment: &Moment, pack: &PackView, m: &mut [i128], part: EdgePart)
         EdgePart::Store { item, mode, amount } => store(moment, pack, m, item, mode, amount),
         EdgePart::Bytes { offset, length } => forget(
             &moment.items.program.layout,
-            Gone::Bytes {
-                offset,
-                count: length,
-            },
+            Gone::Bytes(bytes_from(offset, length)),
             pack.cells,
             m,
         ),
@@ -48,6 +46,8 @@ fn change(moment: &Moment, pack: &PackView, m: &mut [i128], part: EdgePart)
         EdgePart::CountDown(number) => count_down(&moment.items, pack, m, number),
         EdgePart::Read(_)
         | EdgePart::Unread
+        | EdgePart::Subscript { .. }
+        | EdgePart::Index { .. }
         | EdgePart::Divide(_)
         | EdgePart::ReadCount(_)
         | EdgePart::GuardCount { .. } => {}
@@ -59,7 +59,7 @@ pub(crate) fn change_plan(moment: &Moment, plan: &PackPlan, m: &mut [i128], part
     requires plan { IsPlanOf (program_at moment.now) plan.now }
     requires can { CanChange (program_at moment.now) (known_at moment.now) moment.now.kept.common (plain_part part) }
     requires matrix { IsMatrix (size_of (plain_plan plan.now)) m.old }
-    ensures value { (wrote : List Bytes) → IsWrittenTo (program_at moment.now).layout wrote moment.now.written
+    ensures value { (wrote : List Extent) → IsWrittenTo (program_at moment.now).layout wrote moment.now.written
         (plain_part part.entry)
         → m.new ≡ plan_changed (program_at moment.now) (known_at moment.now) moment.now.kept.common
         (latest_of moment.now.kept) wrote

@@ -1,12 +1,12 @@
 //! Counters of a pack.
 ghost use Rattle.std.specs.Prelude.{◌≡◌, ◌≤◌, length, List, Option, IfSome};
+ghost use Rattle.cob_data.specs.declared.extent.Extent.{Extent};
 ghost use Rattle.diff_bounds.specs.Matrix.{IsMatrix};
 ghost use Rattle.transfer_ranges.specs.declared.amounts.Taken.{Taken};
 ghost use Rattle.interval_domain.specs.Elements.{CellsFit};
 ghost use Rattle.cob_graph.specs.declared.homes.Home.TheVariants.{Count as of_count};
 ghost use Rattle.cell_steps.specs.OwnRanges.{owns};
 ghost use Rattle.diff_steps.specs.Forms as forms;
-ghost use Rattle.diff_steps.specs.Moments.{Bytes};
 ghost use Rattle.diff_steps.specs.Packs.{cell_of};
 ghost use Rattle.diff_layer.specs.Forms.{IsFormOf};
 ghost use Rattle.diff_layer.specs.Sizes.{HasSmallTop};
@@ -50,7 +50,7 @@ pub(crate) fn set_count(
     requires m { IsMatrix (length pack.now.cells.now) m.old }
     requires unit { HasUnit (program_at moment.now).layout pack.now }
     requires top { IfSome moment.now.kept.common HasSmallTop }
-    ensures value { (wrote : List Bytes) → moment.now.written ≡ are_written (program_at moment.now).layout wrote
+    ensures value { (wrote : List Extent) → moment.now.written ≡ are_written (program_at moment.now).layout wrote
         (sender_items sender.now)
         → m.new ≡ cell_assigned (length pack.now.cells.now)
         (forms.set_form (program_at moment.now) (plain_pack pack.now)
@@ -73,7 +73,7 @@ pub(crate) fn count_down(items: &KnownItems, pack: &PackView, m: &mut [i128], st
     requires m { IsMatrix (length pack.now.cells.now) m.old }
     requires unit { HasUnit (program_of items.now).layout pack.now }
     requires fits { CellsFit (owns (program_of items.now)) (known_in items.now) }
-    ensures value { (common : Option Taken) (wrote : List Bytes) → m.new ≡ cell_assigned (length pack.now.cells.now)
+    ensures value { (common : Option Taken) (wrote : List Extent) → m.new ≡ cell_assigned (length pack.now.cells.now)
         (forms.lowered_form (program_of items.now) (plain_pack pack.now) (taken_at (known_in items.now) common) wrote
         statement)
         (cell_of (plain_pack pack.now) (of_count statement)) m.old }

@@ -17,14 +17,14 @@ ghost use Rattle.std.specs.Prelude.{
   IfSome,
 };
 ghost use Rattle.std.specs.Option.{option_map_or};
-ghost use Rattle.edge_amounts.specs.PartView.{plain_part};
+ghost use Rattle.cob_data.specs.declared.extent.Extent.{Extent};
+ghost use Rattle.edge_parts.specs.PartView.{plain_part};
 ghost use Rattle.diff_bounds.specs.Matrix.{IsMatrix};
-ghost use Rattle.diff_bounds.specs.declared.form.Lin.{Lin};
+ghost use Rattle.diff_bounds.specs.declared.form.lin.Lin.{Lin};
 ghost use Rattle.sum_ranges.specs.Sizes.{IsSmallRange};
 ghost use Rattle.transfer_ranges.specs.ResultRanges.{most, near_range};
 ghost use Rattle.transfer_ranges.specs.Sizes.{IsReceiver};
 ghost use Rattle.diff_steps.specs.Clearing.{high_fits, low_fits, some_pack, high_shown, low_shown};
-ghost use Rattle.diff_steps.specs.Moments.{Bytes};
 ghost use Rattle.diff_steps.specs.Packs.{Pack, size_of, pack_decimals};
 ghost use Rattle.diff_layer.specs.Forms.{IsFormOf};
 ghost use Rattle.diff_layer.specs.Receiving.{upper_if, upper_negated_if};
@@ -43,7 +43,7 @@ use crate::pack::moment::{Moment, Slot};
 use crate::pack::plans::{PackPlan, view_of, words_for};
 use dec_num::{Fit, Mode, Scaled, fit};
 use diff_bounds::Lin;
-use edge_amounts::EdgePart;
+use edge_parts::EdgePart;
 use sum_ranges::Ranged;
 use transfer_ranges::Receiver;
 
@@ -53,7 +53,7 @@ use transfer_ranges::Receiver;
 fn form_for(moment: &Moment, pack: &PackView, part: EdgePart) -> Option<Lin>
     requires unit { HasUnit (program_at moment.now).layout pack.now }
     requires can { CanChange (program_at moment.now) (known_at moment.now) moment.now.kept.common (plain_part part) }
-    ensures value { (wrote : List Bytes) → IsWrittenTo (program_at moment.now).layout wrote moment.now.written
+    ensures value { (wrote : List Extent) → IsWrittenTo (program_at moment.now).layout wrote moment.now.written
         (plain_part part.entry)
         → result ≡ part_form (program_at moment.now) (known_at moment.now) moment.now.kept.common wrote
         (plain_part part.entry) (plain_pack pack.now) }
@@ -69,6 +69,8 @@ fn form_for(moment: &Moment, pack: &PackView, part: EdgePart) -> Option<Lin>
         EdgePart::CountDown(number) => lowered_form(items, pack, number),
         EdgePart::Read(_)
         | EdgePart::Unread
+        | EdgePart::Subscript { .. }
+        | EdgePart::Index { .. }
         | EdgePart::Divide(_)
         | EdgePart::Bytes { .. }
         | EdgePart::Guard { .. }
@@ -114,7 +116,7 @@ fn pack_shows(
     requires matrix { IsMatrix (size_of (plain_plan plan.now)) m.now }
     requires digits { slot.receiver.digits ≤ 18 }
     requires scale { slot.receiver.scale ≤ 18 }
-    ensures { (wrote : List Bytes) → IsWrittenTo (program_at moment.now).layout wrote moment.now.written
+    ensures { (wrote : List Extent) → IsWrittenTo (program_at moment.now).layout wrote moment.now.written
         (plain_part part.entry)
         → result ≡ end_in_pack (size_of (plain_plan plan.now))
         (pack_decimals (program_at moment.now).layout (plain_plan plan.now)) m.now
@@ -142,7 +144,7 @@ pub(crate) fn end_is_shown(
     requires matrices { IsRowFor plans.now out.now }
     requires digits { slot.receiver.digits ≤ 18 }
     requires scale { slot.receiver.scale ≤ 18 }
-    ensures { (wrote : List Bytes) → IsWrittenTo (program_at moment.now).layout wrote moment.now.written
+    ensures { (wrote : List Extent) → IsWrittenTo (program_at moment.now).layout wrote moment.now.written
         (plain_part part.entry)
         → result ≡ some_end (program_at moment.now) (known_at moment.now) moment.now.kept.common wrote
         (plain_part part.entry)

@@ -2,17 +2,19 @@
 ghost use Rattle.std.specs.Prelude.{◌≡◌, ◌≤◌, true, length, List, neg_ℤ, int_le, IfSome};
 ghost use Rattle.dec_num.specs.declared.types.Mode.TheVariants.{Trunc};
 ghost use Rattle.cob_tree.specs.Kinds.{kinds_of};
+ghost use Rattle.cob_data.specs.declared.extent.Extent.{Extent};
 ghost use Rattle.cob_program.specs.Bounds.{is_small, is_small_atom};
 ghost use Rattle.cob_calc.specs.Contents.{bound_at};
-ghost use Rattle.edge_amounts.specs.PartView.{plain_part, plain_amount, plain_divisor};
+ghost use Rattle.edge_parts.specs.PartView.{plain_part, plain_divisor};
+ghost use Rattle.transfer_ranges.specs.AmountView.{plain_amount};
 ghost use Rattle.diff_bounds.specs.Matrix.{IsMatrix};
 ghost use Rattle.cell_laws.specs.Sizes.{IsSmallPart, IsSmallStore};
 ghost use Rattle.sum_ranges.specs.Sizes.{IsSmallRange};
 ghost use Rattle.transfer_ranges.specs.Receivers.{counter};
 ghost use Rattle.transfer_ranges.specs.ResultRanges.{near_range, most};
 ghost use Rattle.transfer_ranges.specs.Sizes.{IsReceiver, IsSmallAmount};
-ghost use Rattle.edge_amounts.specs.Small.{has_small_sum};
-ghost use Rattle.edge_amounts.specs.Working.{CanWork, amount_from as found_amount};
+ghost use Rattle.transfer_ranges.specs.SmallAmounts.{has_small_sum};
+ghost use Rattle.transfer_ranges.specs.Working.{CanWork, amount_from as found_amount};
 ghost use Rattle.interval_domain.specs.Elements.{CellsFit};
 ghost use Rattle.interval_domain.specs.Rows.{cells_of};
 ghost use Rattle.cell_steps.specs.OwnRanges.{owns};
@@ -21,7 +23,6 @@ ghost use Rattle.cell_layer.specs.Kept.{seen};
 ghost use Rattle.cell_layer.specs.ProgramRows.{IsRowOf};
 ghost use Rattle.cell_layer.specs.Walks.{with_taken_small, clears_small, CanStep};
 ghost use Rattle.diff_steps.specs.Clearing.{some_pack, clears_part2};
-ghost use Rattle.diff_steps.specs.Moments.{Bytes};
 ghost use Rattle.diff_steps.specs.Packs.{size_of};
 ghost use Rattle.diff_layer.specs.PackWriting.{amount_items, are_written};
 ghost use Rattle.diff_layer.specs.Closed.{IsClosedRow};
@@ -36,6 +37,7 @@ ghost use Rattle.diff_layer.specs.Clears.{
   store_cleared,
   set_cleared,
   down_cleared,
+  index_cleared,
   part_cleared,
   IsSetCount,
 };
@@ -60,6 +62,7 @@ use crate::forms::sides::divisor_form;
 use crate::pack::closing::close_all;
 use crate::pack::edge::{PackEdge, PackState};
 use crate::pack::ends::{end_is_shown, high_end_fits, low_end_fits};
+use crate::pack::indexing::{Indexed, index_clears};
 use crate::pack::matrix_bounds::is_apart;
 use crate::pack::moment::{Matrices, Moment, Slot};
 use crate::pack::plans::{PackPlan, view_of, words_for};
@@ -67,10 +70,12 @@ use crate::pack::walking::step;
 use cell_layer::{Kept, KnownItems, cleared_by_part, count_units, item_range, with_operands};
 use cob_tree::{Kind, Kinds};
 use dec_num::Mode;
-use edge_amounts::{Amount, Divisor, EdgePart, amount_from, is_remainder, receiver_at};
+use edge_parts::{Divisor, EdgePart};
 use interval_domain::Interval;
 use sum_ranges::Ranged;
-use transfer_ranges::{AmountRange, Receiver, Taken, lowered};
+use transfer_ranges::{
+    Amount, AmountRange, Receiver, Taken, amount_from, is_remainder, lowered, receiver_at,
+};
 
 // the greatest number of a counter
 const LARGEST: i128 = 999_999_999_999_999_999;
@@ -124,7 +129,7 @@ fn ends_fit(
     requires can { CanChange (program_at moment.now) (known_at moment.now) moment.now.kept.common (plain_part part) }
     requires digits { slot.receiver.digits ≤ 18 }
     requires scale { slot.receiver.scale ≤ 18 }
-    ensures { (wrote : List Bytes) → IsWrittenTo (program_at moment.now).layout wrote moment.now.written
+    ensures { (wrote : List Extent) → IsWrittenTo (program_at moment.now).layout wrote moment.now.written
         (plain_part part.entry)
         → result ≡ both_shown (program_at moment.now) (known_at moment.now) moment.now.kept.common wrote
         (plain_part part.entry) slot.mode slot.receiver high low
@@ -150,7 +155,7 @@ fn decimal_fits(
     requires can { CanChange (program_at moment.now) (known_at moment.now) moment.now.kept.common (plain_part part) }
     requires receiver { IsReceiver slot.receiver }
     requires range { IsSmallRange range }
-    ensures { (wrote : List Bytes) → IsWrittenTo (program_at moment.now).layout wrote moment.now.written
+    ensures { (wrote : List Extent) → IsWrittenTo (program_at moment.now).layout wrote moment.now.written
         (plain_part part.entry)
         → result ≡ range_shown (program_at moment.now) (known_at moment.now) moment.now.kept.common wrote
         (plain_part part.entry) slot.mode slot.receiver
@@ -173,7 +178,7 @@ fn amount_fits(
     requires can { CanChange (program_at moment.now) (known_at moment.now) moment.now.kept.common (plain_part part) }
     requires receiver { IsReceiver slot.receiver }
     requires small { IfSome amount IsSmallAmount }
-    ensures { (wrote : List Bytes) → IsWrittenTo (program_at moment.now).layout wrote moment.now.written
+    ensures { (wrote : List Extent) → IsWrittenTo (program_at moment.now).layout wrote moment.now.written
         (plain_part part.entry)
         → result ≡ amount_shown (program_at moment.now) (known_at moment.now) moment.now.kept.common wrote
         (plain_part part.entry) slot.mode slot.receiver
@@ -212,7 +217,7 @@ fn store_fits(moment: &Moment, matrices: &Matrices, place: u32, mode: Mode, amou
     requires of_edge { IsStoreOf (program_at moment.now) (act_at moment.now) moment.now.action (plain_amount amount) }
     requires can { CanStep (program_at moment.now) (act_at moment.now) moment.now.action (seen_at moment.now) }
     requires taken { moment.now.kept.written ≡ true }
-    ensures { (wrote : List Bytes) → moment.now.written ≡ are_written (program_at moment.now).layout wrote
+    ensures { (wrote : List Extent) → moment.now.written ≡ are_written (program_at moment.now).layout wrote
         (amount_items (plain_amount amount.entry))
         → result ≡ store_shown (program_at moment.now) (known_at moment.now) moment.now.kept.common wrote place mode
         (plain_amount amount.entry)
@@ -260,7 +265,7 @@ fn is_not_below(units: Interval) -> bool
 fn counter_fits(moment: &Moment, matrices: &Matrices, part: EdgePart, units: Interval) -> bool
     requires matrices { AreMatricesOf (program_at moment.now) matrices.now }
     requires can { CanChange (program_at moment.now) (known_at moment.now) moment.now.kept.common (plain_part part) }
-    ensures { (wrote : List Bytes) → IsWrittenTo (program_at moment.now).layout wrote moment.now.written
+    ensures { (wrote : List Extent) → IsWrittenTo (program_at moment.now).layout wrote moment.now.written
         (plain_part part.entry)
         → result ≡ range_shown (program_at moment.now) (known_at moment.now) moment.now.kept.common wrote
         (plain_part part.entry) Trunc counter
@@ -279,7 +284,7 @@ fn counter_fits(moment: &Moment, matrices: &Matrices, part: EdgePart, units: Int
 fn set_fits(moment: &Moment, matrices: &Matrices, part: EdgePart) -> bool
     requires matrices { AreMatricesOf (program_at moment.now) matrices.now }
     requires can { CanChange (program_at moment.now) (known_at moment.now) moment.now.kept.common (plain_part part) }
-    ensures { (wrote : List Bytes) → IsWrittenTo (program_at moment.now).layout wrote moment.now.written
+    ensures { (wrote : List Extent) → IsWrittenTo (program_at moment.now).layout wrote moment.now.written
         (plain_part part.entry)
         → result ≡ count_shown (program_at moment.now) (known_at moment.now) moment.now.kept.common wrote
         (plain_part part.entry)
@@ -321,7 +326,7 @@ fn taken_fits(moment: &Moment, matrices: &Matrices, place: u32, mode: Mode, amou
         (plain_amount amount) }
     requires of_edge { IsStoreOf (program_at moment.now) (act_at moment.now) moment.now.action (plain_amount amount) }
     requires can { CanStep (program_at moment.now) (act_at moment.now) moment.now.action (seen_at moment.now) }
-    ensures { (wrote : List Bytes) → moment.now.written ≡ are_written (program_at moment.now).layout wrote
+    ensures { (wrote : List Extent) → moment.now.written ≡ are_written (program_at moment.now).layout wrote
         (amount_items (plain_amount amount.entry))
         → result ≡ taken_shown (program_at moment.now) (packs_in matrices.now) (act_at moment.now) moment.now.action
         place mode (plain_amount amount.entry)
@@ -355,7 +360,7 @@ fn store_clears(
         (plain_amount amount) }
     requires of_edge { IsStoreOf (program_at moment.now) (act_at moment.now) moment.now.action (plain_amount amount) }
     requires can { CanStep (program_at moment.now) (act_at moment.now) moment.now.action (seen_at moment.now) }
-    ensures { (wrote : List Bytes) → moment.now.written ≡ are_written (program_at moment.now).layout wrote
+    ensures { (wrote : List Extent) → moment.now.written ≡ are_written (program_at moment.now).layout wrote
         (amount_items (plain_amount amount.entry))
         → result ≡ store_cleared (program_at moment.now) (packs_in matrices.now) (act_at moment.now) moment.now.action
         place mode (plain_amount amount.entry)
@@ -374,7 +379,7 @@ fn set_clears(moment: &Moment, matrices: &Matrices, part: EdgePart) -> bool
     requires sum { has_small_sum (bound_at (program_at moment.now).layout) (act_at moment.now) ≡ true }
     requires can { CanStep (program_at moment.now) (act_at moment.now) moment.now.action (seen_at moment.now) }
     requires sets { IsSetCount (plain_part part) }
-    ensures { (wrote : List Bytes) → IsWrittenTo (program_at moment.now).layout wrote moment.now.written
+    ensures { (wrote : List Extent) → IsWrittenTo (program_at moment.now).layout wrote moment.now.written
         (plain_part part.entry)
         → result ≡ set_cleared (program_at moment.now) (packs_in matrices.now) (act_at moment.now) moment.now.action
         (plain_part part.entry)
@@ -397,12 +402,24 @@ fn set_clears(moment: &Moment, matrices: &Matrices, part: EdgePart) -> bool
 
 fn down_clears(moment: &Moment, matrices: &Matrices, number: u32) -> bool
     requires matrices { AreMatricesOf (program_at moment.now) matrices.now }
-    ensures { (wrote : List Bytes) → result ≡ down_cleared (program_at moment.now) (packs_in matrices.now) number
+    ensures { (wrote : List Extent) → result ≡ down_cleared (program_at moment.now) (packs_in matrices.now) number
         (seen_at moment.now) (seen2 wrote (words_in matrices.now)) }
 {
     let items = &moment.items;
     let units = lowered(count_units(items.program, items.cells, items.row, number));
     counter_fits(moment, matrices, EdgePart::CountDown(number), units)
+}
+
+fn index_is_shown(moment: &Moment, matrices: &Matrices, index: Indexed, fault: Kind) -> bool
+    requires matrices { AreMatricesOf (program_at moment.now) matrices.now }
+    requires small { is_small (bound_at (program_at moment.now).layout index.item) ≡ true }
+    ensures { (wrote : List Extent) → result ≡ index_cleared (program_at moment.now) (packs_in matrices.now) index.item
+        index.count (seen_at moment.now) (seen2 wrote (words_in matrices.now)) fault }
+{
+    match fault {
+        Kind::Subscript => index_clears(&moment.items, matrices, index),
+        Kind::Size | Kind::Zero | Kind::Class | Kind::Truncation => false,
+    }
 }
 
 // whether the fault of a part is not met, where the first layer doesn't show it
@@ -411,7 +428,7 @@ fn is_shown(moment: &Moment, matrices: &Matrices, part: EdgePart, fault: Kind) -
     requires small { IsSmallPart (program_at moment.now) (act_at moment.now) moment.now.action (plain_part part) }
     requires of_edge { IsOfEdge (program_at moment.now) (act_at moment.now) moment.now.action (plain_part part) }
     requires can { CanStep (program_at moment.now) (act_at moment.now) moment.now.action (seen_at moment.now) }
-    ensures { (wrote : List Bytes) → IsWrittenTo (program_at moment.now).layout wrote moment.now.written
+    ensures { (wrote : List Extent) → IsWrittenTo (program_at moment.now).layout wrote moment.now.written
         (plain_part part.entry)
         → result ≡ part_cleared (program_at moment.now) (packs_in matrices.now) (act_at moment.now) moment.now.action
         (plain_part part.entry)
@@ -420,21 +437,25 @@ fn is_shown(moment: &Moment, matrices: &Matrices, part: EdgePart, fault: Kind) -
     match part {
         EdgePart::Divide(divisor) => match fault {
             Kind::Zero => is_apart_in_some(&moment.items, matrices.plans, matrices.words, divisor),
-            Kind::Size | Kind::Class | Kind::Truncation => false,
+            Kind::Size | Kind::Class | Kind::Truncation | Kind::Subscript => false,
         },
+        EdgePart::Index { item, count, .. } => {
+            index_is_shown(moment, matrices, Indexed { item, count }, fault)
+        }
         EdgePart::Store { item, mode, amount } => {
             store_clears(moment, matrices, item, mode, amount)
         }
         EdgePart::SetCount { .. } => match fault {
             Kind::Size => set_clears(moment, matrices, part),
-            Kind::Zero | Kind::Class | Kind::Truncation => false,
+            Kind::Zero | Kind::Class | Kind::Truncation | Kind::Subscript => false,
         },
         EdgePart::CountDown(number) => match fault {
             Kind::Size => down_clears(moment, matrices, number),
-            Kind::Zero | Kind::Class | Kind::Truncation => false,
+            Kind::Zero | Kind::Class | Kind::Truncation | Kind::Subscript => false,
         },
         EdgePart::Read(_)
         | EdgePart::Unread
+        | EdgePart::Subscript { .. }
         | EdgePart::Bytes { .. }
         | EdgePart::Guard { .. }
         | EdgePart::ReadCount(_)
@@ -456,7 +477,7 @@ fn clears(
     requires can { CanStep (program_at moment.now) (act_at moment.now) moment.now.action (seen_at moment.now) }
     requires cells { by_cells ≡ kinds_of (clears_small (program_at moment.now) (act_at moment.now) moment.now.action
         (plain_part part) (seen_at moment.now)) }
-    ensures { (wrote : List Bytes) → moment.now.written ≡ are_written (program_at moment.now).layout wrote
+    ensures { (wrote : List Extent) → moment.now.written ≡ are_written (program_at moment.now).layout wrote
         (edge_items (act_at moment.now) moment.now.action)
         → result ≡ clears_part2 (program_at moment.now) (packs_in matrices.now) (act_at moment.now) moment.now.action
         (plain_part part.entry)
@@ -473,7 +494,7 @@ fn kinds_cleared(moment: &Moment, matrices: &Matrices, part: EdgePart, by_cells:
     requires can { CanStep (program_at moment.now) (act_at moment.now) moment.now.action (seen_at moment.now) }
     requires cells { by_cells ≡ kinds_of (clears_small (program_at moment.now) (act_at moment.now) moment.now.action
         (plain_part part) (seen_at moment.now)) }
-    ensures { (wrote : List Bytes) → moment.now.written ≡ are_written (program_at moment.now).layout wrote
+    ensures { (wrote : List Extent) → moment.now.written ≡ are_written (program_at moment.now).layout wrote
         (edge_items (act_at moment.now) moment.now.action)
         → result ≡ kinds_of (clears_part2 (program_at moment.now) (packs_in matrices.now) (act_at moment.now)
         moment.now.action (plain_part part.entry)
@@ -484,6 +505,7 @@ fn kinds_cleared(moment: &Moment, matrices: &Matrices, part: EdgePart, by_cells:
         truncation: clears(moment, matrices, part, by_cells, Kind::Truncation),
         zero: clears(moment, matrices, part, by_cells, Kind::Zero),
         class: clears(moment, matrices, part, by_cells, Kind::Class),
+        subscript: clears(moment, matrices, part, by_cells, Kind::Subscript),
     }
 }
 
@@ -494,7 +516,7 @@ fn cleared(edge: &PackEdge, part: &EdgePart, row: &[i128], state: PackState, out
     requires of_edge { IsOfEdge (program_on edge.now) (act_on edge.now) (action_on edge.now) (plain_part part.now) }
     requires can { CanStep (program_on edge.now) (act_on edge.now) (action_on edge.now) (seen row.now state.kept) }
     requires matrices { IsRowFor edge.now.plans.now out.now }
-    ensures { (wrote : List Bytes) → Tells edge.now wrote state.written
+    ensures { (wrote : List Extent) → Tells edge.now wrote state.written
         → result ≡ kinds_of (clears_part2 (program_on edge.now) (packs_on edge.now) (act_on edge.now)
         (action_on edge.now) (plain_part part.now)
         (seen row.now state.kept) (seen2 wrote (matrices_on edge.now out.now))) }

@@ -1,17 +1,17 @@
 //! Cells that a part leaves nothing known of.
 ghost use Rattle.std.specs.Prelude.{◌≡◌, ◌≤◌, length, map};
 ghost use Rattle.std.specs.Option.{option_copied};
+ghost use Rattle.cob_data.specs.Extents.{share_extents};
 ghost use Rattle.cob_runs.specs.Contents.{item_at};
 ghost use Rattle.diff_bounds.specs.Matrix.{IsMatrix};
 ghost use Rattle.cob_graph.specs.declared.homes.Home.TheVariants.{Item as of_item};
 ghost use Rattle.cob_graph.specs.Homes.{is_home};
-ghost use Rattle.cell_steps.specs.Cells.{is_in_bytes, is_beside};
+ghost use Rattle.cell_steps.specs.Cells.{is_in_extent, is_beside};
 ghost use Rattle.diff_steps.specs.Stores.{forgotten_cells};
 ghost use Rattle.diff_layer.specs.Gone.{is_gone};
 
 use crate::pack::matrix_forgetting::forget_cells;
-use cell_layer::share_bytes;
-use cob_data::{Item, Layout};
+use cob_data::{Extent, Item, Layout, share_extents};
 use cob_graph::Home;
 
 /// Which cells are forgotten.
@@ -21,8 +21,8 @@ pub(crate) enum Gone {
     Others(u32),
     /// An item, and what has bytes of it.
     Lost(u32),
-    /// What has some of so many bytes, from an offset on.
-    Bytes { offset: u32, count: u32 },
+    /// What has some of these bytes.
+    Bytes(Extent),
 }
 
 /// The item at a place, if there is one.
@@ -32,20 +32,28 @@ pub(crate) fn item_at(layout: &Layout, place: u32) -> Option<&Item>
     layout.items.get().get(place as usize)
 }
 
-fn has_bytes(layout: &Layout, offset: u32, count: u32, place: u32) -> bool
-    ensures { result ≡ is_in_bytes layout.now offset count (of_item place) }
+// Whether two extents share bytes, by the occurrences of the first. A pack's cell has one.
+fn share_bytes(cell: &Extent, extent: &Extent) -> bool
+    ensures { result ≡ share_extents extent.now cell.now }
+{
+    share_extents(cell, extent)
+}
+
+fn has_bytes(layout: &Layout, extent: &Extent, place: u32) -> bool
+    ensures { result ≡ is_in_extent layout.now extent.now (of_item place) }
 {
     match item_at(layout, place) {
         None => false,
-        Some(item) => share_bytes(offset, count, item.offset, item.length),
+        Some(item) => share_bytes(&item.extent(), extent),
     }
 }
 
-fn is_in_bytes(layout: &Layout, offset: u32, count: u32, cell: Home) -> bool
-    ensures { result ≡ is_in_bytes layout.now offset count cell }
+// whether a cell has some of these bytes
+fn is_in_extent(layout: &Layout, extent: &Extent, cell: Home) -> bool
+    ensures { result ≡ is_in_extent layout.now extent.now cell }
 {
     match cell {
-        Home::Item(place) => has_bytes(layout, offset, count, place),
+        Home::Item(place) => has_bytes(layout, extent, place),
         Home::Count(_) => false,
     }
 }
@@ -56,7 +64,7 @@ fn is_beside(layout: &Layout, place: u32, cell: Home) -> bool
 {
     match item_at(layout, place) {
         None => false,
-        Some(item) => is_in_bytes(layout, item.offset, item.length, cell),
+        Some(item) => is_in_extent(layout, &item.extent(), cell),
     }
 }
 
@@ -75,7 +83,7 @@ fn is_gone(layout: &Layout, gone: Gone, cell: Home) -> bool
     match gone {
         Gone::Others(place) => is_beside(layout, place, cell) && !is_item(place, cell),
         Gone::Lost(place) => is_item(place, cell) || is_beside(layout, place, cell),
-        Gone::Bytes { offset, count } => is_in_bytes(layout, offset, count, cell),
+        Gone::Bytes(extent) => is_in_extent(layout, &extent, cell),
     }
 }
 

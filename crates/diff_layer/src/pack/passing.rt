@@ -2,17 +2,17 @@
 //! known of its pack's cells; else it is closed still.
 ghost use Rattle.std.specs.Prelude.{◌≡◌, length, List, IsTrue, Some, None, if◌then◌else◌};
 ghost use Rattle.std.specs.List.{AllByRecursion};
+ghost use Rattle.cob_data.specs.declared.extent.Extent.{Extent};
 ghost use Rattle.cob_program.specs.ActView.{plain_program};
-ghost use Rattle.edge_amounts.specs.PartView.{plain_part};
+ghost use Rattle.edge_parts.specs.PartView.{plain_part};
 ghost use Rattle.diff_bounds.specs.Matrix.{IsMatrix};
 ghost use Rattle.cob_graph.specs.Graphs.{cells_of as program_cells};
 ghost use Rattle.interval_domain.specs.Rows.{IsReached, cells_of};
-ghost use Rattle.edge_amounts.specs.Numbers.{number_of};
+ghost use Rattle.cob_graph.specs.Numbers.{number_of};
 ghost use Rattle.cob_graph.specs.Homes.{homes_of};
 ghost use Rattle.cell_layer.specs.Kept.{latest_of};
 ghost use Rattle.cell_layer.specs.ProgramRows.{known_in, IsCellNumber};
 ghost use Rattle.diff_steps.specs.Matrices.{put_closed};
-ghost use Rattle.diff_steps.specs.Moments.{Bytes};
 ghost use Rattle.diff_steps.specs.Packs.{size_of};
 ghost use Rattle.diff_steps.specs.Steps.{each_pack, all_closed};
 ghost use Rattle.diff_layer.specs.Closed.{IsClosedBy, IsClosedRow, IsKnownAlike, IsIdle};
@@ -24,10 +24,10 @@ use crate::pack::changing::change_plan;
 use crate::pack::closing::close_again;
 use crate::pack::passed::Passed;
 use crate::pack::plans::{PackPlan, words_for};
-use cob_graph::Home;
+use cob_graph::{Home, cell_of, cell_of_count};
 use cob_program::Program;
 use cob_runs::Cell;
-use edge_amounts::{EdgePart, cell_of, cell_of_count};
+use edge_parts::EdgePart;
 use interval_domain::{Interval, known_at};
 
 // whether two lists of words are one
@@ -136,7 +136,7 @@ fn pass_pack(passed: &Passed, part: EdgePart, plan: &PackPlan, m: &mut [i128]) -
         (plain_part part) }
     requires matrix { IsMatrix (size_of (plain_plan plan.now)) m.old }
     requires closed { IsClosedBy (program_in passed.now) (known_before passed.now) (plain_plan plan.now) m.old }
-    ensures value { (wrote : List Bytes) → IsWrittenTo (program_in passed.now).layout wrote passed.now.moment.written
+    ensures value { (wrote : List Extent) → IsWrittenTo (program_in passed.now).layout wrote passed.now.moment.written
         (plain_part part.entry)
         → put_closed (program_in passed.now).layout (homes_of (program_in passed.now)) (known_behind passed.now)
         (plain_plan plan.now)
@@ -161,7 +161,7 @@ fn pass_packs(passed: &Passed, part: EdgePart, plans: &[PackPlan], out: &mut [i1
     requires can { CanChange (program_in passed.now) (known_before passed.now) passed.now.moment.kept.common
         (plain_part part) }
     requires matrices { IsClosedRow (program_in passed.now) (known_before passed.now) plans.now out.old }
-    ensures closed { (wrote : List Bytes) → IsWrittenTo (program_in passed.now).layout wrote passed.now.moment.written
+    ensures closed { (wrote : List Extent) → IsWrittenTo (program_in passed.now).layout wrote passed.now.moment.written
         (plain_part part.entry)
         → all_closed (program_in passed.now) (known_behind passed.now) (plain_plans plans.now)
         (each_pack (plan_changed (program_in passed.now) (known_before passed.now) passed.now.moment.kept.common
@@ -188,6 +188,8 @@ fn is_idle(part: EdgePart) -> bool
     match part {
         EdgePart::Read(_)
         | EdgePart::Unread
+        | EdgePart::Subscript { .. }
+        | EdgePart::Index { .. }
         | EdgePart::Divide(_)
         | EdgePart::ReadCount(_)
         | EdgePart::GuardCount { .. } => true,
@@ -214,7 +216,7 @@ pub(crate) fn pass(passed: &Passed, part: EdgePart, plans: &[PackPlan], out: &mu
     requires can { CanChange (program_in passed.now) (known_before passed.now) passed.now.moment.kept.common
         (plain_part part) }
     requires matrices { IsClosedRow (program_in passed.now) (known_before passed.now) plans.now out.old }
-    ensures closed { (wrote : List Bytes) → IsWrittenTo (program_in passed.now).layout wrote passed.now.moment.written
+    ensures closed { (wrote : List Extent) → IsWrittenTo (program_in passed.now).layout wrote passed.now.moment.written
         (plain_part part.entry)
         → all_closed (program_in passed.now) (known_behind passed.now) (plain_plans plans.now)
         (each_pack (plan_changed (program_in passed.now) (known_before passed.now) passed.now.moment.kept.common

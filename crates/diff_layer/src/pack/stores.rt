@@ -1,18 +1,18 @@
 //! Stores of amounts at the cells of a pack.
 ghost use Rattle.std.specs.Prelude.{◌≡◌, ◌+◌, ◌-◌, ◌^◌, ◌≤◌, true, length, List, IfSome};
+ghost use Rattle.cob_data.specs.declared.extent.Extent.{Extent};
 ghost use Rattle.cob_program.specs.Bounds.{is_small};
 ghost use Rattle.cob_runs.specs.Contents.{form_at};
 ghost use Rattle.cob_calc.specs.Contents.{bound_at};
-ghost use Rattle.edge_amounts.specs.PartView.{plain_amount};
+ghost use Rattle.transfer_ranges.specs.AmountView.{plain_amount};
 ghost use Rattle.diff_bounds.specs.Matrix.{IsMatrix};
 ghost use Rattle.transfer_ranges.specs.Receivers.{receiver_of};
-ghost use Rattle.edge_amounts.specs.Small.{is_small_amount};
-ghost use Rattle.edge_amounts.specs.Working.{CanWork};
+ghost use Rattle.transfer_ranges.specs.SmallAmounts.{is_small_amount};
+ghost use Rattle.transfer_ranges.specs.Working.{CanWork};
 ghost use Rattle.cob_graph.specs.declared.homes.Home.TheVariants.{Item as of_item};
 ghost use Rattle.cell_steps.specs.Stores.{range_at};
 ghost use Rattle.cell_layer.specs.Kept.{latest_of};
 ghost use Rattle.diff_steps.specs.Forms as forms;
-ghost use Rattle.diff_steps.specs.Moments.{Bytes};
 ghost use Rattle.diff_steps.specs.Packs.{cell_of, decimals_of};
 ghost use Rattle.diff_layer.specs.Sizes.{HasSmallTop};
 ghost use Rattle.diff_layer.specs.PackWriting.{amount_items, are_written};
@@ -30,8 +30,7 @@ use crate::pack::moment::{Moment, Slot};
 use cob_graph::Home;
 use dec_num::Mode;
 use diff_bounds::set_least_matrix;
-use edge_amounts::{Amount, receiver_at};
-use transfer_ranges::{AmountRange, Taken};
+use transfer_ranges::{Amount, AmountRange, Taken, receiver_at};
 
 // the range of an amount that is a decimal, by what it is worked out of
 fn decimal_in(worked: Option<Taken>) -> Option<AmountRange>
@@ -59,7 +58,7 @@ fn store_cell(
     requires top { IfSome moment.now.kept.common HasSmallTop }
     requires can { IfSome moment.now.kept.common (CanWork (plain_amount amount)
         (range_at (program_at moment.now) (known_at moment.now) place)) }
-    ensures value { (wrote : List Bytes) → moment.now.written ≡ are_written (program_at moment.now).layout wrote
+    ensures value { (wrote : List Extent) → moment.now.written ≡ are_written (program_at moment.now).layout wrote
         (amount_items (plain_amount amount.entry))
         → m.new ≡ cell_stored (length pack.now.cells.now) (receiver_of (form_at (program_at moment.now).layout place))
         mode
@@ -120,7 +119,7 @@ fn store_fitting(
     requires top { IfSome moment.now.kept.common HasSmallTop }
     requires can { IfSome moment.now.kept.common (CanWork (plain_amount amount)
         (range_at (program_at moment.now) (known_at moment.now) place)) }
-    ensures value { (wrote : List Bytes) → moment.now.written ≡ are_written (program_at moment.now).layout wrote
+    ensures value { (wrote : List Extent) → moment.now.written ≡ are_written (program_at moment.now).layout wrote
         (amount_items (plain_amount amount.entry))
         → m.new ≡ fitting_stored (program_at moment.now) (known_at moment.now) moment.now.kept.common
         (decimal_in moment.now.kept.result) wrote
@@ -157,7 +156,7 @@ pub(crate) fn store(
     requires top { IfSome moment.now.kept.common HasSmallTop }
     requires can { IfSome moment.now.kept.common (CanWork (plain_amount amount)
         (range_at (program_at moment.now) (known_at moment.now) place)) }
-    ensures value { (wrote : List Bytes) → moment.now.written ≡ are_written (program_at moment.now).layout wrote
+    ensures value { (wrote : List Extent) → moment.now.written ≡ are_written (program_at moment.now).layout wrote
         (amount_items (plain_amount amount.entry))
         → m.new ≡ store_changed (program_at moment.now) (known_at moment.now) moment.now.kept.common
         (latest_of moment.now.kept) wrote

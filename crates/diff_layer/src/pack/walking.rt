@@ -1,7 +1,8 @@
 //! The walk over the parts of an edge.
 ghost use Rattle.std.specs.Prelude.{◌≡◌, ◌&&◌, ◌||◌, ◌++◌, not, length, List, Some, None, IsTrue, if◌then◌else◌};
+ghost use Rattle.cob_data.specs.declared.extent.Extent.{Extent};
 ghost use Rattle.cob_edge_parts.specs.Parts.{is_handled};
-ghost use Rattle.edge_amounts.specs.PartView.{plain_part};
+ghost use Rattle.edge_parts.specs.PartView.{plain_part};
 ghost use Rattle.cell_laws.specs.Sizes.{IsSmallPart};
 ghost use Rattle.interval_domain.specs.Elements.{CellsFit};
 ghost use Rattle.interval_domain.specs.Rows.{cells_of};
@@ -10,7 +11,6 @@ ghost use Rattle.cell_layer.specs.Kept.{seen, latest_of};
 ghost use Rattle.cell_layer.specs.ProgramRows.{IsRowOf};
 ghost use Rattle.cell_layer.specs.Walks.{CanStep};
 ghost use Rattle.cell_layer.specs.Works.{program_of, act_of};
-ghost use Rattle.diff_steps.specs.Moments.{Bytes};
 ghost use Rattle.diff_steps.specs.Steps.{each_pack, all_closed};
 ghost use Rattle.diff_layer.specs.PackWriting.{are_written};
 ghost use Rattle.diff_layer.specs.Closed.{IsClosedRow};
@@ -39,7 +39,7 @@ use crate::pack::passing::pass;
 use cell_layer::{Kept, KnownItems, walk_part};
 use cob_program::Act;
 use cob_runs::Action;
-use edge_amounts::{EdgePart, EdgeWork};
+use edge_parts::{EdgePart, EdgeWork};
 
 // whether a part writes to bytes of the items of the operands
 fn writes(work: &EdgeWork, part: EdgePart) -> bool
@@ -73,7 +73,7 @@ fn pass_matrices(
     requires fit { CellsFit (owns (program_on edge.now)) (cells_of row.now) }
     requires can { CanChange (program_on edge.now) (cells_of before.now) state.kept.common (plain_part part) }
     requires matrices { IsClosedRow (program_on edge.now) (cells_of before.now) edge.now.plans.now out.old }
-    ensures closed { (wrote : List Bytes) → IsWrittenTo (program_on edge.now).layout wrote state.written
+    ensures closed { (wrote : List Extent) → IsWrittenTo (program_on edge.now).layout wrote state.written
         (plain_part part.entry)
         → all_closed (program_on edge.now) (cells_of row.now) (packs_on edge.now)
         (each_pack (plan_changed (program_on edge.now) (cells_of before.now) state.kept.common (latest_of state.kept)
@@ -115,14 +115,14 @@ pub(crate) fn step(
     requires of_edge { IsOfEdge (program_on edge.now) (act_on edge.now) (action_on edge.now) (plain_part part.now) }
     requires can { CanStep (program_on edge.now) (act_on edge.now) (action_on edge.now) (seen row.old state.old.kept) }
     requires matrices { IsClosedRow (program_on edge.now) (cells_of row.old) edge.now.plans.now out.old }
-    ensures steps { (wrote : List Bytes)
+    ensures steps { (wrote : List Extent)
         → Tells edge.now wrote state.old.written
         → step2_small (program_on edge.now) (packs_on edge.now) (act_on edge.now) (action_on edge.now)
         (plain_part part.now)
         (seen row.old state.old.kept) (seen2 wrote (matrices_on edge.now out.old))
         ≡ passed_to result (seen row.new state.new.kept)
         (seen2 (bytes_on edge.now (plain_part part.now) ++ wrote) (matrices_on edge.now out.new)) }
-    ensures writes { (wrote : List Bytes)
+    ensures writes { (wrote : List Extent)
         → Tells edge.now wrote state.old.written
         → Tells edge.now (bytes_on edge.now (plain_part part.now) ++ wrote) state.new.written }
     ensures row { IsRowOf (program_on edge.now) edge.now.cells.now row.new }
@@ -134,7 +134,7 @@ pub(crate) fn step(
     before.copy_from_slice(row);
     let written = state.written;
     let mut kept = state.kept;
-    let passes = walk_part(edge.cells, edge.work, *part, row, &mut kept);
+    let passes = walk_part(edge.cells, edge.marks, edge.work, *part, row, &mut kept);
     *state = PackState {
         kept,
         written: written_behind(edge.work, *part, written),

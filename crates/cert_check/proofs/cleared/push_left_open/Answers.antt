@@ -10,7 +10,7 @@ pub loop-kind-preserved : goal.loop-kind-preserved
 loop-kind-preserved c =
     let l = c.loop-kind in
     let items = c.all_kinds-kind-items.result in
-    let count : length c.all_kinds-kind-items.result ≡ 4 = ap length c.all_kinds-kind-items.ensures in
+    let count : length c.all_kinds-kind-items.result ≡ 5 = ap length c.all_kinds-kind-items.ensures in
     let test = c.loop-kind-test.true in
     let within : c.loop-kind.kind-index < length c.all_kinds-kind-items.result = omega (arith, count, test) in
     pushed_kind _ _ c.args.cleared c.args.statement items l.kind-index _ _ _ within (get_or_default items l.kind-index Size _ within)
@@ -19,7 +19,7 @@ loop-kind-preserved c =
 pub returns : goal.returns
 returns c =
     let l = c.loop-kind in
-    let count : length c.all_kinds-kind-items.result ≡ 4 = ap length c.all_kinds-kind-items.ensures in
+    let count : length c.all_kinds-kind-items.result ≡ 5 = ap length c.all_kinds-kind-items.ensures in
     let test = c.loop-kind-test.false in
     let over : length c.all_kinds-kind-items.result ≤ c.loop-kind.kind-index = omega (arith, count, test) in
     nothing_left _ _ (left_of c.args.cleared c.args.statement (drop l.kind-index c.all_kinds-kind-items.result))

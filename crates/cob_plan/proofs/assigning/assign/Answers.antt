@@ -3,7 +3,7 @@ use Rattle.cob_program.specs.ActView.{plain_program, plain_body}
 use Rattle.cob_program.specs.Act.{Act}
 use Rattle.cob_runs.specs.Effects.{edge_assigned}
 use Rattle.cob_plan.specs.Doing.{Meets}
-use Rattle.cob_plan.proofs.ActViews.{perform_is}
+use Rattle.cob_program.proofs.ActViews.{perform_is}
 use Rattle.cob_plan.proofs.assigning.assign.Goals as goal
 
 pub returns-in-Perform-clause-value : goal.returns-in-Perform-clause-value

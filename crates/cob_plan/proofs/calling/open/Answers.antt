@@ -2,7 +2,7 @@ use Rattle.std.proofs.Common.{◌∙◌, sym, ap, subst}
 use Rattle.cob_program.specs.ActView.{plain_program}
 use Rattle.cob_program.specs.Act.{Act, open_files}
 use Rattle.cob_plan.specs.Doing.{IsCall}
-use Rattle.cob_plan.proofs.ActViews.{open_is}
+use Rattle.cob_program.proofs.ActViews.{open_is}
 use Rattle.cob_plan.proofs.calling.open.Goals as goal
 
 pub returns-clause-value : goal.returns-clause-value

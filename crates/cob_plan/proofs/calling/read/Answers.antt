@@ -2,7 +2,7 @@ use Rattle.std.proofs.Common.{sym, subst}
 use Rattle.cob_program.specs.ActView.{plain_program, plain_stmts}
 use Rattle.cob_program.specs.Act.{Act}
 use Rattle.cob_plan.specs.Doing.{IsTaking}
-use Rattle.cob_plan.proofs.ActViews.{read_is}
+use Rattle.cob_program.proofs.ActViews.{read_is}
 use Rattle.cob_plan.proofs.calling.read.Goals as goal
 
 pub returns-clause-value : goal.returns-clause-value

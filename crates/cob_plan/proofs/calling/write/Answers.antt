@@ -3,7 +3,7 @@ use Rattle.std.specs.Prelude.{IfOk}
 use Rattle.cob_program.specs.ActView.{plain_program}
 use Rattle.cob_program.specs.Act.{Act}
 use Rattle.cob_plan.specs.Doing.{IsCall}
-use Rattle.cob_plan.proofs.ActViews.{write_is}
+use Rattle.cob_program.proofs.ActViews.{write_is}
 use Rattle.cob_plan.proofs.calling.write.Goals as goal
 
 pub returns-clause-value : goal.returns-clause-value

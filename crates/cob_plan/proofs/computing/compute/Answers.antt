@@ -6,7 +6,7 @@ use Rattle.cob_program.specs.SumView.{plain_sum}
 use Rattle.cob_runs.specs.Acts as acts
 use Rattle.cob_runs.specs.Effects.{edge_computed}
 use Rattle.cob_plan.specs.Doing.{Forks, without_error, with_error}
-use Rattle.cob_plan.proofs.ActViews.{perform_is, arith_is}
+use Rattle.cob_program.proofs.ActViews.{perform_is, arith_is}
 use Rattle.cob_plan.proofs.computing.compute.Goals as goal
 
 pub returns-in-Perform-clause-value : goal.returns-in-Perform-clause-value

@@ -1,7 +1,7 @@
 use Rattle.std.proofs.Common.{◌∙◌, sym, ap}
 use Rattle.cob_program.specs.ActView.{plain_body}
 use Rattle.cob_runs.specs.Effects.{is_times}
-use Rattle.cob_plan.proofs.ActViews.{perform_is}
+use Rattle.cob_program.proofs.ActViews.{perform_is}
 use Rattle.cob_plan.proofs.deciding.is_times.Goals as goal
 
 pub returns-in-Perform : goal.returns-in-Perform

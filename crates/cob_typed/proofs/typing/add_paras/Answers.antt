@@ -4,7 +4,7 @@ use Rattle.cob_tree.specs.StmtView.{plain_paragraph}
 use Rattle.cob_program.specs.ActView.{plain_para}
 use Rattle.cob_typed.specs.Lists.{found_behind}
 use Rattle.cob_typed.specs.Typing.{typed_paras}
-use Rattle.cob_typed_exprs.proofs.Loops.{item_step}
+use Rattle.cob_program.proofs.Loops.{item_step}
 use Rattle.cob_typed_exprs.proofs.EachLemmas.{map_more}
 use Rattle.cob_typed.proofs.ListLemmas.{para_value, para_next, para_found}
 use Rattle.cob_typed.proofs.typing.add_paras.Goals as goal

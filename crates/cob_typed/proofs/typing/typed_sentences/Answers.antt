@@ -5,7 +5,7 @@ use Rattle.cob_program.specs.Act.{stmts_of}
 use Rattle.cob_program.specs.ActView.{plain_stmt}
 use Rattle.cob_typed.specs.Lists.{found_behind}
 use Rattle.cob_typed.specs.Typing.{joined, typed_sentences}
-use Rattle.cob_typed_exprs.proofs.Loops.{item_step}
+use Rattle.cob_program.proofs.Loops.{item_step}
 use Rattle.cob_typed.proofs.ListLemmas.{sentence_value, sentence_next, sentence_found, joined_none}
 use Rattle.cob_typed.proofs.typing.typed_sentences.Goals as goal
 

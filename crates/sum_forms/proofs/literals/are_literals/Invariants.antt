@@ -1,5 +1,5 @@
 use Rattle.std.proofs.Common.{◌≡◌}
-use Rattle.sum_ranges.proofs.Loops.{factors_from}
+use Rattle.cob_program.proofs.SumLoops.{factors_from}
 use Rattle.sum_forms.specs.Literals.{are_literals}
 use Rattle.sum_forms.proofs.literals.are_literals.Given as goal
 

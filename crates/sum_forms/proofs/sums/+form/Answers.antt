@@ -1,7 +1,7 @@
 use Rattle.std.proofs.Common.{◌+◌, ◌∙◌, None, sym, ap, subst}
 use Rattle.cob_program.specs.SumView.{plain_factor, plain_part}
 use Rattle.sum_ranges.specs.Working.{HasRoom, HasSmallParts}
-use Rattle.sum_ranges.proofs.Loops.{factors_from, parts_from, factors_step, parts_step}
+use Rattle.cob_program.proofs.SumLoops.{factors_from, parts_from, factors_step, parts_step}
 use Rattle.sum_ranges.proofs.Rooms.{room_at_first, room_for_one, room_is_small, next_has_room, small_parts_at_first, more_small_parts}
 use Rattle.sum_forms.specs.declared.front.Front.TheVariants.{Empty}
 use Rattle.sum_forms.specs.SumForms.{product_form_from, sum_form_from}

@@ -4,7 +4,7 @@ use Rattle.interval_domain.specs.Corners.{interval}
 use Rattle.cob_program.specs.Values.{whole_number}
 use Rattle.sum_ranges.specs.Ranged.{point}
 use Rattle.sum_ranges.specs.Working.{HasRoom, HasSmallParts}
-use Rattle.sum_ranges.proofs.Loops.{factors_from, parts_from}
+use Rattle.cob_program.proofs.SumLoops.{factors_from, parts_from}
 use Rattle.sum_forms.specs.declared.front.Front.TheVariants.{Empty}
 use Rattle.sum_forms.specs.Constants.{constant_form}
 use Rattle.sum_forms.specs.SumForms.{product_form_from, sum_form_from}

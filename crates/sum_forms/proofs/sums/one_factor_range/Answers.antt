@@ -3,7 +3,7 @@ use Rattle.cob_program.specs.Sum.{more_factors, no_factors}
 use Rattle.cob_program.specs.declared.sum.Factor.{out-Factor}
 use Rattle.cob_program.specs.SumView.{plain_atom}
 use Rattle.sum_ranges.specs.Working.{HasRoom, CanScaleRange}
-use Rattle.sum_ranges.proofs.Loops.{factor_is}
+use Rattle.cob_program.proofs.SumLoops.{factor_is}
 use Rattle.sum_ranges.proofs.Rooms.{can_scale}
 use Rattle.sum_forms.proofs.sums.one_factor_range.Goals as goal
 

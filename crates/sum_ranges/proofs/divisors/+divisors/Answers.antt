@@ -2,7 +2,7 @@ use Rattle.std.proofs.Common.{◌+◌, ◌∙◌, sym, ap, subst}
 use Rattle.cob_program.specs.SumView.{plain_factor, plain_part}
 use Rattle.sum_ranges.specs.Vanishing.{may_vanish_in_parts, may_vanish_in_product}
 use Rattle.sum_ranges.specs.Working.{HasSmallFactors, HasSmallParts}
-use Rattle.sum_ranges.proofs.Loops.{factors_from, parts_from, factors_step, parts_step}
+use Rattle.cob_program.proofs.SumLoops.{factors_from, parts_from, factors_step, parts_step}
 use Rattle.sum_ranges.proofs.Rooms.{more_small_factors, more_small_parts, factor_passed, part_passed}
 use Rattle.sum_ranges.proofs.divisors.+divisors.Goals as goal
 

@@ -1,7 +1,7 @@
 use Rattle.std.proofs.Common.{◌≡◌}
 use Rattle.sum_ranges.specs.Vanishing.{may_vanish_in_parts, may_vanish_in_product}
 use Rattle.sum_ranges.specs.Working.{HasSmallFactors, HasSmallParts}
-use Rattle.sum_ranges.proofs.Loops.{factors_from, parts_from}
+use Rattle.cob_program.proofs.SumLoops.{factors_from, parts_from}
 use Rattle.sum_ranges.proofs.divisors.+divisors.Given as goal
 
 abbrev pub invariant-may_vanish_in_parts-loop-part : goal.invariant-may_vanish_in_parts-loop-part

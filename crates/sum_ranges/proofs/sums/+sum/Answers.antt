@@ -4,7 +4,7 @@ use Rattle.cob_program.specs.declared.sum.Factor.{out-Factor}
 use Rattle.cob_program.specs.SumView.{plain_factor, plain_part, plain_atom}
 use Rattle.sum_ranges.specs.SumRanges.{product_range_from, sum_range_from}
 use Rattle.sum_ranges.specs.Working.{HasRoom, HasRoomInSum, CanScaleRange}
-use Rattle.sum_ranges.proofs.Loops.{factors_from, parts_from, factor_is, factors_step, parts_step}
+use Rattle.cob_program.proofs.SumLoops.{factors_from, parts_from, factor_is, factors_step, parts_step}
 use Rattle.sum_ranges.proofs.Rooms.{can_scale, can_add_part, sum_room_at_first, room_at_first, next_has_room, next_has_room_in_sum, product_ends, product_goes_on, sum_ends, sum_goes_on}
 use Rattle.sum_ranges.proofs.sums.+sum.Goals as goal
 

@@ -3,7 +3,7 @@ use Rattle.cob_program.specs.Values.{whole_number}
 use Rattle.sum_ranges.specs.Ranged.{point}
 use Rattle.sum_ranges.specs.SumRanges.{product_range_from, sum_range_from}
 use Rattle.sum_ranges.specs.Working.{HasRoom, HasRoomInSum}
-use Rattle.sum_ranges.proofs.Loops.{factors_from, parts_from}
+use Rattle.cob_program.proofs.SumLoops.{factors_from, parts_from}
 use Rattle.sum_ranges.proofs.sums.+sum.Given as goal
 
 abbrev pub invariant-product_range-loop-factor : goal.invariant-product_range-loop-factor

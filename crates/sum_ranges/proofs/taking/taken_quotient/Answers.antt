@@ -1,8 +1,5 @@
-use Rattle.std.proofs.Common.{map}
-use Rattle.cob_program.specs.Sum.{factors_of}
-use Rattle.cob_program.specs.SumView.{plain_factor}
-use Rattle.sum_ranges.proofs.Roots.{below_is_small}
+use Rattle.cob_program.proofs.Roots.{divisor_is_small}
 use Rattle.sum_ranges.proofs.taking.taken_quotient.Goals as goal
 
 pub atom_range-requires-clause-small : goal.atom_range-requires-clause-small
-atom_range-requires-clause-small g c = below_is_small (g.R.Ranges.bound_at c.args.ranges.now) (factors_of (map plain_factor c.args.above.now)) c.args.below.now c.requires.small
+atom_range-requires-clause-small g c = divisor_is_small (g.R.Ranges.bound_at c.args.ranges.now) c.args.root c.requires.small

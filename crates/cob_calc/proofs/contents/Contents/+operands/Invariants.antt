@@ -1,6 +1,6 @@
 use Rattle.std.proofs.Common.{◌≡◌}
 use Rattle.cob_runs.specs.Computing.{are_numeric, items_in_parts, items_in_factors}
-use Rattle.cob_calc.proofs.SumLoops.{factors_from, parts_from}
+use Rattle.cob_program.proofs.SumLoops.{factors_from, parts_from}
 use Rattle.cob_calc.proofs.contents.Contents.+operands.Given as goal
 
 abbrev pub invariant-are_factors_numeric-loop-factor : goal.invariant-are_factors_numeric-loop-factor

@@ -5,7 +5,7 @@ use Rattle.cob_program.specs.declared.sum.Factor.{out-Factor}
 use Rattle.cob_program.specs.SumView.{plain_factor, plain_part, plain_atom}
 use Rattle.cob_calc.specs.Contents.{amount_at}
 use Rattle.cob_calc.specs.Working.{HasRoom, HasRoomInSum, CanScale}
-use Rattle.cob_calc.proofs.SumLoops.{factors_from, parts_from, factor_is, factors_step, parts_step}
+use Rattle.cob_program.proofs.SumLoops.{factors_from, parts_from, factor_is, factors_step, parts_step}
 use Rattle.cob_calc.proofs.SumLemmas.{can_scale, sum_room_at_first, room_at_first, next_has_room, next_has_room_in_sum, sum_room_is_small, product_ends, product_goes_on, sum_goes_on}
 use Rattle.cob_calc.proofs.contents.Contents.+sum.Goals as goal
 

@@ -2,7 +2,7 @@ use Rattle.std.proofs.Common.{◌≡◌, pos}
 use Rattle.cob_program.specs.Values.{whole_number, product_from, sum_from}
 use Rattle.cob_calc.specs.Contents.{amount_at}
 use Rattle.cob_calc.specs.Working.{HasRoom, HasRoomInSum}
-use Rattle.cob_calc.proofs.SumLoops.{factors_from, parts_from}
+use Rattle.cob_program.proofs.SumLoops.{factors_from, parts_from}
 use Rattle.cob_calc.proofs.contents.Contents.+sum.Given as goal
 
 abbrev pub invariant-product-loop-factor : goal.invariant-product-loop-factor

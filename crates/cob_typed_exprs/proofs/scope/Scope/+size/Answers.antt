@@ -2,7 +2,8 @@ use Rattle.std.proofs.Common.{◌∙◌, ◌+◌, sym, ap}
 use Rattle.cob_program.specs.declared.sum.Factor.{out-Factor}
 use Rattle.cob_program.specs.SumView.{plain_atom, plain_part}
 use Rattle.cob_typed_exprs.specs.Sizes.{bound_at, plain_size, small_product, small_sum_from}
-use Rattle.cob_typed_exprs.proofs.SizeLoops.{factors_from, parts_from, factors_step, factors_end, parts_step, parts_end, product_none, product_over, product_step, sum_none, sum_over, sum_step}
+use Rattle.cob_program.proofs.SumLoops.{factors_from, parts_from, factors_end, parts_step, parts_end}
+use Rattle.cob_typed_exprs.proofs.SizeLoops.{factors_step, product_none, product_over, product_step, sum_none, sum_over, sum_step}
 use Rattle.cob_typed_exprs.proofs.scope.Scope.+size.Goals as goal
 
 pub small_product-returns-in-None : goal.small_product-returns-in-None

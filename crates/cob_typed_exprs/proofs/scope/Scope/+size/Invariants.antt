@@ -1,7 +1,7 @@
 use Rattle.std.proofs.Common.{◌≡◌}
 use Rattle.cob_program.specs.Bounds.{exactly}
 use Rattle.cob_typed_exprs.specs.Sizes.{bound_at, plain_size, small_product, small_sum_from}
-use Rattle.cob_typed_exprs.proofs.SizeLoops.{factors_from, parts_from}
+use Rattle.cob_program.proofs.SumLoops.{factors_from, parts_from}
 use Rattle.cob_typed_exprs.proofs.scope.Scope.+size.Given as goal
 
 abbrev pub invariant-small_product-loop-factor : goal.invariant-small_product-loop-factor

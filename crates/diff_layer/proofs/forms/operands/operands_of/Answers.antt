@@ -1,5 +1,5 @@
 use Rattle.std.proofs.Common.{◌∙◌}
-use Rattle.edge_amounts.specs.PartView.{plain_amount}
+use Rattle.transfer_ranges.specs.AmountView.{plain_amount}
 use Rattle.cell_layer.proofs.ShortBounds.{bounded}
 use Rattle.cell_layer.proofs.ShortAnswers.{operands_are}
 use Rattle.diff_layer.specs.Views.{program_of, known_in}

@@ -1,7 +1,7 @@
 use Rattle.std.proofs.Common.{length, ap, ◌∙◌}
 use Rattle.sum_forms.specs.SumForms.{atom_form}
 use Rattle.sum_forms.proofs.Within.{atom_within}
-use Rattle.edge_amounts.specs.PartView.{plain_divisor}
+use Rattle.edge_parts.specs.PartView.{plain_divisor}
 use Rattle.cob_graph.specs.declared.homes.Home.TheVariants.{Item as of_item}
 use Rattle.cell_steps.specs.Stores.{range_at}
 use Rattle.diff_layer.specs.Views.{item_cell, program_of, known_in}

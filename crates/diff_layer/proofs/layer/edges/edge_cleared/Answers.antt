@@ -6,7 +6,7 @@ use Rattle.cell_steps.specs.OwnRanges.{owns}
 use Rattle.cell_layer.specs.ProgramRows.{IsRowOf}
 use Rattle.cell_layer.specs.Works as works
 use Rattle.cell_layer.proofs.Leaving as cells
-use Rattle.cell_layer.proofs.Leaving.{can_walk}
+use Rattle.cell_layer.proofs.Leaving.{can_walk, marks_of_work}
 use Rattle.diff_layer.specs.GraphWorks.{program_of, graph_of, packs_of, edge_of, matrices_of, cells_at}
 use Rattle.diff_layer.specs.Walks.{statement_clears2}
 use Rattle.diff_layer.proofs.ClearedByCells.{all_cleared_by_cells}
@@ -23,10 +23,19 @@ invariant_of-edge c =
     let can = can_walk (program_of e) (graph_of e) (edge_of e a.at) w work e.works.now.source c.get.result.now a.rows.now.cells.now c.get.ensures c.requires.reached c.requires.fits in
     record {
       packs = plans_of_work (program_of e) (graph_of e) (edge_of e a.at) w work e.plans.now e.packs;
+      marked = marks_of_work (program_of e) (graph_of e) (edge_of e a.at) w work e.works.now.graph.now.cells c.get.result.now e.works.now.marks.items c.as_slice.result.now
+          c.get.ensures c.as_slice.ensures.value e.works.now.marked;
       small_cells = can.small_cells;
       small = can.small;
       of_edge = of_edge (program_of e) (graph_of e) (edge_of e a.at) w work e.works.now.source;
     }
+
+pub cleared_by_edge-requires-clause-marks : goal.cleared_by_edge-requires-clause-marks
+cleared_by_edge-requires-clause-marks c =
+    let a = c.args in
+    let e = a.edges.now in
+    marks_of_work (program_of e) (graph_of e) (edge_of e a.at) c.in-Some.work.now (rw c.in-Some.is at c.at.ensures) e.works.now.graph.now.cells c.get.result.now e.works.now.marks.items
+    c.as_slice.result.now c.get.ensures c.as_slice.ensures.value e.works.now.marked
 
 pub cleared_by_edge-requires-clause-can : goal.cleared_by_edge-requires-clause-can
 cleared_by_edge-requires-clause-can c =

@@ -1,6 +1,6 @@
 use Rattle.std.proofs.Common.{◌∙◌}
 use Rattle.interval_domain.specs.Rows.{cells_of}
-use Rattle.cell_layer.proofs.Leaving.{can_walk}
+use Rattle.cell_layer.proofs.Leaving.{can_walk, marks_of_work}
 use Rattle.diff_layer.specs.GraphWorks.{program_of, graph_of, packs_of, edge_of, matrices_of}
 use Rattle.diff_layer.proofs.EdgeOperands.{of_edge, plans_of_work}
 use Rattle.diff_layer.proofs.EdgesWalked.{walks_it, walks_none}
@@ -15,6 +15,8 @@ invariant_of-edge c =
     let can = can_walk (program_of e) (graph_of e) (edge_of e a.at) w work e.works.now.source c.get.result.now a.row.now c.get.ensures c.requires.reached c.requires.fits in
     record {
       packs = plans_of_work (program_of e) (graph_of e) (edge_of e a.at) w work e.plans.now e.packs;
+      marked = marks_of_work (program_of e) (graph_of e) (edge_of e a.at) w work e.works.now.graph.now.cells c.get.result.now e.works.now.marks.items c.as_slice.result.now
+          c.get.ensures c.as_slice.ensures.value e.works.now.marked;
       small_cells = can.small_cells;
       small = can.small;
       of_edge = of_edge (program_of e) (graph_of e) (edge_of e a.at) w work e.works.now.source;

@@ -1,5 +1,5 @@
 use Rattle.std.proofs.Common.{length, ◌∙◌, sym, ap}
-use Rattle.edge_amounts.specs.PartView.{plain_part}
+use Rattle.edge_parts.specs.PartView.{plain_part}
 use Rattle.cell_layer.specs.Kept.{latest_of}
 use Rattle.diff_layer.specs.Views.{plain_pack, program_of, known_in}
 use Rattle.diff_layer.specs.Changes.{part_changed}

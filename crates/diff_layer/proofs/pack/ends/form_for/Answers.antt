@@ -1,5 +1,5 @@
 use Rattle.std.proofs.Common.{◌∙◌, sym, ap}
-use Rattle.edge_amounts.specs.PartView.{plain_part}
+use Rattle.edge_parts.specs.PartView.{plain_part}
 use Rattle.diff_layer.specs.Views.{plain_pack, program_of, known_in}
 use Rattle.diff_layer.specs.Ends.{part_form}
 use Rattle.diff_layer.proofs.pack.ends.form_for.Goals as goal

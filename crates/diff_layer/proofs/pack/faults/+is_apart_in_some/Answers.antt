@@ -1,6 +1,6 @@
 use Rattle.std.proofs.Common.{take, drop, ap, subst, ◌∙◌, arith}
 use Rattle.std.specs.List.{AllByRecursion}
-use Rattle.edge_amounts.specs.PartView.{plain_divisor}
+use Rattle.edge_parts.specs.PartView.{plain_divisor}
 use Rattle.diff_layer.specs.Clears.{divisor_apart}
 use Rattle.diff_layer.specs.Plans.{IsPlanOf}
 use Rattle.diff_layer.specs.Views.{program_of, known_in}

@@ -1,6 +1,6 @@
 use Rattle.std.proofs.Common.{sym, ap, subst, ◌∙◌}
 use Rattle.cob_tree.specs.Kinds.{kinds_of}
-use Rattle.edge_amounts.specs.PartView.{plain_part}
+use Rattle.edge_parts.specs.PartView.{plain_part}
 use Rattle.cell_laws.specs.Sizes.{IsSmallPart}
 use Rattle.cell_layer.specs.Kept.{seen}
 use Rattle.cell_layer.specs.Walks.{clears_small, CanStep}

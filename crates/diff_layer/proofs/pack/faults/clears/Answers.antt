@@ -1,7 +1,7 @@
 use Rattle.std.proofs.Common.{sym, ap, ◌∙◌}
 use Rattle.cob_tree.specs.Kinds.{has}
 use Rattle.cob_tree.proofs.KindLaws.{has_kinds_of}
-use Rattle.edge_amounts.specs.PartView.{plain_part}
+use Rattle.edge_parts.specs.PartView.{plain_part}
 use Rattle.cell_layer.specs.Walks.{clears_small}
 use Rattle.diff_layer.specs.Moments.{act_at, seen_at, packs_in, words_in}
 use Rattle.diff_layer.specs.Views.{program_of}

@@ -1,6 +1,6 @@
 use Rattle.std.proofs.Common.{◌∙◌}
 use Rattle.dec_num.specs.declared.types.Mode.TheVariants.{Trunc}
-use Rattle.edge_amounts.specs.PartView.{plain_part}
+use Rattle.edge_parts.specs.PartView.{plain_part}
 use Rattle.diff_layer.specs.Clears.{both_shown}
 use Rattle.diff_layer.specs.Moments.{packs_in, words_in}
 use Rattle.diff_layer.specs.Views.{program_of, known_in}

@@ -1,7 +1,7 @@
 use Rattle.std.proofs.Common.{sym, ap, subst, arith, ◌∙◌}
 use Rattle.diff_bounds.specs.Matrix.{IsMatrix}
 use Rattle.diff_steps.specs.Packs.{size_of}
-use Rattle.edge_amounts.specs.PartView.{plain_divisor}
+use Rattle.edge_parts.specs.PartView.{plain_divisor}
 use Rattle.diff_layer.specs.Plans.{plain_plan}
 use Rattle.diff_layer.specs.Views.{program_of, known_in}
 use Rattle.diff_layer.proofs.Divisors.{apart_is}

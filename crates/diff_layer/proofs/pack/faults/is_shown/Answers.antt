@@ -1,5 +1,5 @@
 use Rattle.std.proofs.Common.{◌∙◌, sym, ap}
-use Rattle.edge_amounts.specs.PartView.{plain_part}
+use Rattle.edge_parts.specs.PartView.{plain_part}
 use Rattle.diff_layer.specs.Clears.{set_cleared, part_cleared}
 use Rattle.diff_layer.specs.Walks.{seen2}
 use Rattle.diff_layer.specs.Moments.{act_at, seen_at, packs_in, words_in}

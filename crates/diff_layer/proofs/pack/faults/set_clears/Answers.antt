@@ -1,5 +1,5 @@
 use Rattle.std.proofs.Common.{◌∙◌, ap}
-use Rattle.edge_amounts.specs.PartView.{plain_part}
+use Rattle.edge_parts.specs.PartView.{plain_part}
 use Rattle.cell_steps.specs.Seen.{Seen}
 use Rattle.cell_layer.specs.Kept.{seen}
 use Rattle.diff_layer.specs.Clears.{count_shown}

@@ -1,6 +1,6 @@
 use Rattle.std.specs.Prelude.{IfSome}
 use Rattle.std.proofs.Common.{sym, subst}
-use Rattle.edge_amounts.specs.PartView.{plain_amount}
+use Rattle.transfer_ranges.specs.AmountView.{plain_amount}
 use Rattle.transfer_ranges.specs.Sizes.{IsSmallAmount}
 use Rattle.cell_layer.proofs.Stepping.{can_work, small_amounts}
 use Rattle.diff_layer.specs.Moments.{act_at, seen_at}

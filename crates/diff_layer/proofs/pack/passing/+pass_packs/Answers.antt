@@ -1,6 +1,6 @@
 use Rattle.std.proofs.Common.{◌++◌, take, drop, ap, subst, ◌∙◌, arith}
 use Rattle.std.specs.List.{AllByRecursion}
-use Rattle.edge_amounts.specs.PartView.{plain_part}
+use Rattle.edge_parts.specs.PartView.{plain_part}
 use Rattle.cell_layer.specs.Kept.{latest_of}
 use Rattle.diff_layer.specs.Parts.{plan_changed}
 use Rattle.diff_layer.specs.Plans.{IsPlanOf, matrices_for}

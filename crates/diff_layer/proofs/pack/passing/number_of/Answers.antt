@@ -1,6 +1,6 @@
 use Rattle.std.proofs.Common.{sym, ap, ◌∙◌}
 use Rattle.cob_program.specs.ActView.{plain_program}
-use Rattle.edge_amounts.specs.Numbers.{number_of}
+use Rattle.cob_graph.specs.Numbers.{number_of}
 use Rattle.diff_layer.proofs.pack.passing.number_of.Goals as goal
 
 pub returns-in-Item : goal.returns-in-Item

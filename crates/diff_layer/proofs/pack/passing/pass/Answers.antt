@@ -1,5 +1,5 @@
 use Rattle.std.proofs.Common.{if◌then◌else◌, Some, None, sym, ap, subst, ◌∙◌}
-use Rattle.edge_amounts.specs.PartView.{plain_part}
+use Rattle.edge_parts.specs.PartView.{plain_part}
 use Rattle.interval_domain.specs.Rows.{cells_of}
 use Rattle.cell_layer.specs.Kept.{latest_of}
 use Rattle.diff_layer.specs.Closed.{AreClosedBy, IsClosedRow}

@@ -1,5 +1,5 @@
 use Rattle.std.proofs.Common.{◌||◌, sym, ap, subst, ◌∙◌}
-use Rattle.edge_amounts.specs.PartView.{plain_part}
+use Rattle.edge_parts.specs.PartView.{plain_part}
 use Rattle.interval_domain.specs.Rows.{cells_of}
 use Rattle.cell_layer.specs.Kept.{seen, latest_of}
 use Rattle.cell_layer.specs.Works.{program_of, act_of}

@@ -1,5 +1,0 @@
-use Rattle.diff_bounds.proofs.Closures.{closed_or}
-use Rattle.diff_bounds.proofs.closure_laws.closing_is_the_closure.Goals as goal
-
-pub returns : goal.returns
-returns c m is = closed_or c.args.size m c.requires is

@@ -1,5 +1,0 @@
-use Rattle.diff_bounds.proofs.Rounds.{within}
-use Rattle.diff_bounds.proofs.error_laws.errors_are_sound.Goals as goal
-
-pub returns : goal.returns
-returns c = within

@@ -1,5 +1,0 @@
-use Rattle.diff_bounds.proofs.Scales.{stored_between}
-use Rattle.diff_bounds.proofs.error_laws.stores_lie_between.Goals as goal
-
-pub returns : goal.returns
-returns c = stored_between

@@ -1,5 +1,0 @@
-use Rattle.diff_bounds.proofs.Surer.{surer_inside}
-use Rattle.diff_bounds.proofs.error_laws.surer_errors_are_narrower.Goals as goal
-
-pub returns : goal.returns
-returns c = surer_inside

@@ -1,0 +1,10 @@
+use Rattle.std.proofs.Common.{sym, ◌∙◌, rules}
+use Rattle.std.specs.Int.{w128}
+use Rattle.std.proofs.lemmas.Int.{to_z-of_z}
+use Rattle.diff_bounds.proofs.Same.{row_word_is}
+use Rattle.diff_bounds.proofs.form.assignment.row_word.Goals as goal
+
+pub returns-then-has_less : goal.returns-then-has_less
+returns-then-has_less c =
+    to_z-of_z w128 c.upper.result (search rules) ∙ c.upper.ensures.bound
+    ∙ row_word_is c.args.size c.args.m.now c.args.form.now c.less.result c.args.place c.requires.size (sym c.if-has_less.ensures) c.less.ensures

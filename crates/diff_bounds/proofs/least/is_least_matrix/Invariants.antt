@@ -1,6 +1,0 @@
-use Rattle.std.proofs.Common.{ℕ, ◌<◌, ◌≤ℤ◌, pos, get_or}
-use Rattle.diff_bounds.specs.Lattice.{bottom_word}
-use Rattle.diff_bounds.proofs.least.is_least_matrix.Given as goal
-
-abbrev pub invariant-loop-at : goal.invariant-loop-at
-invariant-loop-at l = (j : ℕ) → j < l.at → get_or l.m j (pos 0) ≤ℤ bottom_word l.size j

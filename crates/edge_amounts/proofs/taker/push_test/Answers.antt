@@ -1,6 +1,0 @@
-use Rattle.edge_amounts.specs.PartView.{plain_reference}
-use Rattle.edge_amounts.proofs.HandingLaws.{takes_one}
-use Rattle.edge_amounts.proofs.taker.push_test.Goals as goal
-
-pub returns : goal.returns
-returns c = takes_one plain_reference _ _ _ _ c.hand.ensures

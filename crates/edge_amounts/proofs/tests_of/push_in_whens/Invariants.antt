@@ -1,9 +1,0 @@
-use Rattle.cob_runs.specs.Effects.{tests_in_whens}
-use Rattle.edge_amounts.specs.PartView.{plain_reference}
-use Rattle.edge_amounts.proofs.TestLoops.{whens_from}
-use Rattle.edge_amounts.proofs.HandingLaws.{Leads}
-use Rattle.edge_amounts.proofs.tests_of.push_in_whens.Given as goal
-
-abbrev pub invariant-loop-when : goal.invariant-loop-when
-invariant-loop-when l =
-    Leads plain_reference l.tests (tests_in_whens (whens_from l.whens l.when-index)) l.initial.tests (tests_in_whens (whens_from l.whens 0))

@@ -1,7 +1,0 @@
-use Rattle.edge_amounts.specs.PartView.{plain_part}
-use Rattle.edge_amounts.proofs.HandingLaws.{list_if}
-use Rattle.edge_amounts.proofs.work.listed.Goals as goal
-
-pub returns-in-Continue : goal.returns-in-Continue
-returns-in-Continue c =
-    list_if plain_part _ c.new.result _ _ _ c.into_list.ensures c.new.ensures.items c.in-Continue.ensures

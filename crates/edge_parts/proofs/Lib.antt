@@ -1,0 +1,10 @@
+pub mod SoughtLemmas
+pub mod HandingLaws
+pub mod SumLoops
+pub mod TestLoops
+pub mod FileLoops
+pub mod FormLemmas
+pub mod EdgeLemmas
+pub mod EdgeTests
+pub mod DivisorLemmas
+pub mod EndLoops

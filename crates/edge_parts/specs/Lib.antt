@@ -1,0 +1,3 @@
+pub mod PartView
+pub mod Handing
+pub mod Pieces
