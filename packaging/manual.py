@@ -1,7 +1,8 @@
 #!/usr/bin/env python3
-"""Writes the guide, a document in Markdown, as the manual page cobsound(1): `manual.py docs/GUIDE.md >cobsound.1`.
+"""Writes documents in Markdown as the manual page cobsound(1): `manual.py docs/GUIDE.md docs/TUTORIAL.md .. >cobsound.1`.
 
-Of Markdown it knows what the guide has: headings, paragraphs, lists, tables, blocks of code, and marks within lines.
+Of the first one the sections stand, behind its list of contents; each further one is a section of its own. Of Markdown it
+knows what they have: headings, paragraphs, lists, tables, blocks of code, and marks within lines.
 """
 
 import pathlib
@@ -74,15 +75,15 @@ def item(line: str) -> Iterator[str]:
     yield marked(text)
 
 
-def heading(line: str) -> str:
+def heading(line: str, section: str) -> str:
     marks, text = line.split(" ", 1)
     text = marked(text).replace('"', r"\(dq")
-    return f'.SH "{text.upper()}"' if marks == "##" else f'.SS "{text}"'
+    return f'.SH "{text.upper()}"' if marks == section else f'.SS "{text}"'
 
 
-def body(lines: list[str]) -> Iterator[str]:
-    """The page's lines for those of the guide behind its list of contents."""
-    at = next(number for number, line in enumerate(lines) if line.startswith("## "))
+def body(lines: list[str], section: str) -> Iterator[str]:
+    """The page's lines for those of a document from its first section on, which begins with these marks."""
+    at = next(number for number, line in enumerate(lines) if line.startswith(f"{section} "))
     while at < len(lines):
         line, at = lines[at], at + 1
         if line.startswith("```"):
@@ -96,7 +97,7 @@ def body(lines: list[str]) -> Iterator[str]:
         elif re.match(r"(-|[0-9]+\.) ", line):
             yield from item(line)
         elif line.startswith("#"):
-            yield heading(line)
+            yield heading(line, section)
         elif line:
             yield ".PP"
             yield marked(line)
@@ -104,8 +105,9 @@ def body(lines: list[str]) -> Iterator[str]:
 
 def main() -> int:
     version = (pathlib.Path(__file__).resolve().parents[1] / "VERSION").read_text().strip()
-    guide = pathlib.Path(sys.argv[1]).read_text("utf-8").splitlines()
-    print("\n".join([HEAD.replace("{version}", version), *body(guide)]))
+    guide, *others = (pathlib.Path(name).read_text("utf-8").splitlines() for name in sys.argv[1:])
+    pages = [line for other in others for line in body(other, "#")]
+    print("\n".join([HEAD.replace("{version}", version), *body(guide, "##"), *pages]))
     return 0
 
 

@@ -1,4 +1,4 @@
-"""What the guide shows of `analyse`: the reports on the samples, among them the steps of its example, the program that only
+"""What docs/TUTORIAL.md shows of `analyse`: the reports on the samples, among them the steps of its example, the program that only
 a difference shows to be clean, and what its words answer. The certificate that is written must be answered by `check` with
 the same report, and the other files must be as they were."""
 
@@ -39,13 +39,13 @@ BILLS = [
 ]
 
 
-# what the guide says that its certificate claims of a program, by the node
+# what the tutorial says that its certificate claims of a program, by the node
 COUNTS = {2: "d 1 2 1 0", 5: "d 1 2 1 -1"}
 
 
 def counts():
-    """The guide's program with two counts."""
-    text = (ROOT / "docs/GUIDE.md").read_text("utf-8").split("### What differences show")[1]
+    """The tutorial's program with two counts."""
+    text = (ROOT / "docs/TUTORIAL.md").read_text("utf-8").split("## 6. A bound by another item")[1]
     return next(block for block in text.split("```\n")[1::2] if block.startswith("       IDENTIFICATION"))
 
 
@@ -91,7 +91,7 @@ def reports():
 
 
 def told_of_counts(path):
-    """What is wrong with the claims on the guide's program with two counts."""
+    """What is wrong with the claims on the tutorial's program with two counts."""
     _, _, left = ran(path, ["analyse", "S", "C"], {"S": counts()})
     nodes = left["C"].decode().split("node ")[1:]
     lacking = [line for node, line in COUNTS.items() if line not in nodes[node - 1].splitlines()]
@@ -99,7 +99,7 @@ def told_of_counts(path):
 
 
 def runs():
-    """The guide's runs: a blank reading, no reading at all, and all readings in the program that is clean."""
+    """The tutorial's runs: a blank reading, no reading at all, and all readings in the program that is clean."""
     meters = (ROOT / "samples/water/METERS").read_text("latin-1")
     listed = [
         (1, meters, 1, "E18 CLASS statement 14 step 37\n", BILLS[:2]),

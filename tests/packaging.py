@@ -1,6 +1,6 @@
 """The packages: the same bytes twice, and what is installed from them into an empty folder works there.
 
-The samples' answers are those of docs/GUIDE.md. Nothing of the sources is installed, nor what only the tree needs."""
+The samples' answers are those of docs/GUIDE.md, docs/PREPARE.md and docs/TUTORIAL.md. Nothing of the sources is installed, nor what only the tree needs."""
 
 import hashlib
 import os
@@ -93,11 +93,14 @@ def of_the_packages():
 
 
 def of_the_manual():
-    """Every heading and every line of a program's answer that the guide has stands in the manual, as `man` shows it."""
-    done = subprocess.run([ROOT / "packaging/manual.py", ROOT / "docs/GUIDE.md"], capture_output=True, text=True)
+    """Every section of the guide, every page beside it, and answers of the program stand in the manual, as `man` shows
+    it."""
+    pages = [ROOT / f"docs/{name}.md" for name in ("GUIDE", "TUTORIAL", "PROFILE", "PREPARE", "WITNESS")]
+    done = subprocess.run([ROOT / "packaging/manual.py", *pages], capture_output=True, text=True)
     page = done.stdout.replace("\\-", "-")
-    guide = (ROOT / "docs/GUIDE.md").read_text("utf-8").splitlines()
+    guide, *others = (path.read_text("utf-8").splitlines() for path in pages)
     wanted = [line.lstrip("# ").upper() for line in guide if line.startswith("## ")]
+    wanted += [other[0].lstrip("# ").upper() for other in others]
     missing = [line for line in wanted if line.replace("'", "") not in page.replace("'", "").upper()]
     shown = ("SIZE statement 13 line 60", "E15 NAME length N", "samples/water/METERS")
     missing += [line for line in shown if line not in page]

@@ -94,16 +94,16 @@ def of_example(rewriting):
 
 
 def of_the_table():
-    """Each rewriting has its sources of each kind, and its row in the guide."""
+    """Each rewriting has its sources of each kind, and its row in docs/PREPARE.md."""
     kinds = {}
     for name, row in rows():
         kinds.setdefault(name, set()).add(row["kind"])
-    guide = (ROOT / "docs/GUIDE.md").read_text("utf-8")
+    page = (ROOT / "docs/PREPARE.md").read_text("utf-8")
     for rewriting in REWRITINGS:
         if kinds.pop(rewriting.name, None) != KINDS:
             return f"prepare: not all kinds of sources for {rewriting.name}"
-        if f"| `{rewriting.name}` |" not in guide:
-            return f"prepare: docs/GUIDE.md has no row for {rewriting.name}"
+        if f"| `{rewriting.name}` |" not in page:
+            return f"prepare: docs/PREPARE.md has no row for {rewriting.name}"
     return f"prepare: sources for {sorted(kinds)}, which aren't rewritings" if kinds else None
 
 

@@ -194,7 +194,7 @@ def of_copies(program):
 
 
 def mapped(places, line, column):
-    """A place by the map's file, read as docs/GUIDE.md says."""
+    """A place by the map's file, read as docs/PREPARE.md says."""
     origin, number = places["lines"][line - 1]
     for start, there, at, same in places["columns"].get(str(line), ()):
         if start <= column:

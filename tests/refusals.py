@@ -1,7 +1,7 @@
 """What `tools/cobsound_report` names in sources itself: what isn't in the profile, what is missing, names that nothing
 declares, and words that are taken as paragraphs; and what it explains.
 
-For each phrase of the guide's table of what isn't in the profile there is a source, in which an `@` stands before the
+For each phrase of docs/PROFILE.md there is a source, in which an `@` stands before the
 word that must be named with its column.
 
 A case has the phrase, or the description of its row, and the number that the program answers. `identification`,

@@ -43,7 +43,7 @@ class Map:
         return Place(self.origins[origin], number, there)
 
     def as_json(self) -> str:
-        """The map as it is written; docs/GUIDE.md has its form."""
+        """The map as it is written; docs/PREPARE.md has its form."""
         numbers = {origin: number for number, origin in enumerate(self.origins)}
         origins = []
         for origin in self.origins:

@@ -1,4 +1,4 @@
-"""What of a prepared source isn't in the profile, by the table of docs/GUIDE.md: the program will refuse it."""
+"""What of a prepared source isn't in the profile, by the table of docs/PROFILE.md: the program will refuse it."""
 
 import functools
 from collections.abc import Iterator

@@ -10,7 +10,7 @@ are the forms of a report, and `main` is the command.
 of them stands in their own files.
 
 What the tool itself sees in a source: `scan` has its tokens with their places, `forms` guesses in which form it is
-written, `declared` knows what it declares, `profile` and `shapes` find what isn't in the profile by the guide's table,
+written, `declared` knows what it declares, `profile` and `shapes` find what isn't in the profile by PROFILE.md,
 `missing` and `undeclared` what there isn't, `remarks` puts this together, and `causes` says which of it the program's
 answer means. `explain` tells a rule by an example.
 

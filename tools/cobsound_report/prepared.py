@@ -1,4 +1,4 @@
-"""Sources that are prepared before the program reads them (docs/GUIDE.md, Your own sources), and the places of what is
+"""Sources that are prepared before the program reads them (docs/PREPARE.md), and the places of what is
 told of them in the files from which they were made."""
 
 import hashlib

@@ -1,4 +1,4 @@
-"""What isn't in the profile: the table of docs/GUIDE.md, whose rows have the words as they are written and a way out.
+"""What isn't in the profile: the table of docs/PROFILE.md, whose rows have the words as they are written and a way out.
 
 A row's column "Written" has either phrases in code, or a description with phrases as examples behind "as". A phrase of
 the first kind is a pattern of tokens: words in capitals, numbers and marks stand for themselves, `name`, `text` and

@@ -15,7 +15,7 @@ from .remarks import PARAGRAPH
 from .words import SEEN, SENTENCES, UNPREPARED, Entry, Words
 
 SCHEMA = "https://docs.oasis-open.org/sarif/sarif/v2.1.0/errata01/os/schemas/sarif-schema-2.1.0.json"
-GUIDE = (ROOT / "docs/GUIDE.md").as_uri()
+GUIDE, PREPARE, PROFILE = ((ROOT / f"docs/{name}.md").as_uri() for name in ("GUIDE", "PREPARE", "PROFILE"))
 
 # Relative addresses of sources begin in the folder of the call.
 BASE = "%SRCROOT%"
@@ -78,18 +78,18 @@ def rule(name: str, entry: Entry) -> dict:
         "shortDescription": {"text": SENTENCES.get(name, entry.cause)},
         "fullDescription": {"text": entry.cause},
         "help": {"text": entry.advice or entry.cause},
-        "helpUri": f"{GUIDE}#{heading(name)}",
+        "helpUri": place(name),
         "defaultConfiguration": {"level": level.value},
     }
 
 
-def heading(name: str) -> str:
-    """The part of the guide that has a rule."""
+def place(name: str) -> str:
+    """The document that has a rule, and the heading there."""
     if name in SENTENCES:
-        return "the-report"
+        return f"{GUIDE}#the-report"
     if name == UNPREPARED:
-        return "your-own-sources"
-    return "what-isnt-in-the-profile" if name in SEEN else "refusals"
+        return PREPARE
+    return PROFILE if name in SEEN else f"{GUIDE}#refusals"
 
 
 def result(source: SourceReport, finding: Finding, rules: list[str], report: Report) -> dict:

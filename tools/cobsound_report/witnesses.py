@@ -1,4 +1,4 @@
-"""What `cobsound witness` found out of alarms, from the folders of its results (docs/GUIDE.md has their form)."""
+"""What `cobsound witness` found out of alarms, from the folders of its results (docs/WITNESS.md has their form)."""
 
 import json
 import pathlib

@@ -1,4 +1,5 @@
-"""The words for alarms and refusals: those of the tables in docs/GUIDE.md, and the rules in docs/LANGUAGE.md."""
+"""The words for alarms and refusals: those of the tables in docs/GUIDE.md and docs/PROFILE.md, and the rules in
+docs/LANGUAGE.md."""
 
 import re
 from collections.abc import Iterator
@@ -23,7 +24,7 @@ UNPREPARED = "not-prepared"
 SEEN = {
     OUTSIDE: (
         "a word, or a way to write, that isn't in the profile",
-        "see the table \"What isn't in the profile\" in GUIDE.md",
+        "see the table in PROFILE.md",
     ),
     UNDECLARED: ("a name that nothing declares as what it is used for", "declare it, or correct it"),
     MISSING: ("a division, section or paragraph is missing", "write its header"),
@@ -122,5 +123,7 @@ def filled(entry: Entry, row: str, told: str) -> Entry | None:
 
 
 def read_words() -> Words:
-    guide, language = ((ROOT / "docs" / name).read_text("utf-8") for name in ("GUIDE.md", "LANGUAGE.md"))
-    return Words(guide, language)
+    guide, profile, language = (
+        (ROOT / "docs" / name).read_text("utf-8") for name in ("GUIDE.md", "PROFILE.md", "LANGUAGE.md")
+    )
+    return Words(f"{guide}\n{profile}", language)
