@@ -8,12 +8,13 @@ standard outputs that fail, `bytewise` files that give or take a byte at a time,
 `report_calls`, `report_files`, `refusals`, `standing` and `nightly` those of the tool around the program and of its
 document, `prepare`, `prepare_texts` and `damaged_sources` those of the tool that prepares sources, `prepared` those of
 the tools that do so first, `prepare_compiled` those of the former under another compiler, which takes a minute and is
-done where the word is `--all` or `--compiled`, `packaging` the packages, `costings` those of the script that watches the
-gate, `witness` the search for input files on one program (with `--witness`, or `--all`, on all of `tests/shop`), `calls`
-the calls of libraries, `ranges` those that work with ranges of numbers, `matrices` those with matrices and forms,
-`edges` and `diffs` those with edges of control graphs, and `slow` the comparison of the interpreter with the plain slow
-step. The last six need programs of their own, which the gate builds: without them their cases are left out, which is
-told, and is a failure where the word is `--all`. With `--large` `diffs` tries all of its programs.
+done where the word is `--all` or `--compiled`, `packaging` the packages, `showing` what `tests/show` prints, `costings`
+those of the script that watches the gate, `witness` the search for input files on one program (with `--witness`, or
+`--all`, on all of `tests/shop`), `calls` the calls of libraries, `ranges` those that work with ranges of numbers,
+`matrices` those with matrices and forms, `edges` and `diffs` those with edges of control graphs, and `slow` the
+comparison of the interpreter with the plain slow step. The last six need programs of their own, which the gate builds:
+without them their cases are left out, which is told, and is a failure where the word is `--all`. With `--large` `diffs`
+tries all of its programs.
 """
 
 import itertools
@@ -23,14 +24,14 @@ from os import cpu_count
 
 from tests import analysed, analyses, built, bytewise, calls, costings, damaged_sources, diffs, edges, launching
 from tests import limits, matrices, nightly, outside, packaging, packs, prepare, prepare_compiled, prepare_texts
-from tests import prepared, programs, ranges, reference, refusals, report, report_calls, report_files, sample, slow
-from tests import standing, trials, witness, words
+from tests import prepared, programs, ranges, reference, refusals, report, report_calls, report_files, sample
+from tests import showing, slow, standing, trials, witness, words
 
 PLAIN = (reference, sample, analysed, analyses, packs, trials, programs, words, limits, outside, bytewise)
 
 REPORT = (report, report_calls, report_files, refusals, standing, nightly)
 PREPARE = (prepare, prepare_texts, prepared, damaged_sources)
-TOOL = (launching, *REPORT, *PREPARE, packaging, costings, witness)
+TOOL = (launching, *REPORT, *PREPARE, packaging, showing, costings, witness)
 
 # These need programs of their own.
 DRIVEN = (calls, ranges, matrices, edges, diffs, slow)
