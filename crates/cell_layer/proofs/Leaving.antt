@@ -1,5 +1,5 @@
 -- What holds of an edge of a graph by its work.
-use Rattle.std.proofs.Common.{◌≡◌, List, length, ℤ, Option, Some, None, Bool, true, Vec, sym, ap, subst, ◌∙◌}
+use Rattle.std.proofs.Common.{◌≡◌, List, length, ℤ, Some, None, Bool, true, Vec, sym, ap, subst, ◌∙◌}
 use Rattle.std.specs.List.{AllByRecursion}
 use Rattle.std.specs.declared.alloc.Global.{Global}
 use Rattle.std.proofs.Props.{props}
@@ -30,7 +30,7 @@ use Rattle.cell_layer.specs.SmallCells.{has_small_cells}
 use Rattle.cell_layer.specs.Edges.{CanWalk, statement_post, statement_clears}
 use Rattle.cell_layer.specs.Works.{program_of, statement_of, act_of, IsWorkOf}
 use Rattle.cell_layer.proofs.SmallHomes.{cells_are_small}
-use Rattle.cell_layer.proofs.AtMostOne.{parts_prop}
+use Rattle.cell_layer.specs.AtMostOne.{parts_prop}
 use Rattle.cell_layer.proofs.KindSets.{same_tests}
 use Rattle.cell_layer.proofs.Finding.{edge_by, edge_by_none, clears_by, clears_by_none, small_at}
 

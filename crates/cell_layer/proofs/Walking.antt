@@ -25,7 +25,7 @@ use Rattle.cell_layer.specs.Walks.{steps_small, clears_all_small, CanStep}
 use Rattle.cell_layer.proofs.SmallEdges.{posts_are_small, clears_are_small}
 use Rattle.cell_layer.specs.Edges.{statement_post, statement_clears}
 use Rattle.cell_layer.specs.Works.{program_of, statement_of, act_of, parts_in}
-use Rattle.cell_layer.proofs.AtMostOne.{parts_prop}
+use Rattle.cell_layer.specs.AtMostOne.{parts_prop}
 use Rattle.cell_layer.proofs.KindSets.{same_tests}
 
 pub width_is : (p : Program) (cells : List Cell) (row : List ℤ) → IsRowOf p cells row → length row ≡ width_of (owns p)

@@ -39,7 +39,6 @@ pub mod Nearness
 pub mod Divisors
 pub mod Cleared
 pub mod ClearedAt
-pub mod ShortHomes
 pub mod Steps
 pub mod Rows
 pub mod Sizes

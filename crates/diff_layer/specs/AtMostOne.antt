@@ -13,7 +13,7 @@ use Rattle.interval_domain.specs.declared.bounds.Interval.{Interval}
 use Rattle.interval_domain.specs.Known.{Known, KnownFits}
 use Rattle.interval_domain.specs.Elements.{CellsFit}
 use Rattle.cell_laws.specs.Sizes.{IsSmallPart}
-use Rattle.cell_layer.proofs.AtMostOne.{parts_prop}
+use Rattle.cell_layer.specs.AtMostOne.{parts_prop}
 use Rattle.diff_layer.specs.declared.pack.plans.PackPlan.{PackPlan}
 use Rattle.diff_layer.specs.Parts.{IsOfEdge}
 use Rattle.diff_layer.specs.Plans.{IsShortHome, IsPlanOf, ArePlansOf}

@@ -1,6 +1,5 @@
 //! Whether an edge has written to bytes of the items that its operands are read of.
 ghost use Rattle.std.specs.Prelude.{◌≡◌, ◌∷◌, [], if◌then◌else◌, map};
-ghost use Rattle.std.specs.List.{list_any};
 ghost use Rattle.std.specs.Option.{option_map};
 ghost use Rattle.cob_program.specs.ActView.{plain_act};
 ghost use Rattle.cob_program.specs.Sum.{parts_of, factors_of};

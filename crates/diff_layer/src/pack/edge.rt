@@ -5,7 +5,7 @@ ghost use Rattle.cell_laws.specs.Sizes.{IsSmallPart};
 ghost use Rattle.cell_layer.specs.Forgetting.{AreMarks};
 ghost use Rattle.cell_layer.specs.SmallCells.{has_small_cells};
 ghost use Rattle.cell_layer.specs.Works.{program_of, act_of};
-ghost use Rattle.cell_layer.proofs.AtMostOne.{parts_prop};
+ghost use Rattle.cell_layer.specs.AtMostOne.{parts_prop};
 ghost use Rattle.diff_layer.specs.AtMostOne.{all_of_edge_prop, plans_prop};
 ghost use Rattle.diff_layer.specs.Parts.{IsOfEdge};
 ghost use Rattle.diff_layer.specs.Plans.{ArePlansOf};
