@@ -10,6 +10,7 @@ lines that an answer names have what it says of them; a certificate's cells have
 import decimal
 import json
 import re
+import signal
 import sys
 
 from tests import packs, prepare, programs, refusals
@@ -29,8 +30,8 @@ FILES = {
     "checked": CERTIFIED,
     "contents": ("what the bytes of an item hold", "calls"),
     "decimals": ("a call of dec_num", "calls"),
-    "differences": ("what edges make of differences of cells, worked out by tests/differences.py", "diffs"),
-    "edges": ("what edges make of what is known of cells, worked out by tests/steps.py", "edges"),
+    "differences": ("what edges make of differences of cells, at random rows and matrices", "diffs"),
+    "edges": ("what edges make of what is known of cells, at random rows", "edges"),
     "edges_by_rule": ("what edges make of what is known of cells", "edges"),
     "grammar": REFUSED,
     "lines": ("the characters of a source in fixed form", "calls"),
@@ -48,6 +49,8 @@ FILES = {
 }
 
 KINDS = {"plain": "is rewritten", "border": "is rewritten, at a border", "left": "is left alone"}
+
+WORKED = {"edges": "is worked out by tests/steps.py", "differences": "is worked out by tests/differences.py"}
 
 # Keys that together are a source.
 SOURCE = {"source", "identification", "environment", "select", "fd", "data", "procedure"}
@@ -109,7 +112,7 @@ def rule_of(row):
 
 def by_row(words):
     """The case that a file and a row name, with a command before them or a rule after them or not."""
-    match = re.fullmatch(r"(?:(?:check|analyse|run) )?(\S+) (\d+)(?:, .*)?", words)
+    match = re.fullmatch(r"(?:(?:check|analyse|run|packs of) )?(\S+) (\d+)(?:, .*)?", words)
     if not match:
         return []
     name = "analyses" if match[1] == "analysis" else match[1].removeprefix("tests/cases/").removesuffix(".jsonl")
@@ -246,7 +249,8 @@ def told(name, number, row):
     what, module = next(FILES[key] for key in (name, name.split("/")[0], name.removesuffix("_by_rule")) if key in FILES)
     yield f"{name}.jsonl {number}: {what} (tests/{module}.py)"
     by_hand = "by_rule" in name or "/" in name or name == "refusals"
-    yield f"What must come was worked out by {'hand' if by_hand else 'an independent program'}."
+    source = WORKED.get(name, "was worked out by hand" if by_hand else "was worked out by an independent program")
+    yield f"What must come {source}."
     yield from titled("Rule", [rule_of(row)]) if rule_of(row) else ()
     is_source = bool(SOURCE & set(row)) or "kind" in row
     if is_source:
@@ -254,11 +258,13 @@ def told(name, number, row):
         yield from of_source(row)
     row, wanted = sorted_out(name, row)
     keys = set(row) - SOURCE - {"rule", "phrase", "kind"} - ({"lines"} if "kind" in row else set())
-    titles = {**{key: key for key in sorted(keys)}, **WANTED, **GIVEN}
+    titles = {**{key: key for key in keys}, **WANTED, **GIVEN}
     order = [key for key in (*GIVEN, *WANTED, *sorted(keys - set(GIVEN) - set(WANTED))) if key in keys]
     for key in order:
         if key not in wanted:
             yield from titled(titles[key], lines_of(key, row))
+    if name in WORKED:
+        return
     yield "What must come:"
     for key in order:
         if key in wanted:
@@ -266,7 +272,7 @@ def told(name, number, row):
 
 
 def main():
-    words = " ".join(sys.argv[1:])
+    words = " ".join(sys.argv[1:]).removesuffix(":")
     if words in ("", "-h", "--help"):
         print(__doc__.strip())
         return 0 if words else 4
@@ -318,7 +324,7 @@ def of_all():
     """Each case has its words, and what must come."""
     for case in cases():
         lines = list(told(*case))
-        if lines[-1] == "What must come:" and case[0] not in ("differences", "edges"):
+        if lines[-1] == "What must come:":
             return f"show: nothing must come of {case[0]} {case[1]}"
     return None
 
@@ -328,4 +334,5 @@ def checks():
 
 
 if __name__ == "__main__":
+    signal.signal(signal.SIGPIPE, signal.SIG_DFL)
     sys.exit(main())
