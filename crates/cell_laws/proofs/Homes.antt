@@ -11,7 +11,7 @@ use Rattle.cob_program.specs.Statements.{program_statements}
 use Rattle.cob_runs.specs.Contents.{item_at, form_at}
 use Rattle.cob_runs.specs.Effects.{act_at}
 use Rattle.cob_graph.specs.declared.homes.Home.{Home}
-use Rattle.cob_graph.specs.declared.homes.Home.TheVariants.{Item as of_item, Count as of_count}
+use Rattle.cob_graph.specs.declared.homes.Home.TheVariants.{Item as of_item}
 use Rattle.cob_graph.specs.Homes.{if_named, home_of, item_homes, act_homes, count_homes, homes_of, cell_of_home}
 use Rattle.cob_graph.specs.WellFormed.{IsWellFormed}
 use Rattle.cell_steps.specs.OwnRanges.{own_range, home_range}

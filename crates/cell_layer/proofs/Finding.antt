@@ -1,13 +1,10 @@
 -- The statement that an edge leaves, found by its number.
-use Rattle.std.proofs.Common.{◌≡◌, ◌≤◌, ◌<◌, inl, inr, true, ℕ, zero, suc, ◌+◌, ◌-◌, ◌^◌, take, List, [], ◌∷◌, length, Option, Some, None, refl, sym, ap, subst, ◌∙◌, arith}
+use Rattle.std.proofs.Common.{◌≡◌, ◌<◌, inl, inr, true, ℕ, zero, suc, List, [], ◌∷◌, length, Option, Some, None, refl, sym, ap, subst, ◌∙◌, arith}
 use Rattle.std.specs.Prelude.{slice_index_or}
 use Rattle.std.specs.List.{All, AllByRecursion}
 use Rattle.std.specs.Option.{option_map_or}
-use Rattle.std.proofs.Props.{props}
 use Rattle.std.proofs.Math.Logic.{∥∥₁_elim}
-use Rattle.std.proofs.lemmas.List.{take_all}
-use Rattle.std.proofs.lemmas.List.Elements.{All-head, All-tail, All-more}
-use Rattle.std.proofs.lemmas.Option.{same_Some, none-some}
+use Rattle.std.proofs.lemmas.List.Elements.{All-head, All-tail}
 use Rattle.cob_tree.specs.declared.fault.Kind.{Kind}
 use Rattle.cob_program.specs.Act.{Stmt, MkStmt, Act, Program}
 use Rattle.cob_program.specs.Statements.{program_statements}
@@ -17,8 +14,8 @@ use Rattle.cob_graph.specs.declared.graph.Graph.{Graph}
 use Rattle.cob_graph.specs.WellFormed.{IsWellFormed}
 use Rattle.edge_parts.specs.PartView.{edge_parts}
 use Rattle.graph_runs.specs.Sources.{IsSourceGraph}
-use Rattle.data_laws.specs.Statements.{IsIn, IsFound}
-use Rattle.data_laws.proofs.Listed.{found_is_listed, listed_is_found}
+use Rattle.data_laws.specs.Statements.{IsIn}
+use Rattle.data_laws.proofs.Listed.{found_is_listed}
 use Rattle.interval_domain.specs.Known.{Known}
 use Rattle.cell_steps.specs.Edges.{post_cells, clears_edge}
 use Rattle.cell_laws.specs.Layer.{left, edge_cells, edge_clears}

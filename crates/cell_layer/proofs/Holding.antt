@@ -10,7 +10,6 @@ use Rattle.cob_tree.specs.Kinds.{has, kinds_of, every_kind}
 use Rattle.cob_tree.proofs.KindLaws.{has_kinds_of}
 use Rattle.cob_program.specs.ActView.{plain_program}
 use Rattle.cob_program.specs.Act.{Program}
-use Rattle.cob_graph.specs.declared.graph.Edge.{Edge}
 use Rattle.cob_graph.specs.declared.graph.Graph.{Graph}
 use Rattle.graph_runs.specs.Places.{no_edge}
 use Rattle.interval_domain.specs.declared.bounds.Interval.{Interval}

@@ -1,5 +1,5 @@
 -- What holds of an edge of a graph by its work.
-use Rattle.std.proofs.Common.{◌≡◌, List, length, ℤ, Option, Some, None, Bool, true, Vec, sym, ap, subst, ◌∙◌}
+use Rattle.std.proofs.Common.{◌≡◌, List, length, ℤ, Some, None, Bool, true, Vec, sym, ap, subst, ◌∙◌}
 use Rattle.std.specs.List.{AllByRecursion}
 use Rattle.std.specs.declared.alloc.Global.{Global}
 use Rattle.std.proofs.Props.{props}

@@ -1,5 +1,5 @@
 -- What a program's graph gives a layer that is made over it.
-use Rattle.std.proofs.Common.{◌≡◌, ◌≤◌, ◌<◌, ◌*◌, ◌-◌, ℕ, suc, List, [], ◌∷◌, length, ℤ, Vec, Some, refl, sym, ap, subst, ◌∙◌, arith}
+use Rattle.std.proofs.Common.{◌≡◌, ◌≤◌, ◌<◌, ◌*◌, ◌-◌, ℕ, suc, List, [], ◌∷◌, length, ℤ, Vec, refl, sym, ap, subst, ◌∙◌, arith}
 use Rattle.std.specs.Prelude.{slice_index_or}
 use Rattle.std.specs.declared.alloc.Global.{Global}
 use Rattle.std.specs.List.{All}
@@ -15,7 +15,7 @@ use Rattle.cob_store.specs.WellFormed.{HasWellFormedItems}
 use Rattle.dom_laws.specs.Flow.{IsNode}
 use Rattle.interval_domain.specs.declared.bounds.Interval.{Interval}
 use Rattle.interval_domain.specs.Elements.{AreThresholds}
-use Rattle.interval_domain.specs.Rows.{row_of, lists_of}
+use Rattle.interval_domain.specs.Rows.{lists_of}
 use Rattle.graph_runs.specs.Places.{no_edge}
 use Rattle.graph_runs.specs.Sources.{IsSourceGraph}
 use Rattle.graph_runs.specs.Flows.{HasEdgesInOrder, flow_over}
@@ -23,8 +23,6 @@ use Rattle.graph_runs.proofs.Ordering.{in_order, graphs_are_flows}
 use Rattle.cob_graph.specs.Homes.{homes_of}
 use Rattle.cob_graph.specs.Limits.{most_cells, most_nodes}
 use Rattle.cell_steps.specs.OwnRanges.{home_range, owns}
-use Rattle.cell_laws.specs.Entry.{entry_cells}
-use Rattle.cell_laws.specs.Layer.{row_for}
 use Rattle.cell_layer.specs.declared.layer.works.EdgeWorks.{EdgeWorks}
 use Rattle.cell_layer.specs.Held.{IsHeld}
 use Rattle.cell_layer.proofs.FirstCells.{homes_many}

@@ -1,6 +1,6 @@
 -- Works that edges share.
 use Rattle.std.proofs.Common.{◌≡◌, ◌≤◌, ◌<◌, ℕ, zero, suc, ◌+◌, Bool, true, false, if◌then◌else◌, List, [], ◌∷◌, ◌++◌, length, Option, Some, None, inl, inr, refl, sym, ap, subst, ◌∙◌, arith}
-use Rattle.std.specs.Prelude.{◌⊎◌, slice_get, slice_index_or, option_copied, Contains, IfSome}
+use Rattle.std.specs.Prelude.{◌⊎◌, slice_get, slice_index_or, option_copied, Contains}
 use Rattle.std.specs.Slice.{IsItemAt}
 use Rattle.std.specs.Borrow.{Bor}
 use Rattle.std.specs.List.{All, AllByRecursion}
@@ -25,7 +25,7 @@ use Rattle.data_laws.proofs.Listed.{listed_is_found}
 use Rattle.cell_laws.specs.Layer.{left}
 use Rattle.cell_layer.specs.NumberedStatements.{number_in, act_in}
 use Rattle.cell_layer.specs.Statements.{stated, stated_in}
-use Rattle.cell_layer.specs.Works.{program_of, statement_of, act_of, IsWorkOf, StandsAt, IsPlaceOf, AreFirstPlaces, ArePlaces, IsOfProgram, HasMore}
+use Rattle.cell_layer.specs.Works.{program_of, statement_of, IsWorkOf, StandsAt, IsPlaceOf, AreFirstPlaces, ArePlaces, IsOfProgram, HasMore}
 use Rattle.cell_layer.proofs.Finding.{found_at, is_left_none}
 
 -- ---- works of the program's statements

@@ -27,6 +27,6 @@ pub use row::counters::count_units;
 pub use row::forgetting::bytes_from;
 pub use row::items::{KnownItems, item_is_numeric, item_range};
 pub use row::knowing::{known_of_count, known_of_item};
-pub use row::pictures::is_table;
+pub use row::pictures::{is_small_item, is_table};
 pub use row::scales::Taken;
 pub use row::taking::taken;

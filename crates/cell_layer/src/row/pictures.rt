@@ -96,8 +96,8 @@ pub(crate) fn is_small(digits: u32, scale: u32) -> bool
     digits <= 37 && scale <= 37
 }
 
-/// Whether it works with the numbers of an item.
-pub(crate) fn is_small_item(layout: &Layout, place: u32) -> bool
+/// Whether the arithmetic works with the numbers of an item.
+pub fn is_small_item(layout: &Layout, place: u32) -> bool
     ensures { result ≡ is_small (bound_at layout.now place) }
 {
     let picture = picture_at(layout, place);

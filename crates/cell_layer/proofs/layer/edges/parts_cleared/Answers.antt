@@ -1,4 +1,4 @@
-use Rattle.std.proofs.Common.{◌≡◌, ◌<◌, ◌+◌, List, length, get_or, ap, subst, ◌∙◌}
+use Rattle.std.proofs.Common.{◌<◌, ◌+◌, List, length, get_or, ap, subst, ◌∙◌}
 use Rattle.cob_tree.specs.declared.kinds.Kinds.{Kinds}
 use Rattle.cob_tree.specs.Kinds.{kinds_of, both}
 use Rattle.edge_parts.specs.declared.part.EdgePart.{EdgePart}

@@ -1,4 +1,4 @@
-use Rattle.std.proofs.Common.{List, ℤ, Some, None, ap, ◌∙◌, sym}
+use Rattle.std.proofs.Common.{Some, None, ap, ◌∙◌, sym}
 use Rattle.interval_domain.specs.Rows.{cells_of, row_from, width_of}
 use Rattle.cell_steps.specs.OwnRanges.{owns}
 use Rattle.cell_steps.specs.Edges.{finished}

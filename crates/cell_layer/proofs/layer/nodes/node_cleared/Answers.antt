@@ -1,7 +1,6 @@
 use Rattle.std.proofs.Common.{◌≡◌, ◌≤◌, ◌<◌, ◌==◌, ◌∙◌, List, true, false, length, slice_index_or, sym, ap, subst, arith, rules}
 use Rattle.std.specs.List.Sorted.{IsNonDecreasingBy}
 use Rattle.std.proofs.lemmas.Bool.{eqb-true, eqb-false}
-use Rattle.cob_tree.specs.declared.fault.Kind.{Kind}
 use Rattle.cob_program.specs.ActView.{plain_program}
 use Rattle.cob_graph.specs.declared.graph.Edge.{Edge}
 use Rattle.interval_domain.specs.Rows.{cells_of}

@@ -1,12 +1,10 @@
-use Rattle.std.proofs.Common.{◌≡◌, Option, Some, None, sym, ap, ◌∙◌}
+use Rattle.std.proofs.Common.{Some, None, sym, ap, ◌∙◌}
 use Rattle.std.specs.Option.{option_map}
 use Rattle.cob_program.specs.ActView.{plain_program}
 use Rattle.interval_domain.specs.Rows.{cells_of}
 use Rattle.interval_domain.specs.declared.bounds.Interval.{Interval}
 use Rattle.cob_graph.specs.declared.homes.Home.TheVariants.{Item as of_item}
-use Rattle.cob_graph.specs.Homes.{homes_of}
 use Rattle.transfer_ranges.specs.Kept.{met}
-use Rattle.cell_steps.specs.Cells.{units_of}
 use Rattle.cell_steps.specs.Steps.{table, known_as}
 use Rattle.cell_layer.proofs.Tables.{met_is_ordered}
 use Rattle.cell_layer.proofs.row.subscripts.index_item.Goals as goal

@@ -3,7 +3,6 @@ use Rattle.cob_program.specs.ActView.{plain_program}
 use Rattle.cob_program.specs.Values.{◌>>=◌}
 use Rattle.graph_runs.specs.Places.{edge_at}
 use Rattle.interval_domain.specs.Elements.{Element}
-use Rattle.interval_domain.specs.Rows.{cells_of}
 use Rattle.cell_laws.specs.Layer.{row_for, edge_cells}
 use Rattle.cell_layer.proofs.Holding.{fits_too, posts_too, reached_element}
 use Rattle.cell_layer.proofs.layer.flowing.CellLayerSystem.post.Goals as goal

@@ -1,5 +1,5 @@
-use Rattle.std.proofs.Common.{◌≡◌, List, Option, Some, None, refl, sym, ap, subst, length, ◌∙◌}
-use Rattle.std.specs.Prelude.{slice_get, slice_index_or, option_copied}
+use Rattle.std.proofs.Common.{List, Option, Some, None, sym, ap, subst, ◌∙◌}
+use Rattle.std.specs.Prelude.{slice_get, slice_index_or}
 use Rattle.cob_program.specs.ActView.{plain_program}
 use Rattle.cob_program.specs.Values.{◌>>=◌}
 use Rattle.edge_parts.specs.declared.work.EdgeWork.{EdgeWork}

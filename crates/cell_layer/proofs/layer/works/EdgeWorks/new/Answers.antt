@@ -1,4 +1,4 @@
-use Rattle.std.proofs.Common.{◌≡◌, ◌+◌, List, ap, subst, sym, ◌∙◌}
+use Rattle.std.proofs.Common.{◌+◌, List, ap, subst, sym, ◌∙◌}
 use Rattle.std.specs.Prelude.{slice_index_or}
 use Rattle.cob_program.specs.ActView.{plain_program}
 use Rattle.cob_program.specs.Act.{Program}
