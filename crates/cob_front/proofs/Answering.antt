@@ -1,5 +1,5 @@
 -- What a phase answers is the answer to the source, and each cause is answered.
-use Rattle.std.proofs.Common.{◌≡◌, ◌≤◌, ◌⊎◌, ℕ, List, length, Result, Ok, Err, sym, ap, ◌∙◌, subst, inl, inr}
+use Rattle.std.proofs.Common.{◌≡◌, ◌≤◌, ℕ, List, length, Result, Ok, Err, sym, ap, ◌∙◌, subst, inl, inr}
 use Rattle.cob_tree.specs.declared.token.Token.{Token}
 use Rattle.cob_tree.specs.Stmt.{Tree}
 use Rattle.cob_lex.specs.Text.{source_limit}
@@ -12,8 +12,7 @@ use Rattle.cob_program.specs.Act.{Program}
 use Rattle.cob_program.specs.ActView.{plain_program}
 use Rattle.cob_front.specs.declared.refusal.Refusal.{Refusal}
 use Rattle.cob_front.specs.declared.refusal.Refusal.TheVariants as end
-use Rattle.cob_front.specs.Source.{HasTokens, StandsFor, IsTreeCause, IsSource, IsCause, HasCause, IsProgram, IsProgramOf, Answers, IsRefused, IsAccepted}
-use Rattle.cob_front.proofs.TreeCauses.{is_tree_end}
+use Rattle.cob_front.specs.Source.{StandsFor, IsTreeCause, IsSource, IsCause, IsProgram, IsProgramOf, Answers, IsRefused, IsAccepted}
 use Rattle.cob_front.proofs.OneAnswer.{one_answer}
 
 abbrev Given : Type 0
