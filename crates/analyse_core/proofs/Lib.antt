@@ -8,7 +8,7 @@ pub mod PackUnits
 pub mod Examples
 pub mod Pushing
 pub mod Adding
-pub mod MentionCuts
+pub mod LeafCuts
 pub mod Claiming
 pub mod Rising
 pub mod PackRising
@@ -31,4 +31,3 @@ pub mod SolvedRows
 pub mod FoundRows
 mod SameCertificates
 mod SamePackLists
-pub mod ActCuts

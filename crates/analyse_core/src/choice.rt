@@ -32,8 +32,7 @@ ghost use Rattle.analyse_core.specs.Choice.{
 };
 
 use crate::firsts::{holds, note};
-use crate::mention::Mention;
-use crate::mentioned_statements::{mentions_of, texts_of};
+use crate::mention::{Mention, mentions_of, texts_of};
 use crate::reaching::whole_mentions;
 use cob_graph::{Graph, cell_of};
 use cob_program::{Act, Para, Program, Stmt, Turns};

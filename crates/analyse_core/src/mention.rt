@@ -1,11 +1,20 @@
-//! What statements mention.
-ghost use Rattle.std.specs.Prelude.{◌≡◌, ◌++◌, ◌∷◌, [], OnOk};
-ghost use Rattle.analyse_core.specs.declared.mention.Mention.TheVariants as mention;
-ghost use Rattle.analyse_core.specs.Mentions.{one_item, if_item, side_mentions, target_mentions, targets_mentions};
+//! What statements and paragraphs mention.
+ghost use Rattle.std.specs.Prelude.{◌≡◌, ◌++◌, IfOk, OnOk};
+ghost use Rattle.cob_program.specs.ActView.{plain_para, plain_paras, plain_stmt};
+ghost use Rattle.analyse_core.specs.Leaves.{leaves_of, plain_leaf};
+ghost use Rattle.analyse_core.specs.Mentions.{
+  leaf_mentions,
+  lists_of,
+  mentions_among,
+  para_mentions,
+  stmt_mentions,
+  texts_of,
+};
 
-use cob_data::Sender;
-use cob_program::Target;
-use std::alloc::AllocError;
+use crate::leaf::Leaf;
+use crate::statement_leaves::{para_leaves, statement_leaves};
+use cob_program::{Para, Stmt};
+use std::alloc::{AllocError, Global};
 
 /// An item that is a receiver of arithmetic or stands in a relation, by its place, or a range of paragraphs that is
 /// performed, by the places of its first and its last one.
@@ -15,54 +24,50 @@ pub enum Mention {
     Range(u32, u32),
 }
 
-/// Adds an item.
-pub fn add_item(mentions: &mut Vec<Mention>, place: u32) -> Result<(), AllocError>
-    ensures { OnOk result (mentions.new.items ≡ mentions.old.items ++ one_item place) }
+fn add_leaf(mentions: &mut Vec<Mention>, leaf: Leaf) -> Result<(), AllocError>
+    ensures { OnOk result (mentions.new.items ≡ mentions.old.items ++ leaf_mentions (plain_leaf leaf.entry)) }
 {
-    mentions.push(Mention::Item(place))?;
-    Ok(())
-}
-
-/// Adds an item that may be left out.
-pub fn add_if(mentions: &mut Vec<Mention>, place: Option<u32>) -> Result<(), AllocError>
-    ensures { OnOk result (mentions.new.items ≡ mentions.old.items ++ if_item place) }
-{
-    match place {
-        Some(place) => add_item(mentions, place),
-        None => Ok(()),
+    match leaf {
+        Leaf::Literal(_) => Ok(()),
+        Leaf::Mentioned(mention) => {
+            mentions.push(mention)?;
+            Ok(())
+        }
     }
 }
 
-/// Adds a range of paragraphs.
-pub fn add_range(mentions: &mut Vec<Mention>, first: u32, last: u32) -> Result<(), AllocError>
-    ensures { OnOk result (mentions.new.items ≡ mentions.old.items ++ mention.Range first last ∷ []) }
+fn mentions_among(alloc: Global, leaves: &[Leaf]) -> Result<Vec<Mention>, AllocError>
+    ensures { IfOk result (λ mentions. mentions.items ≡ mentions_among (leaves_of leaves.now)) }
 {
-    mentions.push(Mention::Range(first, last))?;
-    Ok(())
-}
-
-/// Adds a side of a relation of texts, if it is an item.
-pub fn add_side(mentions: &mut Vec<Mention>, side: &Sender) -> Result<(), AllocError>
-    ensures { OnOk result (mentions.new.items ≡ mentions.old.items ++ side_mentions side.now) }
-{
-    match side {
-        Sender::Item(place) => add_item(mentions, *place),
-        _ => Ok(()),
+    let mut mentions = Vec::new(alloc);
+    for at in 0..leaves.len() {
+        add_leaf(&mut mentions, leaves[at])?;
     }
+    Ok(mentions)
 }
 
-fn add_target(mentions: &mut Vec<Mention>, target: &Target) -> Result<(), AllocError>
-    ensures { OnOk result (mentions.new.items ≡ mentions.old.items ++ target_mentions target.now) }
+/// What a statement mentions.
+pub fn mentions_of(alloc: Global, statement: &Stmt) -> Result<Vec<Mention>, AllocError>
+    ensures { IfOk result (λ mentions. mentions.items ≡ stmt_mentions (plain_stmt statement.now)) }
 {
-    add_item(mentions, target.item)
+    let leaves = statement_leaves(alloc, statement)?;
+    mentions_among(alloc, leaves.as_slice())
 }
 
-/// Adds receivers.
-pub fn add_targets(mentions: &mut Vec<Mention>, targets: &[Target]) -> Result<(), AllocError>
-    ensures { OnOk result (mentions.new.items ≡ mentions.old.items ++ targets_mentions targets.now) }
+fn mentions_in(alloc: Global, para: &Para) -> Result<Vec<Mention>, AllocError>
+    ensures { IfOk result (λ mentions. mentions.items ≡ para_mentions (plain_para para.now)) }
 {
-    for target in targets {
-        add_target(mentions, target)?;
+    let leaves = para_leaves(alloc, para)?;
+    mentions_among(alloc, leaves.as_slice())
+}
+
+/// What each paragraph mentions.
+pub fn texts_of(alloc: Global, paras: &[Para]) -> Result<Vec<Vec<Mention>>, AllocError>
+    ensures { IfOk result (λ texts. lists_of texts.items ≡ texts_of (plain_paras paras.now)) }
+{
+    let mut texts = Vec::new(alloc);
+    for para in paras {
+        texts.push(mentions_in(alloc, para)?)?;
     }
-    Ok(())
+    Ok(texts)
 }

@@ -1,0 +1,7 @@
+use Rattle.std.proofs.Common.{◌≡◌, ◌++◌, drop}
+use Rattle.analyse_core.specs.Leaves.{leaves_of}
+use Rattle.analyse_core.specs.Mentions.{mentions_among}
+use Rattle.analyse_core.proofs.mention.mentions_among.Given as goal
+
+abbrev pub invariant-loop-at : goal.invariant-loop-at
+invariant-loop-at l = l.mentions.items ++ mentions_among (leaves_of (drop l.at l.leaves)) ≡ mentions_among (leaves_of l.leaves)
