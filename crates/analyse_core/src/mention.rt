@@ -51,14 +51,16 @@ pub fn mentions_of(alloc: Global, statement: &Stmt) -> Result<Vec<Mention>, Allo
     ensures { IfOk result (λ mentions. mentions.items ≡ stmt_mentions (plain_stmt statement.now)) }
 {
     let leaves = statement_leaves(alloc, statement)?;
-    mentions_among(alloc, leaves.as_slice())
+    let mentions = mentions_among(alloc, leaves.as_slice())?;
+    Ok(mentions)
 }
 
 fn mentions_in(alloc: Global, para: &Para) -> Result<Vec<Mention>, AllocError>
     ensures { IfOk result (λ mentions. mentions.items ≡ para_mentions (plain_para para.now)) }
 {
     let leaves = para_leaves(alloc, para)?;
-    mentions_among(alloc, leaves.as_slice())
+    let mentions = mentions_among(alloc, leaves.as_slice())?;
+    Ok(mentions)
 }
 
 /// What each paragraph mentions.

@@ -111,5 +111,6 @@ pub fn program_literals<'a>(alloc: Global, program: &'a Program) -> Result<Vec<&
     ensures { IfOk result (λ literals. numbers_of literals.items ≡ program_literals (plain_program program.now)) }
 {
     let leaves = program_leaves(alloc, program)?;
-    literals_among(alloc, leaves.as_slice())
+    let literals = literals_among(alloc, leaves.as_slice())?;
+    Ok(literals)
 }
