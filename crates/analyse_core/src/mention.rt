@@ -40,8 +40,8 @@ fn mentions_among(alloc: Global, leaves: &[Leaf]) -> Result<Vec<Mention>, AllocE
     ensures { IfOk result (λ mentions. mentions.items ≡ mentions_among (leaves_of leaves.now)) }
 {
     let mut mentions = Vec::new(alloc);
-    for at in 0..leaves.len() {
-        add_leaf(&mut mentions, leaves[at])?;
+    for leaf in leaves {
+        add_leaf(&mut mentions, *leaf)?;
     }
     Ok(mentions)
 }

@@ -100,8 +100,8 @@ fn literals_among<'a>(alloc: Global, leaves: &[Leaf<'a>]) -> Result<Vec<&'a Num>
     ensures { IfOk result (λ literals. numbers_of literals.items ≡ literals_among (leaves_of leaves.now)) }
 {
     let mut literals = Vec::new(alloc);
-    for at in 0..leaves.len() {
-        add_literal(&mut literals, leaves[at])?;
+    for leaf in leaves {
+        add_literal(&mut literals, *leaf)?;
     }
     Ok(literals)
 }

@@ -5,16 +5,16 @@ use Rattle.analyse_core.specs.Leaves.{leaves_of}
 use Rattle.analyse_core.specs.Mentions.{mentions_among}
 use Rattle.analyse_core.proofs.mention.mentions_among.Goals as goal
 
-pub loop-at-preserved : goal.loop-at-preserved
-loop-at-preserved c =
-    let l = c.loop-at in
-    added _ _ _ (mentions_among (leaves_of (drop (l.at + 1) c.args.leaves.now))) _ _ c.in_ok-add_leaf.ensures
-    (ap (λ xs. mentions_among (leaves_of xs)) (drop_more c.args.leaves.now l.at _ c.loop-at-test.true))
+pub loop-leaf-preserved : goal.loop-leaf-preserved
+loop-leaf-preserved c =
+    let l = c.loop-leaf in
+    added _ _ _ (mentions_among (leaves_of (drop (l.leaf-index + 1) c.args.leaves.now))) _ _ c.in_ok-add_leaf.ensures
+    (ap (λ xs. mentions_among (leaves_of xs)) (drop_more c.args.leaves.now l.leaf-index _ c.loop-leaf-test.true))
     l.invariant
 
 pub returns : goal.returns
 returns c =
-    let l = c.loop-at in
-    nothing_left _ _ (mentions_among (leaves_of (drop l.at c.args.leaves.now)))
-    (ap (λ xs. mentions_among (leaves_of xs)) (drop_all l.at c.args.leaves.now c.loop-at-test.false))
+    let l = c.loop-leaf in
+    nothing_left _ _ (mentions_among (leaves_of (drop l.leaf-index c.args.leaves.now)))
+    (ap (λ xs. mentions_among (leaves_of xs)) (drop_all l.leaf-index c.args.leaves.now c.loop-leaf-test.false))
     l.invariant
