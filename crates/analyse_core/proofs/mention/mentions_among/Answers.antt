@@ -1,6 +1,6 @@
 use Rattle.std.proofs.Common.{◌+◌, ap, drop}
-use Rattle.std.proofs.lemmas.List.{drop_all, drop_more}
-use Rattle.cob_program.proofs.Loops.{added, nothing_left}
+use Rattle.std.proofs.lemmas.List.{drop_all}
+use Rattle.cob_program.proofs.Loops.{item_step, added, nothing_left}
 use Rattle.analyse_core.specs.Leaves.{leaves_of}
 use Rattle.analyse_core.specs.Mentions.{mentions_among}
 use Rattle.analyse_core.proofs.mention.mentions_among.Goals as goal
@@ -9,7 +9,7 @@ pub loop-leaf-preserved : goal.loop-leaf-preserved
 loop-leaf-preserved c =
     let l = c.loop-leaf in
     added _ _ _ (mentions_among (leaves_of (drop (l.leaf-index + 1) c.args.leaves.now))) _ _ c.in_ok-add_leaf.ensures
-    (ap (λ xs. mentions_among (leaves_of xs)) (drop_more c.args.leaves.now l.leaf-index _ c.loop-leaf-test.true))
+    (ap (λ xs. mentions_among (leaves_of xs)) (item_step c.args.leaves.now l.leaf-index c.leaf-item.result c.loop-leaf-test.true c.leaf-item.is))
     l.invariant
 
 pub returns : goal.returns
