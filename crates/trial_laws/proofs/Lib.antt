@@ -1,0 +1,9 @@
+mod Fine
+mod PlainLines
+mod Signs
+mod Spelling
+mod Read
+mod FrontLines
+mod ParagraphLines
+mod Shapes
+mod Whole
