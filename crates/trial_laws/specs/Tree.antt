@@ -45,7 +45,7 @@ abbrev pub trial_front : Front
 trial_front = record {
   name = codes "T";
   env = None;
-  data = Some (record { files = None; storage = Some (counter_entry ∷ []) });
+  «data» = Some (record { files = None; storage = Some (counter_entry ∷ []) });
 }
 
 -- ---- statements
