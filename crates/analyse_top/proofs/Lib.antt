@@ -6,3 +6,4 @@ pub mod Exact
 pub mod Clean
 pub mod Analysed
 pub mod FaultlessRuns
+pub mod Trials

@@ -4,6 +4,7 @@ use Rattle.std.specs.List.{Contains}
 use Rattle.std.specs.FinMap.{get, insert}
 use Rattle.batch_io.specs.Faults.{Rose}
 use Rattle.batch_io.specs.FilesState.{Contents, KeepsIds, known_bytes}
+use Rattle.cob_data.specs.declared.end.Which.TheVariants.{Nodes}
 use Rattle.cob_tree.specs.declared.fault.Kind.{Kind}
 use Rattle.cob_tree.specs.declared.fault.Open.{Open}
 use Rattle.cob_program.specs.Act.{Program}
@@ -13,6 +14,7 @@ use Rattle.cob_runs.specs.Runs.{IsFaultless, run}
 use Rattle.cob_runs.specs.Runs as runs
 use Rattle.cob_graph.specs.declared.graph.Graph.{Graph}
 use Rattle.cob_graph.specs.Graphs.{cells_of}
+use Rattle.cob_front.specs.declared.refusal.Refusal.TheVariants.{Limit}
 use Rattle.cob_interp.specs.declared.ends.Ended.{Ended}
 use Rattle.cob_interp.specs.declared.ends.RunEnd.{RunEnd}
 use Rattle.cob_interp.specs.declared.ends.RunEnd.TheVariants as end
@@ -30,7 +32,7 @@ use Rattle.command_words.specs.Commands as command
 use Rattle.commands.specs.Text.{memory_line, read_fault_line}
 use Rattle.commands.specs.Showing.{Gains, GainsFront, Shows}
 use Rattle.commands.specs.Profile.{IsProgramOf}
-use Rattle.commands.specs.Answer.{Answer, Report, HoldsProgram, answer_text, status_of, status_unwritten}
+use Rattle.commands.specs.Answer.{Answer, Refused, Report, HoldsProgram, answer_text, status_of, status_unwritten}
 use Rattle.commands.specs.Call.{Call}
 use Rattle.commands.specs.CheckAnswers.{HoldsCertificate, certificate_limit}
 use Rattle.commands.specs.Analysis.{Analysis, CanBeClean, IsAnalysisOf, pairs_of, report_of, text_of}
@@ -258,6 +260,14 @@ TrialsAreAccepted call =
     (contents : Contents) (count : ℕ) → IsCommand call.words (command.trial count)
     → known_bytes call.files_before ≡ Some contents → (call.status ≡ 0) ⊎ (call.status ≡ 1)
     → IsTried contents call count
+
+-- ---- how `trial` may end
+
+-- A certificate is found, or the nodes are more than the limit, or the outside or memory failed.
+abbrev pub TrialsEnd : Call → Type 0
+TrialsEnd call =
+    (count : ℕ) → IsCommand call.words (command.trial count)
+    → EndsByTrial call ⊎ ((nodes : ℕ) × EndsBy call (Refused (Limit Nodes nodes))) ⊎ EndsByReadFault call ⊎ EndsByMemory call
 
 -- ---- nothing is missed
 

@@ -7,7 +7,7 @@ ghost use Rattle.commands.specs.Answer.{Usage};
 ghost use Rattle.commands.specs.Call.{call};
 ghost use Rattle.commands.specs.Steps.{ShowsFound};
 ghost use Rattle.analyse_top.specs.Answers.{first_word};
-ghost use Rattle.analyse_top.specs.Conclusion.{Concludes, IsExact, AcceptsExactly, AnalysesAreAccepted, CleanIsSafe, CleanRunsMeetNoFault, FindsClean, LongTextsAreOfLargePrograms, ReportsAreComplete, TrialsAreAccepted};
+ghost use Rattle.analyse_top.specs.Conclusion.{Concludes, IsExact, AcceptsExactly, AnalysesAreAccepted, CleanIsSafe, CleanRunsMeetNoFault, FindsClean, LongTextsAreOfLargePrograms, ReportsAreComplete, TrialsAreAccepted, TrialsEnd};
 
 use batch_io::{Files, Sink};
 use cert_text::{no_bad_line, one_place, one_spelling, texts_of_certificates_are_short};
@@ -21,6 +21,7 @@ use commands::{
 };
 use source_facts::sources_have_source_graphs;
 use std::alloc::Global;
+use trial_laws::only_nodes_may_be_many;
 
 /// Runs the command that the words name, without the program's own name. It shows its report, the text that a run
 /// shows, or the one line of a refusal, in `out`, and gives the process's status.
@@ -44,6 +45,8 @@ pub fn cobsound<F: Files, O: Sink>(
         (F.state files.old) (F.state files.new) (O.state out.old) (O.state out.new) result) }
     ensures tried { TrialsAreAccepted (call (texts words.now.items)
         (F.state files.old) (F.state files.new) (O.state out.old) (O.state out.new) result) }
+    ensures trials { TrialsEnd (call (texts words.now.items)
+        (F.state files.old) (F.state files.new) (O.state out.old) (O.state out.new) result) }
     ensures misses { FindsClean (call (texts words.now.items)
         (F.state files.old) (F.state files.new) (O.state out.old) (O.state out.new) result) }
     ensures long { LongTextsAreOfLargePrograms (call (texts words.now.items)
@@ -61,6 +64,7 @@ pub fn cobsound<F: Files, O: Sink>(
     texts_of_certificates_are_short();
     sources_have_source_graphs();
     accepted_claims_cover_runs();
+    only_nodes_may_be_many();
     conclude(alloc, words.as_slice(), files, out)
 }
 

@@ -7,6 +7,7 @@ use Rattle.analyse_top.proofs.Analysed.{analyses_are_accepted, finds_clean, long
 use Rattle.analyse_top.proofs.Clean.{accepts_exactly, checking_is_sound, clean_is_safe, reports_are_complete}
 use Rattle.analyse_top.proofs.Exact.{is_exact}
 use Rattle.analyse_top.proofs.FaultlessRuns.{clean_runs_meet_no_fault}
+use Rattle.analyse_top.proofs.Trials.{trials_end}
 use Rattle.analyse_top.proofs.top.cobsound.Goals as goal
 
 pub returns : goal.returns
@@ -35,6 +36,7 @@ returns g c =
       accepts = accepts_exactly sound one_reading this concludes exact;
       analysed = analyses_are_accepted sound one_reading this concludes;
       tried = trials_are_accepted sound one_reading this concludes;
+      trials = trials_end c.only_nodes_may_be_many.ensures one_reading this concludes;
       misses = finds_clean sound one_reading this concludes c.one_answer.ensures c.graphs_are_one.ensures.graph;
       long = long_texts_are_of_large_programs c.texts_of_certificates_are_short.ensures this;
       runs = clean_runs_meet_no_fault c.one_answer.ensures one_reading this concludes;
