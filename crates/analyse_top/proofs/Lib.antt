@@ -6,4 +6,5 @@ pub mod Exact
 pub mod Clean
 pub mod Analysed
 pub mod FaultlessRuns
+pub mod SmallPacks
 pub mod Trials

@@ -1,5 +1,5 @@
 -- A trial ends with a certificate or with too many nodes, unless the outside or memory failed.
-use Rattle.std.proofs.Common.{◌≡◌, ◌⊎◌, ℕ, List, refl, subst, inl, inr}
+use Rattle.std.proofs.Common.{◌≡◌, ℕ, List, length, Option, refl, subst, inl, inr}
 use Rattle.cob_data.specs.declared.end.Which.TheVariants as which
 use Rattle.cob_front.specs.declared.refusal.Refusal.{Refusal}
 use Rattle.cob_front.specs.declared.refusal.Refusal.TheVariants as end
@@ -10,12 +10,14 @@ use Rattle.commands.specs.Trial.{trial_text}
 use Rattle.commands.specs.Profile.{IsProfileCause}
 use Rattle.commands.specs.Answer.{Answer, Usage, Absent, Refused, CertificateLong, CertificateBad, CertificateMisfit, NotInductive, Report}
 use Rattle.commands.specs.Call.{Call}
-use Rattle.commands.specs.TrialEndings.{AnswersTrial}
+use Rattle.commands.specs.Endings.{IsTooLong}
+use Rattle.commands.specs.TrialEndings.{AnswersTrial, EndsByTrial}
+use Rattle.commands.proofs.Limits.{within_limits}
 use Rattle.analyse_top.specs.Answers.{Answers, AnswersCommand}
-use Rattle.analyse_top.specs.Conclusion.{Concludes, TrialsEnd, EndsBy}
+use Rattle.analyse_top.specs.Conclusion.{Concludes, TrialsEnd, EndsBy, LongTextsAreOfLargePrograms}
+use Rattle.analyse_top.proofs.SmallPacks.{not_large}
 use Rattle.analyse_top.proofs.Words.{analyse_or_trial, trial_or_run}
 use Rattle.batch_io.specs.FilesState.{Contents, known_bytes}
-use Rattle.std.specs.Prelude.{Option}
 
 abbrev IsTooManyNodes : Answer → Type 0
 IsTooManyNodes answer = (nodes : ℕ) × (answer ≡ Refused (end.Limit which.Nodes nodes))
@@ -57,8 +59,15 @@ module _ (law : OnlyNodesMayBeMany) (one_reading : OneReading) where
       answered_by count (law count said.say.some said.say.most) answer
       (subst (λ (d : Command). AnswersCommand known d answer) (one_reading words c (command.trial count) is said) h)
 
-  pub trials_end : (call : Call) → Concludes call → TrialsEnd call
-  trials_end call concludes count said = elim concludes [
+  fits : (call : Call) → LongTextsAreOfLargePrograms call → (t : EndsByTrial call) → IsTooLong call t.analysis → ⊥
+  fits call large t long =
+      let is = t.is_of.is_program in
+      let limits = within_limits t.analysis.program is.within t.analysis.graph is.is_graph in
+      not_large t.analysis.program ((law t.count t.said.say.some t.said.say.most).cells t.analysis.program is.is_source)
+      (length t.analysis.graph.nodes) limits.nodes (large.trials t long)
+
+  pub trials_end : (call : Call) → LongTextsAreOfLargePrograms call → Concludes call → TrialsEnd call
+  trials_end call large concludes count said = elim concludes [
     | inl without ↦ elim without.ends [
       | inl (answer, ends) ↦
           let many = answers (known_bytes call.files_before) call.words count answer said ends.is_answer in
@@ -66,6 +75,6 @@ module _ (law : OnlyNodesMayBeMany) (one_reading : OneReading) where
       | inr fault ↦ inr (inr fault)
     ]
     | inr (inl a) ↦ absurd (analyse_or_trial one_reading call.words a.source a.certificate count a.said said)
-    | inr (inr (inl t)) ↦ inl t
+    | inr (inr (inl t)) ↦ inl (t, fits call large t)
     | inr (inr (inr (t, result, asks, runs))) ↦ absurd (trial_or_run one_reading call.words count asks.run said asks.said)
   ]

@@ -263,11 +263,11 @@ TrialsAreAccepted call =
 
 -- ---- how `trial` may end
 
--- A certificate is found, or the nodes are more than the limit, or the outside or memory failed.
+-- A certificate is found, which isn't too long, or the nodes are more than the limit, or the outside or memory failed.
 abbrev pub TrialsEnd : Call → Type 0
 TrialsEnd call =
     (count : ℕ) → IsCommand call.words (command.trial count)
-    → EndsByTrial call ⊎ ((nodes : ℕ) × EndsBy call (Refused (Limit Nodes nodes))) ⊎ EndsByReadFault call ⊎ EndsByMemory call
+    → ((t : EndsByTrial call) × (IsTooLong call t.analysis → ⊥)) ⊎ ((nodes : ℕ) × EndsBy call (Refused (Limit Nodes nodes))) ⊎ EndsByReadFault call ⊎ EndsByMemory call
 
 -- ---- nothing is missed
 

@@ -5,6 +5,7 @@ pub use Rattle.trial_laws.specs.Trial
 pub mod TrialEndings
 pub mod TrialSteps
 pub use Rattle.analyse_core.specs.Choice
+pub use Rattle.analyse_core.specs.Firsts
 pub mod RunText
 pub mod Runs
 pub mod RunView

@@ -28,6 +28,7 @@ returns g c =
     let exact : IsExact this =
     is_exact c.one_answer.ensures one_reading c.graphs_are_one.ensures.graph c.one_end.ensures texts_apart this
     concludes in
+    let large = long_texts_are_of_large_programs c.texts_of_certificates_are_short.ensures this in
     record {
       concludes = concludes;
       exact = exact;
@@ -36,8 +37,8 @@ returns g c =
       accepts = accepts_exactly sound one_reading this concludes exact;
       analysed = analyses_are_accepted sound one_reading this concludes;
       tried = trials_are_accepted sound one_reading this concludes;
-      trials = trials_end c.only_nodes_may_be_many.ensures one_reading this concludes;
+      trials = trials_end c.only_nodes_may_be_many.ensures one_reading this large concludes;
       misses = finds_clean sound one_reading this concludes c.one_answer.ensures c.graphs_are_one.ensures.graph;
-      long = long_texts_are_of_large_programs c.texts_of_certificates_are_short.ensures this;
+      long = large;
       runs = clean_runs_meet_no_fault c.one_answer.ensures one_reading this concludes;
     }
