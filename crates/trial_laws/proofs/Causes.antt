@@ -1,5 +1,5 @@
 -- The trial's source is one of its program, and only nodes may be more than the limit.
-use Rattle.std.proofs.Common.{◌≡◌, ℕ, ◌≤◌, List, refl, subst, arith}
+use Rattle.std.proofs.Common.{ℕ, ◌≤◌, List, length, refl, ap, ◌∙◌, subst, arith}
 use Rattle.cob_data.specs.declared.end.Which.TheVariants as which
 use Rattle.cob_program.specs.Act.{Program}
 use Rattle.cob_front.specs.declared.refusal.Refusal.{Refusal}
@@ -7,6 +7,7 @@ use Rattle.cob_front.specs.declared.refusal.Refusal.TheVariants as end
 use Rattle.cob_front.specs.Source.{IsSource}
 use Rattle.cob_front.specs.Control.{IsControlCause}
 use Rattle.cob_front.specs.Laws.{OneAnswer}
+use Rattle.cob_graph.specs.Graphs.{cells_of}
 use Rattle.trial_laws.specs.Trial.{trial_text}
 use Rattle.trial_laws.specs.Tree.{trial_tree}
 use Rattle.trial_laws.specs.Program.{trial_program, IsForNodes, OnlyNodesAreMany, KeepsAllButNodes}
@@ -42,8 +43,9 @@ for_nodes count k end.Memory h = absurd h
 pub only_nodes : ((bytes : List ℕ) → OneAnswer bytes) → (count : ℕ) → 1 ≤ count → count ≤ 9999 → OnlyNodesAreMany count
 only_nodes one count some few =
     let is = source count some few in
+    let same = λ (p : Program) (of : IsSource (trial_text count) p). (one (trial_text count)).one_program p (trial_program count) of is in
     record {
       no_cause = λ cause h. (one (trial_text count)).not_both (trial_program count) cause is h;
-      control = λ p cause of h. for_nodes count (keeps count some few) cause
-      (subst (λ (q : Program). IsControlCause q cause) ((one (trial_text count)).one_program p (trial_program count) of is) h);
+      control = λ p cause of h. for_nodes count (keeps count some few) cause (subst (λ (q : Program). IsControlCause q cause) (same p of) h);
+      cells = λ p of. ap (λ (q : Program). length (cells_of q)) (same p of) ∙ (keeps count some few).cells;
     }

@@ -1,7 +1,7 @@
 -- Characters that stand in a line as they are: printable ones but quotation marks.
-use Rattle.std.proofs.Common.{◌≡◌, ℕ, zero, suc, ◌+◌, ◌<◌, Bool, true, false, cond, not, ◌&&◌, eqb, List, [], ◌∷◌, ◌++◌, length, get_or, take, drop, refl, ap, ◌∙◌, subst, arith, append_assoc, length-append}
+use Rattle.std.proofs.Common.{◌≡◌, ℕ, zero, suc, ◌+◌, Bool, true, false, cond, not, ◌&&◌, eqb, List, [], ◌∷◌, length, get_or, take, refl, ap, ◌∙◌, subst, arith}
 use Rattle.std.specs.List.{list_all, prefix_len, position}
-use Rattle.std.specs.Prelude.{nat_lt, Option, None, Some}
+use Rattle.std.specs.Prelude.{nat_lt, None, Some}
 use Rattle.std.proofs.lemmas.Bool.{and_parts, eqb-true}
 use Rattle.std.proofs.lemmas.Bool.Decides.{nat_tests}
 use Rattle.cob_lex.specs.Columns.{is_strange}
@@ -47,12 +47,12 @@ never_at [] k code h f z = z
 never_at (x ∷ xs) zero code h f z = not_code x code (first_fine x xs h) f
 never_at (x ∷ xs) (suc k) code h f z = never_at xs k code (rest_fine x xs h) f z
 
-all_solid : (l : List ℕ) (n : ℕ) → AreFine l → prefix_len (λ x. not (is_strange x)) (take n l) ≡ length (take n l)
+all_solid : (l : List ℕ) (n : ℕ) → AreFine l → prefix_len (λ (x : ℕ). not (is_strange x)) (take n l) ≡ length (take n l)
 all_solid l zero h = refl
 all_solid [] (suc n) h = refl
 all_solid (x ∷ xs) (suc n) h =
     let rest = all_solid xs n (rest_fine x xs h) in
-    ap (λ (b : Bool). cond (not b) (1 + prefix_len (λ x. not (is_strange x)) (take n xs)) 0) (no_strange x (first_fine x xs h)) ∙ omega (arith, rest)
+    ap (λ (b : Bool). cond (not b) (1 + prefix_len (λ (x : ℕ). not (is_strange x)) (take n xs)) 0) (no_strange x (first_fine x xs h)) ∙ omega (arith, rest)
 
 within_self : (n : ℕ) → nat_lt n n ≡ false
 within_self n = grind (arith, nat_tests)

@@ -1,5 +1,5 @@
 -- The layout of the trial's tree: one item of five digits.
-use Rattle.std.proofs.Common.{◌≡◌, ℕ, ◌≤◌, false, List, [], ◌∷◌, refl, arith, Some, None}
+use Rattle.std.proofs.Common.{◌≡◌, ℕ, false, [], ◌∷◌, refl, arith, Some, None}
 use Rattle.std.specs.Prelude.{codes}
 use Rattle.cob_tree.specs.declared.form.Form.TheVariants as form
 use Rattle.cob_tree.specs.declared.form.Usage.TheVariants.{Display}

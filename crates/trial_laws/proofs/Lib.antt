@@ -7,3 +7,8 @@ mod FrontLines
 mod ParagraphLines
 mod Shapes
 mod Whole
+mod Names
+mod Layouts
+mod Typed
+mod Nested
+mod Causes

@@ -1,5 +1,5 @@
 -- The trial's program has one PERFORM of a range, which it doesn't reach again, and two cells.
-use Rattle.std.proofs.Common.{◌≡◌, ◌⊎◌, inl, inr, ℕ, zero, suc, ◌<◌, ◌≤◌, List, [], ◌∷◌, ◌++◌, length, map, get_or, refl, ap, ◌∙◌, sym, subst, arith}
+use Rattle.std.proofs.Common.{◌≡◌, ◌⊎◌, inl, inr, ℕ, zero, suc, ◌<◌, ◌≤◌, List, [], ◌∷◌, ◌++◌, length, map, get_or, ap, ◌∙◌, sym, subst, arith}
 use Rattle.std.specs.List.{Contains}
 use Rattle.cob_data.specs.declared.end.Rule.{Rule}
 use Rattle.cob_data.specs.declared.end.Rule.TheVariants.{N1, N2, N3, N4}
@@ -64,6 +64,6 @@ keeps count some few =
     ap (λ (hs : List Home). length (map (cell_of_home trial_layout) (item_homes 0 trial_layout.items ++ hs))) (all_counts count some few) in
     record {
       nested = subst (λ (q : Program). IsNested q) (sym (program_is count))
-      (record { kept = λ rule line h. none_broken count some rule line (subst (λ (f : Found). IsBrokenBy f rule line) (all_calls count some few) h) });
-      cells = subst (λ (q : Program). length (cells_of q) ≤ 512) (sym (program_is count)) (omega (arith, two));
+          (record { kept = λ rule line h. none_broken count some rule line (subst (λ (f : Found). IsBrokenBy f rule line) (all_calls count some few) h) });
+      cells = ap (λ (q : Program). length (cells_of q)) (program_is count) ∙ two;
     }

@@ -1,5 +1,5 @@
 -- The lines of paragraphs, and the one that performs them.
-use Rattle.std.proofs.Common.{◌≡◌, inl, ℕ, zero, suc, ◌+◌, ◌*◌, ◌/◌, ◌%◌, ◌<◌, ◌≤◌, Bool, true, false, List, [], ◌∷◌, ◌++◌, map, refl, sym, subst, arith, Option, Some, None}
+use Rattle.std.proofs.Common.{◌≡◌, inl, ℕ, zero, suc, ◌+◌, ◌*◌, ◌/◌, ◌%◌, ◌<◌, ◌≤◌, true, false, [], ◌∷◌, ◌++◌, map, refl, subst, arith, Some, None}
 use Rattle.std.specs.Prelude.{codes}
 use Rattle.std.specs.List.{flat_map, range_with_len}
 use Rattle.std.proofs.Math.Nat.{mod-lt}
@@ -8,7 +8,7 @@ use Rattle.cob_tree.specs.declared.keyword.Keyword.TheVariants as word
 use Rattle.cob_tree.specs.declared.token.Rel.TheVariants.{Greater}
 use Rattle.cob_tree.specs.Keywords.{keyword_of}
 use Rattle.cob_tree.specs.Symbols.{Name}
-use Rattle.cob_tree.specs.Items.{Item, item_on, stop, each}
+use Rattle.cob_tree.specs.Items.{item_on, stop, each}
 use Rattle.cob_tree.specs.PrintStmt.{print_sentence, print_paragraph}
 use Rattle.cob_lex.specs.declared.cut.Shape.TheVariants.{Word, Number, Stop, Relation}
 use Rattle.cob_lex.specs.declared.cut.Due.TheVariants.{Nothing}
@@ -92,8 +92,9 @@ paragraphs_read (suc n) number line e =
     let two : line + 2 ≡ line + 1 + 1 = omega arith in
     let anew : IsRead (line + 1 + 1) (codes "    IF C > 9 MOVE 0 TO C END-IF.") (print_sentence (begins_anew (line + 2))) =
     subst (λ (n : ℕ). IsRead n (codes "    IF C > 9 MOVE 0 TO C END-IF.") (print_sentence (begins_anew (line + 2)))) two (anew_line (line + 2)) in
-    let here : AreRead line (flat_map paragraph_lines (range_with_len number (suc n))) (print_paragraph (paragraph_on line number) ++ later) =
-    line_read line _ _ _ _ (name_line line _ _ _ _ (four_are number))
-    (line_read (line + 1) _ _ _ _ (count_line (line + 1))
-    (line_read (line + 1 + 1) _ _ _ _ anew (paragraphs_read n (number + 1) (line + 1 + 1 + 1) (omega arith)))) in
+    let others = paragraphs_read n (number + 1) (line + 1 + 1 + 1) (omega arith) in
+    let third = line_read (line + 1 + 1) _ _ _ _ anew others in
+    let second = line_read (line + 1) _ _ _ _ (count_line (line + 1)) third in
+    let first = line_read line _ _ _ _ (name_line line _ _ _ _ (four_are number)) second in
+    let here : AreRead line (flat_map paragraph_lines (range_with_len number (suc n))) (print_paragraph (paragraph_on line number) ++ later) = first in
     subst (λ (l : ℕ). AreRead line (flat_map paragraph_lines (range_with_len number (suc n))) (print_paragraph (paragraph_on l number) ++ later)) e here

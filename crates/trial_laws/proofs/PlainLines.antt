@@ -1,11 +1,10 @@
 -- Lines of such characters behind seven spaces are plain, and the lines of a text are those that it is made of.
-use Rattle.std.proofs.Common.{◌≡◌, ℕ, zero, suc, ◌+◌, ◌-◌, ◌<◌, ◌≤◌, Bool, true, false, cond, eqb, List, [], ◌∷◌, ◌++◌, length, map, get_or, take, drop, refl, ap, ◌∙◌, sym, subst, arith, append_assoc, length-append}
-use Rattle.std.specs.Prelude.{codes, Option, None}
+use Rattle.std.proofs.Common.{◌≡◌, ℕ, zero, suc, ◌+◌, ◌-◌, ◌<◌, Bool, true, false, true≢false, cond, eqb, List, [], ◌∷◌, ◌++◌, length, map, get_or, take, drop, refl, ap, ◌∙◌, sym, arith, append_assoc, length-append}
+use Rattle.std.specs.Prelude.{codes, Option}
 use Rattle.std.specs.List.{AllByRecursion, fold, range_with_len, enumerate_from}
 use Rattle.std.specs.Option.{option_map}
 use Rattle.std.specs.Str.Lines.{lines, strip_carriage_return}
 use Rattle.std.proofs.Math.Seq.{take-append_seam}
-use Rattle.cob_lex.specs.declared.text.Mark.{Mark}
 use Rattle.cob_lex.specs.declared.literal.Quote.TheVariants.{Outside, Inside}
 use Rattle.cob_lex.specs.Columns.{byte_at, is_dropped}
 use Rattle.cob_lex.specs.Literal.{is_quotation, quote_after, opening_of}
@@ -13,7 +12,7 @@ use Rattle.cob_lex.specs.Text.{Line, mark_at}
 use Rattle.cob_lex.specs.Plain.{IsPlain}
 use Rattle.cob_lex.proofs.LineLemmas.{lines_at}
 use Rattle.trial_laws.specs.Trial.{text_of}
-use Rattle.trial_laws.proofs.Fine.{is_fine, AreFine, first_fine, rest_fine, fine_at, no_quotation, not_code, never_at, none_strange}
+use Rattle.trial_laws.proofs.Fine.{AreFine, first_fine, rest_fine, fine_at, no_quotation, not_code, never_at, none_strange}
 
 abbrev pub spaced : List ℕ → List ℕ
 spaced l = codes "       " ++ l
@@ -54,7 +53,7 @@ first_line l rest h =
     let bs = l ++ 10 ∷ rest in
     let short : length l < length bs = omega (arith, length-append l (10 ∷ rest)) in
     let more : length l + 1 ≡ suc (length l) = omega arith in
-    lines_at bs (length l) short (λ k low within here. let f = no_end_before l rest k h within in absurd cc) (end_at l rest)
+    lines_at bs (length l) short (λ k low within here. absurd (true≢false (sym here ∙ no_end_before l (10 ∷ rest) k h within))) (end_at l rest)
     ∙ ap (λ (x : List ℕ). strip_carriage_return x ∷ lines (drop (length l + 1) bs)) (take-append_seam l (10 ∷ rest))
     ∙ ap (λ (x : List ℕ). x ∷ lines (drop (length l + 1) bs)) (strip_same l h)
     ∙ ap (λ (n : ℕ). l ∷ lines (drop n bs)) more

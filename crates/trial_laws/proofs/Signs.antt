@@ -1,5 +1,5 @@
 -- A text of which no token is rewritten: its canonical tokens are its raw ones, as they stand.
-use Rattle.std.proofs.Common.{◌≡◌, ℕ, ◌+◌, ◌-◌, zero, suc, Bool, true, false, cond, ◌&&◌, List, [], ◌∷◌, ◌++◌, length, map, take, drop, refl, ap, ◌∙◌, sym, subst, arith, length-append, append_assoc, Option, Some, None}
+use Rattle.std.proofs.Common.{◌≡◌, ℕ, ◌+◌, ◌-◌, Bool, true, false, cond, ◌&&◌, List, [], ◌∷◌, ◌++◌, length, map, take, drop, refl, ap, ◌∙◌, sym, subst, length-append, append_assoc, Option, Some, None}
 use Rattle.std.proofs.Math.Seq.{take-append_seam, drop-append_seam}
 use Rattle.cob_tree.specs.declared.keyword.Keyword.{Keyword}
 use Rattle.cob_tree.specs.Symbols.{Sign, symbol_of, seen}
@@ -7,7 +7,6 @@ use Rattle.cob_lex.specs.declared.text.Mark.{Mark}
 use Rattle.cob_lex.specs.declared.cut.Shape.{Shape}
 use Rattle.cob_lex.specs.declared.cut.Shape.TheVariants.{Padded}
 use Rattle.cob_lex.specs.declared.piece.Piece.{Piece}
-use Rattle.cob_lex.specs.declared.row.Fate.{Fate}
 use Rattle.cob_lex.specs.declared.row.Fate.TheVariants.{Keep}
 use Rattle.cob_lex.specs.declared.row.Row.{Row}
 use Rattle.cob_lex.specs.declared.row.Compared.{Compared}
@@ -59,8 +58,8 @@ unfolding reworded
 reword_one behind_stop front None start m qs h e = e
 reword_one behind_stop front (Some shape) start m qs h e =
     let p : Piece = record { shape = shape; start = start; length = length front; line = m.line; column = m.column } in
-    let row : pair_or (pair_of (keyword shape) (keyword_at (p ∷ qs) 1)) (fate_of (keyword shape)) ≡ record { fate = Keep; words = 1 } =
-    ap (λ (o : Option Keyword). pair_or o (fate_of (keyword shape))) (h.0.pair (keyword_at (p ∷ qs) 1)) ∙ ap (λ (f : Fate). record { fate = f; words = 1 }) h.0.fate in
+    let row : pair_or (pair_of (keyword shape) (keyword_at (p ∷ qs) 1)) (fate_of (keyword shape)) ≡ pair_or None Keep =
+    ap (λ (o : Option Keyword). pair_or o (fate_of (keyword shape))) (h.0.pair (keyword_at (p ∷ qs) 1)) ∙ ap (pair_or None) h.0.fate in
     ap (λ (r : Row). fated r.fate p ++ reworded (r.words - 1) qs) row ∙ ap (λ (rest : List Piece). p ∷ rest) e
 
 relate_one : (behind_stop : Bool) (front : List Mark) (shape : Option Shape) (start : ℕ) (m : Mark) (qs : List Piece) → IsCalm behind_stop shape front → related 0 qs ≡ qs
@@ -108,9 +107,12 @@ rewritten_same ps h =
 
 -- ---- signs
 
+abbrev pub sign_of : Shape → List Mark → Mark → Sign
+sign_of shape own m = record { symbol = symbol_of (tok_of shape own); line = m.line }
+
 abbrev pub sign_list : List Mark → Option Shape → List Sign
 sign_list front None = []
-sign_list front (Some shape) = (record { symbol = symbol_of (tok_of shape front); line = (first front).line }) ∷ []
+sign_list front (Some shape) = sign_of shape front (first front) ∷ []
 
 -- what stands there, as the grammar sees it
 abbrev pub signs : List Part → List Sign
@@ -132,8 +134,8 @@ module _ (text : List Mark) where
       → map seen (map (token text) (piece_list (length before) (first front) (length front) shape ++ qs)) ≡ sign_list front shape ++ rest
   one_sign before front behind None qs rest e h = h
   one_sign before front behind (Some shape) qs rest e h =
-      ap (λ (own : List Mark). (record { symbol = symbol_of (tok_of shape own); line = (first front).line }) ∷ map seen (map (token text) qs)) (own_front before front behind e)
-      ∙ ap (λ (more : List Sign). (record { symbol = symbol_of (tok_of shape front); line = (first front).line }) ∷ more) h
+      ap (λ (own : List Mark). sign_of shape own (first front) ∷ map seen (map (token text) qs)) (own_front before front behind e)
+      ∙ ap (λ (more : List Sign). sign_of shape front (first front) ∷ more) h
 
   all_signs : (before : List Mark) (ps : List Part) → text ≡ before ++ text_of ps → map seen (map (token text) (pieces (length before) ps)) ≡ signs ps
   all_signs before [] e = refl

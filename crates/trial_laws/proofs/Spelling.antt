@@ -1,23 +1,21 @@
 -- Lines spelled as tokens and spaces, and tokens told by tests that compute.
-use Rattle.std.proofs.Common.{◌≡◌, inl, ℕ, zero, suc, ◌+◌, ◌-◌, ◌<◌, ◌≤◌, Bool, true, false, cond, ◌&&◌, eqb, List, [], ◌∷◌, ◌++◌, length, map, refl, ap, ◌∙◌, sym, arith, Option, Some, None}
-use Rattle.std.specs.Prelude.{codes, nat_lt}
+use Rattle.std.proofs.Common.{◌≡◌, inl, ℕ, zero, suc, ◌+◌, ◌-◌, ◌<◌, Bool, true, false, cond, eqb, List, [], ◌∷◌, ◌++◌, length, refl, ap, ◌∙◌, sym, arith, Some, None}
+use Rattle.std.specs.Prelude.{nat_lt}
 use Rattle.std.specs.List.{list_all}
 use Rattle.std.specs.Char.{to_ascii_uppercase}
 use Rattle.std.proofs.lemmas.Bool.{and_parts}
 use Rattle.std.proofs.lemmas.Bool.Decides.{nat_tests}
-use Rattle.cob_tree.specs.declared.keyword.Keyword.{Keyword}
 use Rattle.cob_tree.specs.Keywords.{keyword_of}
-use Rattle.cob_tree.specs.Symbols.{Symbol, Name, word_symbol}
+use Rattle.cob_tree.specs.Symbols.{Name, word_symbol}
 use Rattle.cob_tree.specs.Items.{Item}
 use Rattle.reading.specs.Printing.{Below}
 use Rattle.cob_parse_expr.specs.LexemeClasses.{by_symbol}
 use Rattle.cob_parse_proc.specs.Parsing.{top}
 use Rattle.cob_lex.specs.declared.text.Mark.{Mark}
 use Rattle.cob_lex.specs.declared.cut.Shape.{Shape}
-use Rattle.cob_lex.specs.declared.cut.Shape.TheVariants.{Word, Number, Stop}
 use Rattle.cob_lex.specs.declared.cut.Due.{Due}
-use Rattle.cob_lex.specs.Characters.{is_letter, is_digit, is_word_character, last_ch, ch_at}
-use Rattle.cob_lex.specs.Tokens.{is_word_mark, is_letter_mark, IsWord}
+use Rattle.cob_lex.specs.Characters.{is_digit, is_word_character}
+use Rattle.cob_lex.specs.Tokens.{is_word_mark, IsWord}
 use Rattle.cob_lex.specs.Words.{raised, spelled_keyword}
 use Rattle.cob_lex.specs.Spelled.{Part}
 use Rattle.cob_lex.specs.Printed.{IsPrinted}

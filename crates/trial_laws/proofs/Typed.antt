@@ -1,5 +1,5 @@
 -- The statements of the trial's tree break no rule, and what stands in them.
-use Rattle.std.proofs.Common.{◌≡◌, ℕ, zero, suc, ◌+◌, ◌*◌, ◌≤◌, List, [], ◌∷◌, ◌++◌, map, refl, ap, ◌∙◌, sym, subst, arith, Some}
+use Rattle.std.proofs.Common.{◌≡◌, ℕ, zero, suc, ◌+◌, ◌≤◌, List, [], ◌∷◌, ◌++◌, map, refl, ap, ◌∙◌, sym, subst, arith}
 use Rattle.std.specs.Prelude.{codes}
 use Rattle.std.specs.List.{AllByRecursion, range_with_len}
 use Rattle.cob_data.specs.declared.end.Rule.{Rule}
@@ -14,7 +14,7 @@ use Rattle.cob_graph.specs.declared.homes.Home.TheVariants.{Count}
 use Rattle.cob_graph.specs.declared.homes.Home.{Home}
 use Rattle.cob_graph.specs.Homes.{count_homes}
 use Rattle.cob_graph.specs.Nesting.{Found, nothing_found, a_call, ◌&◌, found, found_among}
-use Rattle.cob_front.specs.Source.{IsTypedTree, data_of}
+use Rattle.cob_front.specs.Source.{IsTypedTree}
 use Rattle.trial_laws.specs.Tree.{performs_through, paragraph_name, stops, paragraph, trial_tree}
 use Rattle.trial_laws.proofs.Names.{names_from, found_at, no_clashes}
 use Rattle.trial_laws.proofs.Layouts.{trial_layout, layout_is, has_layout}
@@ -26,16 +26,16 @@ scope names = record { layout = trial_layout; paras = names }
 
 -- No rule is broken, and none of the statements is a PERFORM or a GO TO.
 pub record AreCalm (place : ℕ) (r : Numbered (List Para)) : Type 0 where
-  pub found : r.found ≡ []
+  pub none : r.found ≡ []
   pub calls : found_among place r.value ≡ nothing_found
   pub counts : count_homes (paras_statements r.value) ≡ []
 
 pub paragraphs_calm : (names : List (List ℕ)) (n number place statement : ℕ) → AreCalm place (typed_paras (scope names) statement (map paragraph (range_with_len number n)))
-paragraphs_calm names zero number place statement = record { found = refl; calls = refl; counts = refl }
+paragraphs_calm names zero number place statement = record { none = refl; calls = refl; counts = refl }
 paragraphs_calm names (suc n) number place statement =
     let later = paragraphs_calm names n (number + 1) (place + 1) (suc (suc (suc statement))) in
     record {
-      found = ap (λ (f : List (Rule × ℕ)). f ++ []) later.found;
+      none = ap (λ (f : List (Rule × ℕ)). f ++ []) later.none;
       calls = ap (λ (f : Found). nothing_found & f) later.calls;
       counts = later.counts;
     }
@@ -66,7 +66,7 @@ module _ (count : ℕ) (some : 1 ≤ count) (few : count ≤ 9999) where
       let first = first_found (names_from 1 count) (paragraph_name count) count from_is to_is in
       let later = paragraphs_calm (names_from 1 count) count 1 1 3 in
       ap (λ (f : List (Rule × ℕ)). f ++ ((typed_paras (scope (names_from 1 count)) 3 (map paragraph (range_with_len 1 count))).found ++ [])) first
-      ∙ ap (λ (f : List (Rule × ℕ)). f ++ []) later.found
+      ∙ ap (λ (f : List (Rule × ℕ)). f ++ []) later.none
 
   none_broken : (typed_all trial_layout (trial_tree count)).found ++ clashes [] (trial_tree count).paragraphs ≡ []
   none_broken = ap (λ (f : List (Rule × ℕ)). f ++ clashes [] (trial_tree count).paragraphs) all_found ∙ no_clashes count 1 [] (omega (arith, few)) tt

@@ -1,9 +1,8 @@
 -- The whole source: its tokens are those of its tree.
-use Rattle.std.proofs.Common.{◌≡◌, ℕ, zero, suc, ◌+◌, ◌*◌, ◌≤◌, false, List, [], ◌∷◌, ◌++◌, length, map, refl, ap, ◌∙◌, sym, subst, arith, append-nil, length-append}
+use Rattle.std.proofs.Common.{◌≡◌, ℕ, zero, suc, ◌+◌, ◌*◌, ◌≤◌, true, false, List, [], ◌++◌, length, map, refl, ap, ◌∙◌, sym, subst, arith, append-nil}
 use Rattle.std.specs.List.{All, flat_map, range_with_len, enumerate_from}
 use Rattle.std.proofs.lemmas.List.Elements.{All-from_recursion}
 use Rattle.reading.specs.Printing.{Matches}
-use Rattle.cob_tree.specs.declared.token.Token.{Token}
 use Rattle.cob_tree.specs.Symbols.{Sign, seen}
 use Rattle.cob_tree.specs.Items.{Item, each}
 use Rattle.cob_tree.specs.PrintStmt.{print_paragraph, print_tree}
@@ -29,9 +28,15 @@ whole_read : (count : ℕ) → AreRead 1 (trial_lines count) (print_tree (trial_
 whole_read count =
     let paragraphs : AreRead 9 (flat_map paragraph_lines (range_with_len 1 count)) (each print_paragraph (map paragraph (range_with_len 1 count)) ++ []) =
     subst (λ (is : List Item). AreRead 9 (flat_map paragraph_lines (range_with_len 1 count)) is) (sym (append-nil (each print_paragraph (map paragraph (range_with_len 1 count))))) (paragraphs_read count 1 9 refl) in
-    line_read 1 _ _ _ _ (identification 1) (line_read 2 _ _ _ _ (program_id 2) (line_read 3 _ _ _ _ (data_division 3) (line_read 4 _ _ _ _ (storage_section 4)
-    (line_read 5 _ _ _ _ counter_line (line_read 6 _ _ _ _ (procedure_division 6)
-    (line_read 7 _ _ _ _ (performing _ _ _ _ (four_are count)) (line_read 8 _ _ _ _ stop_line paragraphs)))))))
+    let eighth = line_read 8 _ _ _ _ stop_line paragraphs in
+    let seventh = line_read 7 _ _ _ _ (performing _ _ _ _ (four_are count)) eighth in
+    let sixth = line_read 6 _ _ _ _ (procedure_division 6) seventh in
+    let fifth = line_read 5 _ _ _ _ counter_line sixth in
+    let fourth = line_read 4 _ _ _ _ (storage_section 4) fifth in
+    let third = line_read 3 _ _ _ _ (data_division 3) fourth in
+    let second = line_read 2 _ _ _ _ (program_id 2) third in
+    let first = line_read 1 _ _ _ _ (identification 1) second in
+    first
 
 -- ---- how long it is
 

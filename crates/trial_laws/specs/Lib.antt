@@ -1,3 +1,4 @@
 pub mod Trial
 pub mod Tree
 pub mod Stands
+pub mod Program
