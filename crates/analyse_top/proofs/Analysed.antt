@@ -32,7 +32,7 @@ use Rattle.commands.proofs.Sources.{Ending, read, one_ending}
 use Rattle.commands.specs.CheckAnswers.{certificate_limit, HoldsCertificate}
 use Rattle.commands.specs.Analysis.{Analysis, CanBeClean, IsAnalysisOf, IsFound, pairs_of, report_of, text_of}
 use Rattle.commands.specs.Endings.{EndsByAnalysis, EndsWithAnalysis, IsTooLong, TellsAnalysis, TellsUnwritten}
-use Rattle.commands.specs.Trial.{trial_text}
+use Rattle.trial_laws.specs.Trial.{trial_text}
 use Rattle.commands.specs.TrialEndings.{EndsByTrial, nodes_line, trial_name}
 use Rattle.analyse_top.specs.Answers.{Answers, AnswersCommand}
 use Rattle.analyse_top.specs.Conclusion.{Concludes, AnalysesAreAccepted, EndsBy, EndsByAnswer, FindsClean, IsAccepted, IsAnalysed, IsLarge, IsTried, LongTextsAreOfLargePrograms, TrialsAreAccepted}

@@ -13,7 +13,7 @@ use Rattle.commands.specs.Profile.{IsProgramOf, IsProfileCause}
 use Rattle.commands.specs.Answer.{Answer, Usage, Absent, Refused, CertificateLong, CertificateBad, CertificateMisfit, NotInductive, Report, AnswersSource, HoldsProgram}
 use Rattle.commands.proofs.Found.{held_bytes}
 use Rattle.commands.proofs.Sources.{no_cause}
-use Rattle.commands.specs.Trial.{trial_text}
+use Rattle.trial_laws.specs.Trial.{trial_text}
 use Rattle.commands.specs.TrialEndings.{AnswersTrial}
 use Rattle.commands.specs.Runs.{Task, HoldsTask, AsksFor}
 use Rattle.commands.proofs.Asked.{answer_or_task, one_held_task}

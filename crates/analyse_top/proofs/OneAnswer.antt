@@ -7,7 +7,7 @@ use Rattle.cob_front.specs.declared.refusal.Refusal.{Refusal}
 use Rattle.commands.specs.Answer.{Answer, Usage, Absent, Refused, CertificateLong, CertificateBad, CertificateMisfit, NotInductive, Report}
 use Rattle.commands.proofs.Sources.{Ending, EndsIn, read, refused}
 use Rattle.commands.proofs.OneCheck.{TextsAreApart, one_for_check}
-use Rattle.commands.specs.Trial.{trial_text}
+use Rattle.trial_laws.specs.Trial.{trial_text}
 use Rattle.commands.specs.TrialEndings.{AnswersTrial}
 use Rattle.commands.specs.Runs.{AnswersRun}
 use Rattle.analyse_top.specs.Answers.{Answers, AnswersCommand}

@@ -6,7 +6,7 @@ use Rattle.cob_front.specs.declared.refusal.Refusal.TheVariants as end
 use Rattle.command_words.specs.Commands.{Command, IsCommand, OneReading}
 use Rattle.command_words.specs.Commands as command
 use Rattle.trial_laws.specs.Program.{IsForNodes, OnlyNodesAreMany, OnlyNodesMayBeMany}
-use Rattle.commands.specs.Trial.{trial_text}
+use Rattle.trial_laws.specs.Trial.{trial_text}
 use Rattle.commands.specs.Profile.{IsProfileCause}
 use Rattle.commands.specs.Answer.{Answer, Usage, Absent, Refused, CertificateLong, CertificateBad, CertificateMisfit, NotInductive, Report}
 use Rattle.commands.specs.Call.{Call}

@@ -37,7 +37,7 @@ use Rattle.commands.specs.Call.{Call}
 use Rattle.commands.specs.CheckAnswers.{HoldsCertificate, certificate_limit}
 use Rattle.commands.specs.Analysis.{Analysis, CanBeClean, IsAnalysisOf, pairs_of, report_of, text_of}
 use Rattle.commands.specs.Endings.{IsTooLong, EndsByAnalysis}
-use Rattle.commands.specs.Trial.{trial_text}
+use Rattle.trial_laws.specs.Trial.{trial_text}
 use Rattle.commands.specs.TrialEndings.{EndsByTrial, IsTrialOf, nodes_line, trial_name}
 use Rattle.commands.specs.Runs.{Task, HoldsTask, AsksFor, RunsTo}
 use Rattle.analyse_top.specs.Answers.{Answers}

@@ -3,7 +3,7 @@ use Rattle.std.proofs.Common.{◌≡◌, ℕ, suc, ◌-◌, ◌+◌, ◌<◌, �
 use Rattle.std.specs.List.{flat_map, range_with_len}
 use Rattle.std.proofs.lemmas.List.{append-nil}
 use Rattle.std.proofs.lemmas.List.Concat.{flat_map-append}
-use Rattle.commands.specs.Trial.{first_lines, front_lines, line_text, paragraph_lines, text_of, trial_text}
+use Rattle.trial_laws.specs.Trial.{first_lines, front_lines, line_text, paragraph_lines, text_of, trial_text}
 
 abbrev grown : (List ℕ → List ℕ) → List ℕ → List (List ℕ) → List ℕ
 grown f t [] = t

@@ -21,7 +21,7 @@ use Rattle.commands.specs.declared.analysing.findings.Findings.{Findings}
 use Rattle.commands.specs.Analysis.{Analysis, analysis}
 use Rattle.commands.specs.Endings.{EndsWithAnalysis}
 use Rattle.commands.specs.AnalysisSteps.{IsFinding}
-use Rattle.commands.specs.Trial.{trial_text}
+use Rattle.trial_laws.specs.Trial.{trial_text}
 use Rattle.commands.specs.TrialEndings.{AnswersTrial, EndsByTrial, trial_name}
 use Rattle.commands.specs.TrialSteps.{IsNumberedFinding, IsTrialFinding}
 

@@ -1,7 +1,6 @@
 pub mod Analysis
 pub mod Endings
 pub mod AnalysisSteps
-pub use Rattle.trial_laws.specs.Trial
 pub mod TrialEndings
 pub mod TrialSteps
 pub use Rattle.analyse_core.specs.Choice

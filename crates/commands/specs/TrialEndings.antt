@@ -9,7 +9,7 @@ use Rattle.commands.specs.Answer.{Answer, Refused}
 use Rattle.commands.specs.Call.{Call}
 use Rattle.commands.specs.Analysis.{Analysis, IsFound}
 use Rattle.commands.specs.Endings.{EndsWithAnalysis}
-use Rattle.commands.specs.Trial.{trial_text}
+use Rattle.trial_laws.specs.Trial.{trial_text}
 
 -- the name of the file that a trial writes
 abbrev pub trial_name : List ℕ

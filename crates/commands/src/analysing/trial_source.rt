@@ -1,6 +1,6 @@
 //! The source that the program tries itself on.
 ghost use Rattle.std.specs.Prelude.{◌≡◌, ◌++◌, OnOk, IfOk};
-ghost use Rattle.commands.specs.Trial.{first_lines, four_digits, front_lines, line_text, paragraph_lines, text_of, trial_text};
+ghost use Rattle.trial_laws.specs.Trial.{first_lines, four_digits, front_lines, line_text, paragraph_lines, text_of, trial_text};
 
 use std::alloc::{AllocError, Global};
 

@@ -1,5 +1,5 @@
 use Rattle.std.proofs.Common.{◌≡◌, ◌++◌}
-use Rattle.commands.specs.Trial.{text_of, trial_text}
+use Rattle.trial_laws.specs.Trial.{text_of, trial_text}
 use Rattle.commands.proofs.AnalysisLines.{paragraphs_behind}
 use Rattle.commands.proofs.analysing.trial_source.trial_source.Given as goal
 
