@@ -1,7 +1,9 @@
 """What edges of a program's control graph make of what is known of its cells, and which faults that shows not to be
-met, answered by the program layer_driver for random rows. What must come is worked out by `steps`, from what each part
-of an edge does, in exact numbers; that of edges_by_rule.jsonl by hand."""
+met, answered by the program layer_driver for random rows; likewise a part of a subscript, which no edge has, behind an
+edge's own. What must come is worked out by `steps`, from what each part does, in exact numbers; that of
+edges_by_rule.jsonl by hand."""
 
+import dataclasses
 import json
 import pathlib
 import random
@@ -12,11 +14,11 @@ from tests.built import CASES, program
 from tests.graphs import shown
 from tests.intervals import Range, hull, met
 from tests.reference import cases_of
-from tests.steps import clears, post
+from tests.steps import behind, clears, post, spares
 
 PROGRAMS = ("layer_driver",)
 
-KINDS = ("SIZE", "TRUNCATION", "ZERO", "CLASS")
+KINDS = ("SIZE", "TRUNCATION", "ZERO", "CLASS", "SUBSCRIPT")
 
 # ---- rows
 
@@ -85,6 +87,29 @@ def node_cases(chance, given):
                 yield f"clears {node} {kind} | {words_of(row)}", str(told).lower()
 
 
+COUNTS = (1, 2, 3, 5, 9, 10, 40, 99, 100, 500, 1000)
+
+
+def subscript_part(chance, homes):
+    """A part that no edge has by itself."""
+    last, home = chance.choice(("true", "false")), chance.choice(homes)
+    return chance.choice((["subscript", last, home], ["index", last, home, str(chance.choice(COUNTS))]))
+
+
+def part_cases(chance, given):
+    homes = [home for home, item in given.items.items() if item.is_number()]
+    for number, edge in enumerate(given.edges, 1) if homes else ():
+        for _ in range(ROWS_OF_EDGE):
+            part, row = subscript_part(chance, homes), random_row(chance, given)
+            cells = met_with_own(given, row)
+            longer = dataclasses.replace(edge, parts=[*edge.parts, part])
+            case = f"{' '.join(part)} | {words_of(row)}"
+            yield f"part {number} {case}", words_of(cells and behind(given, longer, cells))
+            kind = chance.choice(KINDS)
+            told = cells is None or spares(given, longer, kind, cells)
+            yield f"spared {number} {kind} {case}", str(told).lower()
+
+
 def answers(source, lines):
     """The driver's answers."""
     with tempfile.TemporaryDirectory() as folder:
@@ -99,7 +124,7 @@ def told(name, source):
     """What is wrong with the answers for a source."""
     given = shown(answers(source, ["show"]))
     chance = random.Random(name)
-    cases = [*edge_cases(chance, given), *node_cases(chance, given)]
+    cases = [*edge_cases(chance, given), *node_cases(chance, given), *part_cases(chance, given)]
     came = answers(source, [line for line, _ in cases])
     pairs = [(line, wanted, answer) for (line, wanted), answer in zip(cases, came) if answer != wanted]
     wrong = [f"{answer!r} in place of {wanted!r} to {line}" for line, wanted, answer in pairs]

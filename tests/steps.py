@@ -203,6 +203,19 @@ class Moment:
         if not (self.edge.is_handled() and self.may_divide_by_zero):
             self.know(home, self.units_of(home))
 
+    def may_not_come(self, last):
+        """The turn of what a subscript belongs to."""
+        return self.may_divide_by_zero or last == "true" and self.may_have_failed
+
+    def subscript(self, k, last, home):
+        if not self.may_not_come(last):
+            self.know(home, self.units_of(home))
+
+    def index(self, k, last, home, count):
+        if not self.may_not_come(last):
+            a = self.units_of(home)
+            self.know(home, self.reaches(met(a, Range(1, int(count), a.scale))))
+
     def read_count(self, k, number):
         self.know(f"count {number}", self.units_of(f"count {number}"))
 
@@ -294,11 +307,17 @@ class Moment:
 
     # ---- what is cleared
 
+    def lies_in_table(self, home, count):
+        a = self.units_of(home)
+        return 1 <= a.low and a.high <= count
+
     def clears(self, k, kind):
         word, *words = self.edge.parts[k]
         if kind == "CLASS":
-            homes = {"read": words, "read_count": [f"count {number}" for number in words]}
+            homes = {"read": words, "subscript": words[1:], "read_count": [f"count {number}" for number in words]}
             return word != "unread" and all(self.is_known(home) for home in homes.get(word, ()))
+        if kind == "SUBSCRIPT":
+            return word != "index" or self.lies_in_table(words[1], int(words[2]))
         if self.edge.has_phrase:
             return True
         if kind == "ZERO" and word == "divide":
@@ -351,6 +370,20 @@ def post(given, edge, row):
         if k is None and not (edge.is_handled() and not moment.may_have_failed):
             return moment.row
     return None
+
+
+def behind(given, edge, row):
+    """What all parts of the edge make of the row, None where no run passes them."""
+    for k, moment in moments(given, edge, row):
+        if k is None:
+            return moment.row
+    return None
+
+
+def spares(given, edge, kind, row):
+    """Whether no fault of the kind is met at the edge's last part."""
+    last = len(edge.parts) - 1
+    return all(moment.clears(k, kind) for k, moment in moments(given, edge, row) if k == last)
 
 
 def clears(given, node, kind, row):

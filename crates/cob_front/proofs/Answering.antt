@@ -1,17 +1,30 @@
 -- What a phase answers is the answer to the source, and each cause is answered.
-use Rattle.std.proofs.Common.{◌≡◌, ◌⊎◌, ℕ, List, Result, Ok, Err, inl, inr}
+use Rattle.std.proofs.Common.{◌≡◌, ◌≤◌, ℕ, List, length, Result, Ok, Err, sym, ap, ◌∙◌, subst, inl, inr}
+use Rattle.cob_tree.specs.declared.token.Token.{Token}
 use Rattle.cob_tree.specs.Stmt.{Tree}
+use Rattle.cob_lex.specs.Text.{source_limit}
+use Rattle.cob_lex.specs.Scan.{Tokens, Scans}
+use Rattle.cob_parse_expr.specs.declared.end.ParseEnd.{ParseEnd}
+use Rattle.cob_parse_expr.specs.declared.end.ParseEnd.TheVariants as parse
+use Rattle.cob_parse_proc.specs.Parsing.{IsWrong}
 use Rattle.cob_program.specs.declared.program.Program as declared_program
 use Rattle.cob_program.specs.Act.{Program}
 use Rattle.cob_program.specs.ActView.{plain_program}
 use Rattle.cob_front.specs.declared.refusal.Refusal.{Refusal}
 use Rattle.cob_front.specs.declared.refusal.Refusal.TheVariants as end
-use Rattle.cob_front.specs.Source.{StandsFor, IsTreeCause, IsSource, IsCause, HasCause, IsProgram, IsProgramOf, Answers, IsRefused, IsAccepted}
-use Rattle.cob_front.proofs.TreeCauses.{is_tree_end}
+use Rattle.cob_front.specs.Source.{StandsFor, IsTreeCause, IsSource, IsCause, IsProgram, IsProgramOf, Answers, IsRefused, IsAccepted}
 use Rattle.cob_front.proofs.OneAnswer.{one_answer}
 
 abbrev Given : Type 0
 Given = Result declared_program.Program Refusal
+
+-- ---- wrong tokens are a cause
+
+pub cause_of_tokens : {T : Type 0} (bytes : List ℕ) (ts us : List Token) (told : Result T ParseEnd) (ending : ParseEnd) (line : ℕ) →
+    length bytes ≤ source_limit → Scans bytes (Tokens us) → ts ≡ us → ((l : ℕ) → told ≡ Err (parse.Syntax l) → IsWrong ts l) →
+    told ≡ Err ending → ending ≡ parse.Syntax line → IsCause bytes (end.Syntax line)
+cause_of_tokens bytes ts us told ending line fits scanned same wrong is it =
+    (ts, record { fits = fits; scanned = subst (λ us. Scans bytes (Tokens us)) (sym same) scanned }, wrong line (is ∙ ap Err it))
 
 -- ---- a tree's answer is its source's
 

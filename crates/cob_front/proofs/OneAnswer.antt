@@ -7,12 +7,11 @@ use Rattle.cob_lex.specs.Scan.{Scan, BadLineAt, BadTokenAt, Tokens, Scans}
 use Rattle.cob_lex.proofs.Scans.{one_scan}
 use Rattle.cob_parse_expr.specs.Places.{line_at}
 use Rattle.cob_parse_proc.specs.Parsing.{IsTree, IsWrong, IsDeep}
-use Rattle.cob_parse_proc.specs.Laws as parsing
 use Rattle.cob_parse_proc.proofs.OneAnswer as parsed
 use Rattle.cob_program.specs.Act.{Program}
 use Rattle.cob_front.specs.declared.refusal.Refusal.{Refusal}
 use Rattle.cob_front.specs.declared.refusal.Refusal.TheVariants as end
-use Rattle.cob_front.specs.Source.{StandsFor, IsTypedTree, IsTreeCause, IsSource, IsCause, HasCause, program_of}
+use Rattle.cob_front.specs.Source.{StandsFor, IsTypedTree, IsTreeCause, IsSource, IsCause, program_of}
 use Rattle.cob_front.specs.Laws.{OneAnswer}
 use Rattle.cob_front.proofs.TreeCauses.{typed_or_cause, cause_once}
 use Rattle.cob_lex.specs.Text.{source_limit}

@@ -1,5 +1,5 @@
 -- A tree that tokens stand for is printed as many items as there are tokens.
-use Rattle.std.proofs.Common.{◌≡◌, ◌≤◌, ℕ, suc, List, [], ◌∷◌, length, map, refl, ap, arith}
+use Rattle.std.proofs.Common.{◌≡◌, ◌≤◌, suc, List, [], ◌∷◌, length, map, refl, ap, arith}
 use Rattle.std.proofs.lemmas.List.{length-map}
 use Rattle.reading.specs.Printing.{Matches}
 use Rattle.cob_tree.specs.declared.token.Token.{Token}

@@ -1,5 +1,5 @@
 -- Bytes have an answer.
-use Rattle.std.proofs.Common.{◌≡◌, ◌≤◌, ◌<◌, ◌⊎◌, ⊎_elim, ℕ, List, length, map, Result, Ok, Err, refl, inl, inr}
+use Rattle.std.proofs.Common.{◌≡◌, ◌≤◌, ◌⊎◌, ⊎_elim, ℕ, List, length, map, Result, Ok, Err, refl, inl, inr}
 use Rattle.std.proofs.lemmas.Bool.{cases_lt}
 use Rattle.reading.specs.Readers.{Fault, Stop, Deep, whole}
 use Rattle.cob_tree.specs.declared.token.Token.{Token}

@@ -1,5 +1,5 @@
 -- A tree has a program, or one cause for which it has none.
-use Rattle.std.proofs.Common.{◌≡◌, ◌≤◌, ◌<◌, ◌⊎◌, ⊎_elim, ℕ, List, Option, Some, None, refl, sym, ap, ◌∙◌, subst, inl, inr, arith}
+use Rattle.std.proofs.Common.{◌≡◌, ◌⊎◌, ⊎_elim, ℕ, List, Option, Some, None, refl, sym, ap, ◌∙◌, subst, inl, inr, arith}
 use Rattle.std.proofs.lemmas.Bool.{cases_lt}
 use Rattle.std.proofs.lemmas.Option.{same_Some}
 use Rattle.rule_order.specs.Order.{AreKept, IsFirstBroken, first_broken}
@@ -10,9 +10,7 @@ use Rattle.cob_tree.specs.StmtView.{plain_tree}
 use Rattle.cob_data.specs.declared.end.Rule.{Rule}
 use Rattle.cob_data.specs.declared.end.Which.{Which}
 use Rattle.cob_data.specs.declared.end.Which.TheVariants as which
-use Rattle.cob_data.specs.declared.end.DataEnd.TheVariants as data_end
 use Rattle.cob_data.specs.Rules.{data_rules, broken_lines, facts_of, count_of, limit_of, IsWithin, IsExceeded, IsFirstExceeded, IsWithinLimits}
-use Rattle.cob_data.specs.Layouts as layouts
 use Rattle.cob_data.specs.Layouts.{HasLayout, layout}
 use Rattle.cob_data.specs.declared.layout.Layout.{Layout}
 use Rattle.cob_program.specs.declared.program.Program as declared_program

@@ -1,5 +1,5 @@
 -- Steps of loops over what cells are of.
-use Rattle.std.proofs.Common.{◌≡◌, ℕ, ◌+◌, ◌<◌, List, [], ◌∷◌, ◌++◌, map, length, take, drop, get_or, refl, sym, ap, subst, take_at, ◌∙◌, add-one}
+use Rattle.std.proofs.Common.{◌≡◌, ℕ, ◌+◌, ◌<◌, List, [], ◌∷◌, ◌++◌, map, length, take, drop, get_or, refl, sym, ap, subst, take_at, ◌∙◌}
 use Rattle.std.proofs.lemmas.List.{length-map, map-append, take_more}
 use Rattle.cob_data.specs.declared.layout.Layout.{Layout}
 use Rattle.cob_graph.specs.declared.homes.Home.{Home}

@@ -2,3 +2,4 @@ pub mod Claims
 pub mod Numbers
 pub mod RowLemmas
 pub mod LayerRows
+pub mod ReachedRows

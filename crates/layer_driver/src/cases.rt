@@ -1,12 +1,12 @@
 //! The cases of a source, over the layers of its graph.
-ghost use Rattle.std.specs.Prelude.{◌≡◌, ◌≤◌, length, map};
+ghost use Rattle.std.specs.Prelude.{◌≡◌, ◌≤◌, List, length, map, ℤ};
 ghost use Rattle.cob_program.specs.ActView.{plain_program};
 ghost use Rattle.cob_graph.specs.declared.graph.Graph.{Graph as AnyGraph};
 ghost use Rattle.cob_graph.specs.Graphs.{IsGraph};
 ghost use Rattle.cob_graph_build.specs.Limits.{IsWithinLimits};
 ghost use Rattle.graph_runs.specs.Sources.{IsSourceGraph};
 ghost use Rattle.dom_laws.specs.Lattice.{IsElement};
-ghost use Rattle.interval_domain.specs.Rows.{IsRow, lists_of as cell_lists};
+ghost use Rattle.interval_domain.specs.Rows.{IsRow, cells_lattice, lists_of as cell_lists};
 ghost use Rattle.cell_steps.specs.OwnRanges.{owns};
 ghost use Rattle.cell_ranges.specs.Ranges.{ends_of};
 ghost use Rattle.diff_bounds.specs.PackRows.{lists_of};
@@ -22,6 +22,7 @@ use crate::matrices::row_with;
 use crate::packs::{no_thresholds, packs_of};
 use crate::rows::row_in;
 use crate::shown::RowKind;
+use crate::subscripts::{part_case, spared_case};
 use case_words::words_of;
 use cell_layer::CellLayer;
 use cell_ranges::{all_ends, own_ranges};
@@ -130,7 +131,25 @@ fn answer_in_packs(
 
 // ---- cells
 
-// Answers a case by the layer over cells.
+// Answers a case by the layer over cells, or by a part of a subscript.
+fn answer_with_cells(
+    alloc: Global,
+    layer: &CellLayer,
+    case: &[&str],
+    row: &mut [i128],
+) -> Result<Option<String>, AllocError>
+    requires source { ∥ IsSourceGraph (plain_program layer.now.program.now) layer.now.graph.now ∥₁ }
+    requires row { (thresholds : List (List ℤ)) →
+        IsElement (cells_lattice (owns (plain_program layer.now.program.now)) thresholds) row.old }
+{
+    match case {
+        ["part", edge, part @ ..] => part_case(alloc, layer, edge, part, row),
+        ["spared", edge, kind, part @ ..] => spared_case(alloc, layer, edge, kind, part, row),
+        _ => answer_to(alloc, layer, RowKind::Cells, case, row),
+    }
+}
+
+// Answers a case by the words of cells.
 fn answer_by_cells(
     alloc: Global,
     layer: &CellLayer,
@@ -138,10 +157,11 @@ fn answer_by_cells(
     case: &[&str],
     row: &[&str],
 ) -> Result<Option<String>, AllocError>
-    requires { ranges.now ≡ owns (plain_program layer.now.program.now) }
+    requires source { ∥ IsSourceGraph (plain_program layer.now.program.now) layer.now.graph.now ∥₁ }
+    requires ranges { ranges.now ≡ owns (plain_program layer.now.program.now) }
 {
     match row_in(alloc, ranges, row)? {
-        Some(row) => answer_to(alloc, layer, RowKind::Cells, case, row.as_slice()),
+        Some(mut row) => answer_with_cells(alloc, layer, case, row.as_mut_slice()),
         None => Ok(None),
     }
 }

@@ -12,6 +12,9 @@
 //! - `posts TURNS EDGE`: the same, made so often, for bench/posts.
 //! - `clears NODE KIND`: whether the row, or row and matrices, show that the node meets no fault of the kind.
 //! - `entry`: the row or the matrices where a run begins, whatever is given.
+//! - `part EDGE PART`, by what is known of the cells: what a part makes of the row behind those of the edge, or
+//!   `unreached`. It is a part of a subscript, which no edge has: `subscript LAST ITEM`, or `index LAST ITEM COUNT`.
+//! - `spared EDGE KIND PART`, likewise: whether the row shows that the part meets no fault of the kind.
 //! - `close TURNS`, of matrices: their closures, whatever the row is, made so often; `none` where a cycle is negative.
 //!
 //! A row has two words for each cell: the ends of its interval, or `- -` where nothing is known of it. Each interval is
@@ -32,6 +35,7 @@ mod packs;
 mod part_text;
 mod rows;
 mod shown;
+mod subscripts;
 mod words;
 
 use cases::answer_for_program;

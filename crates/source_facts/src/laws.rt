@@ -10,9 +10,9 @@ pub fn statements_are_counted()
     ensures counted { SourcesCountStatements }
 {}
 
-/// A law: a source's program with its graph has all that an analysis needs. It can be run; items that begin with a value
-/// have no byte in common; an item whose sign is a byte of its own has a sign; and each statement's number lies within
-/// their count.
+/// A law: a source's program with its graph has all that an analysis needs. It can be run; no item is a table's; items
+/// that begin with a value have no byte in common; an item whose sign is a byte of its own has a sign; and each
+/// statement's number lies within their count.
 pub fn sources_have_source_graphs()
     ensures { SourcesHaveSourceGraphs }
 {}

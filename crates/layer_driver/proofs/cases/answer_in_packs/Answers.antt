@@ -1,6 +1,5 @@
 use Rattle.std.proofs.Common.{List, [], ℤ, sym, subst}
 use Rattle.std.specs.Prelude.{IfSome}
-use Rattle.cob_program.specs.ActView.{plain_program}
 use Rattle.dom_laws.specs.Lattice.{IsElement}
 use Rattle.interval_domain.specs.Rows.{cells_lattice, IsRow}
 use Rattle.layer_driver.proofs.cases.answer_in_packs.Goals as goal

@@ -1,5 +1,4 @@
 use Rattle.std.proofs.Common.{List, length, if◌then◌else◌, Some, None, sym, ap, subst, ◌∙◌}
-use Rattle.std.proofs.lemmas.List.{length-map}
 use Rattle.diff_bounds.specs.Matrix.{IsMatrix}
 use Rattle.cob_program.specs.ActView.{plain_program}
 use Rattle.interval_domain.specs.Rows.{cells_of}
