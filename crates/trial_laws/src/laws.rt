@@ -14,17 +14,17 @@ pub fn trees_are_typed()
     ensures { TreesAreTyped }
 {}
 
-/// A law: its program keeps the rules on PERFORM and GO TO, and the limit on cells.
+/// A law: its program keeps the rules on PERFORM and GO TO, and has two cells.
 pub fn programs_keep_all_but_nodes()
     ensures { ProgramsKeepAllButNodes }
 {}
 
-/// A law: so the source is one of this program,
+/// A law: so the source is one of this program.
 pub fn sources_are_programs()
     ensures { SourcesArePrograms }
 {}
 
-/// and it isn't of the profile only where the nodes are more than the limit.
+/// A law: only more nodes than the limit are why the source isn't of the profile.
 pub fn only_nodes_may_be_many()
     ensures { OnlyNodesMayBeMany }
 {
